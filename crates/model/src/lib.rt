@@ -1,0 +1,243 @@
+// The types that code and definitions share. Their meaning stands in specs/, one file for each section of the scope
+// document; no function stands here.
+//
+// Derives from instance_tracker.rs, liveliness_tracker.rs and instance_handle.rs of ZeroDDS.
+// Copyright 2026 ZeroDDS Contributors. SPDX-License-Identifier: Apache-2.0. Changed: written anew in Rattle, with the
+// state as plain values of a fixed size.
+
+// Sixteen bytes, most significant first: a key (the Rust's KeyHash) or a writer's GUID.
+pub struct Guid {
+    pub hi: u64,
+    pub lo: u64,
+}
+
+// A handle is neither a count nor a code; 0 is nil.
+pub struct InstanceHandle(pub u64);
+
+// Time as a caller gives it and gets it.
+pub struct Time {
+    pub sec: i32,
+    pub nanosec: u32,
+}
+
+// An optional time as the records hold it: the seconds by their 32 bits in two's complement, zeros where absent.
+pub struct MaybeTime {
+    pub present: bool,
+    pub sec: u32,
+    pub nanosec: u32,
+}
+
+pub enum InstanceStateKind {
+    Alive,
+    NotAliveDisposed,
+    NotAliveNoWriters,
+}
+
+// The lifecycle of an instance and what is counted of it.
+pub struct Life {
+    pub kind: InstanceStateKind,
+    pub view_new: bool,
+    pub disposed_generations: u32,
+    pub no_writers_generations: u32,
+    pub writer_count: u32,
+    pub samples: u32,
+}
+
+pub struct Times {
+    pub last_sample: MaybeTime,
+    pub last_delivered: MaybeTime,
+    pub last_filter: MaybeTime,
+    pub disposed_at: MaybeTime,
+    pub no_writers_at: MaybeTime,
+    pub owner_at: MaybeTime,
+}
+
+// The owner of an instance under exclusive ownership; the strength by its 32 bits in two's complement.
+pub struct MaybeOwner {
+    pub present: bool,
+    pub guid: Guid,
+    pub strength: u32,
+}
+
+// The bytes from which a key was made, zeros behind them.
+pub struct Holder {
+    pub present: bool,
+    pub len: u16,
+    pub bytes: [u8; 144],
+}
+
+// The writers of an instance, strictly rising, nil GUIDs behind them.
+pub struct WriterSet {
+    pub len: usize,
+    pub items: [Guid; 16],
+}
+
+// What a call may change of an instance: all but its key and its handle.
+pub struct InstanceState {
+    pub life: Life,
+    pub times: Times,
+    pub owner: MaybeOwner,
+    pub holder: Holder,
+    pub writers: WriterSet,
+}
+
+pub struct Instance {
+    pub key: Guid,
+    pub handle: InstanceHandle,
+    pub state: InstanceState,
+}
+
+pub enum LivelinessKind {
+    Automatic,
+    ManualByParticipant,
+    ManualByTopic,
+}
+
+// Where a writer stands. A departed one was lost with its participant and has not matched since.
+pub enum WriterState {
+    Unasserted,
+    Alive,
+    NotAlive,
+    Departed,
+}
+
+// A lease in nanoseconds; an absent one is infinite.
+pub struct MaybeLease {
+    pub present: bool,
+    pub nanos: u64,
+}
+
+// The liveliness of one writer.
+pub struct Liveliness {
+    pub kind: LivelinessKind,
+    pub state: WriterState,
+    pub lease: MaybeLease,
+    pub last_assertion: u64,
+}
+
+pub struct Writer {
+    pub guid: Guid,
+    pub liveliness: Liveliness,
+}
+
+// The last writer whose class changed, where there was one.
+pub enum LastWriter {
+    Nobody,
+    Is(Guid),
+}
+
+// The part of the state that goes by value.
+pub struct Head {
+    pub instance_count: u32,
+    pub next_handle: InstanceHandle,
+    pub writer_count: u32,
+    pub lost_count: u32,
+    pub alive: u32,
+    pub not_alive: u32,
+    pub alive_change: i32,
+    pub not_alive_change: i32,
+    pub last_writer: LastWriter,
+    pub changes: u64,
+}
+
+// A sheet's fields as they stand, used or not. Numbers with a sign are given by their bits.
+pub struct Sheet {
+    pub key: Guid,
+    pub guid: Guid,
+    pub handle: InstanceHandle,
+    pub time_1: MaybeTime,
+    pub time_2: MaybeTime,
+    pub a: u64,
+    pub b: u64,
+    pub first: u32,
+    pub second: u32,
+    pub deadline_present: bool,
+    pub lease_present: bool,
+    pub manual: bool,
+    pub by_source: bool,
+    pub kind: u8,
+    pub code: u8,
+    pub holder: Holder,
+}
+
+// What the SampleInfo of an admitted sample takes from its instance.
+pub struct SampleInfo {
+    pub view_new: bool,
+    pub kind: InstanceStateKind,
+    pub disposed_generations: u32,
+    pub no_writers_generations: u32,
+}
+
+pub struct LivelinessChangedStatus {
+    pub alive_count: u32,
+    pub not_alive_count: u32,
+    pub alive_count_change: i32,
+    pub not_alive_count_change: i32,
+    pub last_publication_handle: InstanceHandle,
+}
+
+// When the next lease runs out, where one does.
+pub struct MaybeDue {
+    pub present: bool,
+    pub at: u64,
+}
+
+// What a call answers: the number of its refusal, or 0 and what the call has to say. All else is 0.
+pub struct Answer {
+    pub number: u8,
+    pub outcome: u8,
+    pub yes: bool,
+    pub present: bool,
+    pub handle: InstanceHandle,
+    pub samples: u32,
+    pub info: SampleInfo,
+    pub count: u32,
+    pub listed: u32,
+    pub next_due: MaybeDue,
+    pub status: LivelinessChangedStatus,
+}
+
+// What a call leaves by value.
+pub struct Called {
+    pub answer: Answer,
+    pub head: Head,
+}
+
+// The allocator's step: the handle given and the counter after it.
+pub struct Allocated {
+    pub handle: InstanceHandle,
+    pub counter: u64,
+}
+
+// The answers of the reads; a refusal carries its number.
+pub enum Decision {
+    Refused(u8),
+    Is(bool),
+}
+
+pub enum FoundHandle {
+    Refused(u8),
+    Missing,
+    Is(InstanceHandle),
+}
+
+pub enum FoundTime {
+    Refused(u8),
+    Missing,
+    Is(Time),
+}
+
+pub enum Listing {
+    Refused(u8),
+    Listed(u32),
+}
+
+pub enum StatusRead {
+    Refused(u8),
+    Is(LivelinessChangedStatus),
+}
+
+pub enum ChangesRead {
+    Refused(u8),
+    Is(u64),
+}

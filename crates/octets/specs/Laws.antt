@@ -1,0 +1,68 @@
+-- Laws of `be` and `put`, each over the width.
+--     be-step, be-room      one byte more
+--     length-put            a write keeps the length
+--     getD-put-out          a byte outside of what was written is as it was
+--     be-same               a number is read from its own bytes alone
+--     be-put-out            a number apart from what was written is as it was
+--     be-put                what was written is read back
+-- Assumes nothing.
+use mathlib.Core.Path.{_≡_, refl, sym, ap, _∙_}
+use mathlib.Core.Logic.{_⊎_, inl, inr, ⊎-elim}
+use mathlib.Core.List.{List}
+use Prim.Native.Nat.{ℕ, zero, suc, _+_, _*_, _/_, _%_, _^_, _≤_, _<_}
+use native.Mathlib.Nat.{pow-suc, pow-zero, pow-le-pow-right, div-add-mod', div-lt-iff-lt-mul, add-suc}
+use native.Mathlib.Numerals.{add-one}
+use native.Mathlib.Omega.{arith}
+use lib.ListN.{length, getD, set, length-set}
+use lib.Seq.{getD-set-same, getD-set-other}
+use Rattle.octets.specs.Octets.{be, put}
+
+pub be-step : (k : ℕ) (s : List ℕ) (at : ℕ) → be (k + 1) s at ≡ be k s at * 256 + getD s (at + k) 0
+unfolding be
+be-step k s at = rw add-one
+
+pub be-room : (k r b : ℕ) → r < 256 ^ k → b < 256 → r * 256 + b < 256 ^ (k + 1)
+be-room k r b h l = rw (add-one, pow-suc) (omega arith)
+
+pub room-8 : {k : ℕ} → k ≤ 8 → 256 ^ k ≤ 2 ^ 64
+room-8 h = pow-le-pow-right {n = 256} (omega arith) h
+
+pub put-step : (k : ℕ) (s : List ℕ) (at v : ℕ) → put (k + 1) s at v ≡ put k (set s (at + k) (v % 256)) at (v / 256)
+unfolding put
+put-step k s at v = rw add-one
+
+pub length-put : (k : ℕ) (s : List ℕ) (at v : ℕ) → length (put k s at v) ≡ length s
+unfolding put
+length-put zero s at v = refl
+length-put (suc k) s at v = length-put k (set s (at + k) (v % 256)) at (v / 256) ∙ length-set s (at + k) (v % 256)
+
+pub getD-put-out : (k : ℕ) (s : List ℕ) (at v i : ℕ) → (i < at) ⊎ (at + k ≤ i) → getD (put k s at v) i 0 ≡ getD s i 0
+unfolding put
+getD-put-out zero s at v i h = refl
+getD-put-out (suc k) s at v i h =
+    getD-put-out k (set s (at + k) (v % 256)) at (v / 256) i (⊎-elim (λ l. inl l) (λ r. inr (omega arith)) h)
+    ∙ getD-set-other s (at + k) i (v % 256) 0 (λ e. ⊎-elim (λ l. omega arith) (λ r. omega arith) h)
+
+pub be-same : (k : ℕ) (s t : List ℕ) (at : ℕ) → ((i : ℕ) → at ≤ i → i < at + k → getD s i 0 ≡ getD t i 0) → be k s at ≡ be k t at
+unfolding be
+be-same zero s t at h = refl
+be-same (suc k) s t at h =
+    let p : be k s at ≡ be k t at = be-same k s t at (λ i a b. h i a (omega arith)) in
+    let q : getD s (at + k) 0 ≡ getD t (at + k) 0 = h (at + k) (omega arith) (omega arith) in
+    cc
+
+pub be-put-out : (j : ℕ) (s : List ℕ) (i k at v : ℕ) → (i + j ≤ at) ⊎ (at + k ≤ i) → be j (put k s at v) i ≡ be j s i
+be-put-out j s i k at v h =
+    be-same j (put k s at v) s i
+    (λ n a b. getD-put-out k s at v n (⊎-elim (λ l. inl (omega arith)) (λ r. inr (omega arith)) h))
+
+pub be-put : (k : ℕ) (s : List ℕ) (at v : ℕ) → at + k ≤ length s → v < 256 ^ k → be k (put k s at v) at ≡ v
+unfolding be put
+be-put zero s at v h l = let e : v < 1 = rw pow-zero at l in omega arith
+be-put (suc k) s at v h l =
+    let t : List ℕ = set s (at + k) (v % 256) in
+    let small : v / 256 < 256 ^ k = div-lt-iff-lt-mul {k = 256} {x = v} {y = 256 ^ k} (omega arith) .1 (rw pow-suc at l) in
+    let high : be k (put k t at (v / 256)) at ≡ v / 256 = be-put k t at (v / 256) (omega (arith, length-set s (at + k) (v % 256))) small in
+    let low : getD (put k t at (v / 256)) (at + k) 0 ≡ v % 256 =
+    getD-put-out k t at (v / 256) (at + k) (inr (omega arith)) ∙ getD-set-same s (at + k) (v % 256) 0 (omega arith) in
+    omega (arith, high, low)
