@@ -17,7 +17,7 @@ use Rattle.model.specs.declared.Holder.{Holder}
 use Rattle.model.specs.declared.WriterSet.{WriterSet}
 use Rattle.model.specs.declared.InstanceState.{InstanceState}
 use Rattle.model.specs.declared.Instance.{Instance}
-use Rattle.model.specs.Guids.{guidBytes}
+use Rattle.model.specs.Guids.{guidAt, guidsIn, guidsBytes}
 use Rattle.model.specs.Handles.{handle}
 use Rattle.model.specs.Sets.{setPlaces}
 
@@ -51,14 +51,6 @@ kindNumbered zero = Alive
 kindNumbered (suc zero) = NotAliveDisposed
 kindNumbered (suc (suc n)) = NotAliveNoWriters
 
-abbrev pub guidAt : List ℕ → ℕ → Guid
-guidAt r at = record { hi = be 8 r at; lo = be 8 r (at + 8) }
-
--- n GUIDs one after the other
-unfoldable pub guidsAt : ℕ → List ℕ → ℕ → List Guid
-guidsAt zero r at = []
-guidsAt (suc n) r at = guidsAt n r at ++ guidAt r (at + n * 16) ∷ []
-
 abbrev pub timeAt : List ℕ → ℕ → Bool → MaybeTime
 timeAt r at present = record { present = present; sec = be 4 r at; nanosec = be 4 r (at + 4) }
 
@@ -91,7 +83,7 @@ abbrev pub holderOf : List ℕ → ℕ → Holder
 holderOf r flags = record { present = flag 32 flags; len = be 2 r 26; bytes = take holderPlaces (drop 112 r) }
 
 abbrev pub writerSetOf : List ℕ → ℕ → WriterSet
-writerSetOf r flags = record { len = flags % 32; items = guidsAt setPlaces r 256 }
+writerSetOf r flags = record { len = flags % 32; items = guidsIn setPlaces (drop 256 r) }
 
 abbrev pub stateBy : List ℕ → ℕ → InstanceState
 stateBy r flags =
@@ -138,11 +130,6 @@ instanceValues x =
     ∷ x .state .times .«no_writers_at» .sec ∷ x .state .times .«no_writers_at» .nanosec
     ∷ x .state .times .«owner_at» .sec ∷ x .state .times .«owner_at» .nanosec
     ∷ x .state .owner .guid .hi ∷ x .state .owner .guid .lo ∷ x .state .owner .strength ∷ []
-
--- GUIDs one after the other
-unfoldable pub guidsBytes : List Guid → List ℕ
-guidsBytes [] = []
-guidsBytes (g ∷ gs) = guidBytes g ++ guidsBytes gs
 
 unfoldable pub instanceBytes : Instance → List ℕ
 instanceBytes x =

@@ -1,5 +1,6 @@
 -- The scope document as definitions, one file for each of its sections or a part of one. docs/MODEL.md has the table from
 -- its sentences to these.
+pub mod Layout
 pub mod Guids
 pub mod Handles
 pub mod Times
@@ -19,3 +20,4 @@ pub mod Joined
 pub mod Refusals
 pub mod Call
 pub mod Reads
+pub mod Bench

@@ -29,11 +29,12 @@ use Rattle.model.specs.declared.StatusRead.the-variants.{Is as statusRea
 use Rattle.model.specs.declared.Time.{Time}
 use Rattle.model.specs.Call.{listIn}
 use Rattle.model.specs.InstanceCalls.{handleBytes}
+use Rattle.model.specs.Guids.{guidsIn, guidSize}
 use Rattle.model.specs.InstanceRecord.{instanceSize}
 use Rattle.model.specs.Instances.{hasKey, isAlive, writersIn}
 use Rattle.model.specs.Joined.{lastDelivered, lastFilter}
 use Rattle.model.specs.Sets.{has, isEmpty}
-use Rattle.model.specs.State.{instancesIn, guidsIn, guidSize, outSize, writerPlaces, lostPlaces}
+use Rattle.model.specs.State.{instancesIn, outSize, writerPlaces, lostPlaces}
 use Rattle.model.specs.Tables.{find, pick, all, any}
 use Rattle.model.specs.Times.{billion, timeBits, timeOf, filterAdmits, orderAdmits}
 use Rattle.model.specs.WellFormed.{instanceTableOk, headOk}

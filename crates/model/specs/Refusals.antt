@@ -9,9 +9,10 @@ use lib.ListN.{length}
 use Rattle.model.specs.declared.MaybeTime.{MaybeTime}
 use Rattle.model.specs.declared.Sheet.{Sheet}
 use Rattle.model.specs.Calls.{Call, instances, tracker, joined, InstanceCall, register, ensureRegisteredLimited, dispose, unregister, unregisterWriter, noteWriter, dropWriter, observeLifecycle, observeAdmitted, noteAdmitted, recordDelivery, noteTaken, markViewSeen, markViewNew, drainSamples, acceptUnderExclusiveOwnership, updateOwnerStrength, clearOwnerForWriter, clearOwnerForWriterPrefix, releaseOwnerOf, autopurge, TrackerCall, matched, unmatched, lostWithParticipant, writerAsserted, participantAsserted, expire, takeLost, takeStatus, acknowledge, JoinedCall, admit, lapse, part, depart}
+use Rattle.model.specs.Guids.{guidSize}
 use Rattle.model.specs.InstanceRecord.{instanceSize, holderPlaces}
 use Rattle.model.specs.Sheets.{sheetSize}
-use Rattle.model.specs.State.{Lent, State, writerPlaces, lostPlaces, guidSize, outSize}
+use Rattle.model.specs.State.{Lent, State, writerPlaces, lostPlaces, outSize}
 use Rattle.model.specs.Tables.{all}
 use Rattle.model.specs.Times.{billion}
 use Rattle.model.specs.WellFormed.{clockOk}

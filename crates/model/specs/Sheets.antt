@@ -6,8 +6,9 @@ use lib.ListN.{length, take, drop, replicate}
 use Rattle.octets.specs.Octets.{be}
 use Rattle.model.specs.declared.Holder.{Holder}
 use Rattle.model.specs.declared.Sheet.{Sheet}
+use Rattle.model.specs.Guids.{guidAt}
 use Rattle.model.specs.Handles.{handle}
-use Rattle.model.specs.InstanceRecord.{flag, guidAt, timeAt, holderPlaces}
+use Rattle.model.specs.InstanceRecord.{flag, timeAt, holderPlaces}
 
 abbrev pub sheetSize : ℕ
 sheetSize = 256

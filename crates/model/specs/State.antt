@@ -13,9 +13,10 @@ use Rattle.model.specs.declared.LastWriter.the-variants.{Nobody}
 use Rattle.model.specs.declared.Writer.{Writer}
 use Rattle.model.specs.declared.WriterState.{WriterState}
 use Rattle.model.specs.declared.WriterState.the-variants.{Unasserted, Alive, NotAlive, Departed}
-use Rattle.model.specs.Guids.{num, guidBytes}
+use Rattle.model.specs.Guids.{num, guidBytes, guidsIn, guidSize}
 use Rattle.model.specs.Handles.{handle}
-use Rattle.model.specs.InstanceRecord.{instanceSize, instanceOf, instanceBytes, guidAt}
+use Rattle.model.specs.InstanceRecord.{instanceSize, instanceOf, instanceBytes}
+use Rattle.model.specs.Layout.{readRows}
 use Rattle.model.specs.Tables.{pick}
 use Rattle.model.specs.WriterRecord.{writerSize, writerOf, writerBytes}
 
@@ -56,9 +57,6 @@ writerPlaces = 128
 
 abbrev pub lostPlaces : ℕ
 lostPlaces = 256
-
-abbrev pub guidSize : ℕ
-guidSize = 16
 
 abbrev pub outSize : ℕ
 outSize = 4096
@@ -135,22 +133,11 @@ layOut places s out =
 
 -- ---- reading back
 
--- the first n records of a buffer
-unfoldable pub readRows : {A : Type 0} → (List ℕ → A) → ℕ → ℕ → List ℕ → List A
-readRows record-of size zero t = []
-readRows record-of size (suc n) t = record-of (take size t) ∷ readRows record-of size n (drop size t)
-
 abbrev pub instancesIn : ℕ → List ℕ → List Instance
 instancesIn n t = readRows instanceOf instanceSize n t
 
 abbrev pub writersIn : ℕ → List ℕ → List Writer
 writersIn n t = readRows writerOf writerSize n t
-
-abbrev pub guidOf : List ℕ → Guid
-guidOf r = guidAt r 0
-
-abbrev pub guidsIn : ℕ → List ℕ → List Guid
-guidsIn n t = readRows guidOf guidSize n t
 
 unfoldable pub stateOf : Lent → State
 stateOf l =

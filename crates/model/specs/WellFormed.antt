@@ -22,10 +22,10 @@ use Rattle.model.specs.declared.Writer.{Writer}
 use Rattle.model.specs.declared.WriterSet.{WriterSet}
 use Rattle.model.specs.declared.WriterState.{WriterState}
 use Rattle.model.specs.declared.WriterState.the-variants.{Unasserted, Alive, NotAlive, Departed}
-use Rattle.model.specs.Guids.{num, same, nil}
+use Rattle.model.specs.Guids.{num, same, nil, guidSize}
 use Rattle.model.specs.InstanceRecord.{instanceSize, holderPlaces, flagsAt}
 use Rattle.model.specs.Sets.{setPlaces, members}
-use Rattle.model.specs.State.{Lent, instanceKey, writerKey, writerPlaces, lostPlaces, guidSize, aliveCount, notAliveCount, instancesIn, writersIn}
+use Rattle.model.specs.State.{Lent, instanceKey, writerKey, writerPlaces, lostPlaces, aliveCount, notAliveCount, instancesIn, writersIn}
 use Rattle.model.specs.Tables.{all, rising}
 use Rattle.model.specs.Times.{billion}
 use Rattle.model.specs.WriterRecord.{writerSize, writerFlagsAt, livelinessNumber}

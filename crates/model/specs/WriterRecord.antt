@@ -8,7 +8,8 @@ use Rattle.model.specs.declared.LivelinessKind.the-variants.{Automatic, 
 use Rattle.model.specs.declared.WriterState.{WriterState}
 use Rattle.model.specs.declared.WriterState.the-variants.{Unasserted, Alive, NotAlive, Departed}
 use Rattle.model.specs.declared.Writer.{Writer}
-use Rattle.model.specs.InstanceRecord.{bit, flag, guidAt}
+use Rattle.model.specs.Guids.{guidAt}
+use Rattle.model.specs.InstanceRecord.{bit, flag}
 
 abbrev pub writerSize : ℕ
 writerSize = 40

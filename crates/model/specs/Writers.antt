@@ -25,10 +25,9 @@ use Rattle.model.specs.declared.WriterState.{WriterState}
 use Rattle.model.specs.declared.WriterState.the-variants.{Unasserted, Alive, NotAlive, Departed}
 use Rattle.model.specs.Answers.{silent, saying, sayingDue, listing, reporting, noDue}
 use Rattle.model.specs.Calls.{TrackerCall, matched, unmatched, lostWithParticipant, writerAsserted, participantAsserted, expire, takeLost, takeStatus, acknowledge}
-use Rattle.model.specs.Guids.{same, samePrefix}
+use Rattle.model.specs.Guids.{same, samePrefix, guidsBytes}
 use Rattle.model.specs.Handles.{handle, fromGuid}
 use Rattle.model.specs.InstanceCalls.{Turned, refused}
-use Rattle.model.specs.InstanceRecord.{guidsBytes}
 use Rattle.model.specs.State.{State, Class, alive, notAlive, neither, classOf, writerKey, writerPlaces, lostPlaces, aliveCount, notAliveCount}
 use Rattle.model.specs.Tables.{find, pick, put, sift, isSome}
 use Rattle.model.specs.WellFormed.{within}
