@@ -4,7 +4,7 @@ use mathlib.Core.Bool.{Bool, true, false, not, _&&_, _||_, cond}
 use mathlib.Core.List.{List, [], _∷_}
 use lib.Dec.{eqb, leb, ltb}
 use lib.IntN.{ℤ, pos, negsuc, _-ℤ_}
-use lib.ListN.{drop}
+use lib.ListN.{length, drop}
 use lib.Signed.{leZ}
 use Rattle.octets.specs.Octets.{be}
 use Rattle.model.specs.declared.Guid.{Guid}
@@ -25,7 +25,7 @@ use Rattle.model.specs.declared.WriterState.the-variants.{Unasserted, Al
 use Rattle.model.specs.Guids.{num, same, nil, guidSize}
 use Rattle.model.specs.InstanceRecord.{instanceSize, holderPlaces, flagsAt}
 use Rattle.model.specs.Sets.{setPlaces, members}
-use Rattle.model.specs.State.{Lent, instanceKey, writerKey, writerPlaces, lostPlaces, aliveCount, notAliveCount, instancesIn, writersIn}
+use Rattle.model.specs.State.{Lent, State, instanceKey, writerKey, writerPlaces, lostPlaces, aliveCount, notAliveCount, instancesIn, writersIn}
 use Rattle.model.specs.Tables.{all, rising}
 use Rattle.model.specs.Times.{billion}
 use Rattle.model.specs.WriterRecord.{writerSize, writerFlagsAt, livelinessNumber}
@@ -163,3 +163,12 @@ wellFormed places l =
     && (writerTableOk (l .head .«writer_count») (l .writers)
     && (lostOk (l .head .«lost_count») (l .lost)
     && countsOk (l .head) (writersIn (l .head .«writer_count») (l .writers)))))
+
+-- ---- the same, asked of the state as records
+
+unfoldable pub valid : ℕ → State → Bool
+valid places st =
+    ((leb 1 (st .nextHandle) && leb (st .nextHandle) (2 ^ 63))
+    && (within (st .acknowledgedAlive) && within (st .acknowledgedNotAlive)))
+    && ((leb (length (st .instances)) places && instancesOk (st .nextHandle) (st .instances))
+    && ((leb (length (st .writers)) writerPlaces && writersOk (st .writers)) && leb (length (st .lost)) lostPlaces))
