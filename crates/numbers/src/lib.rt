@@ -64,14 +64,14 @@ pub fn raise(bits: u32) -> u32
     }
 }
 
-// The bits of a signed number, in two's complement.
+// The bits of a signed number, in two's complement: the number plus 2^31 is its raised bits.
 pub fn bits_of(s: i32) -> u32
     ensures { λ r. ⌜ r ≡ ofZ w32 s ⌝ }
 {
     raise(add_i64(0x8000_0000, s) as u32)
 }
 
-// The signed number of the bits.
+// The signed number of the bits: the raised bits less 2^31.
 pub fn of_bits(b: u32) -> i32
     ensures { λ r. ⌜ r ≡ toZ w32 b ⌝ }
 {
