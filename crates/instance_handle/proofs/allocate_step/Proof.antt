@@ -12,7 +12,7 @@ wrapping-add-u64-requires c κs = search needs
 
 returns : tie.Need-returns
 unfolding allocated
-returns c = cc
+returns c = rw (c .wrapping-add-u64 .ensures, c .before .not-nil .ensures)
 
 pub allocate-step-spec : {M : Type 1} → statement M
 allocate-step-spec = tie.close (tie.spec not-nil-requires wrapping-add-u64-requires returns)

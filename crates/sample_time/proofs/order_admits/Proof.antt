@@ -1,4 +1,6 @@
 -- `sample_time::order_admits` meets its contract, by its test and what `nanos` ensures. Assumes nothing.
+use mathlib.Core.Path.{ap₂}
+use lib.Dec.{ltb}
 use borrow.Author.Needs.{needs}
 use Rattle.model.specs.Times.{orderAdmits}
 use Rattle.sample_time.proofs.order_admits.Statement.{statement}
@@ -16,7 +18,7 @@ nanos-requires-2 c κs = search needs
 
 returns-2 : tie.Need-returns-2
 unfolding orderAdmits
-returns-2 c = rw (c .before .before .if1 .left, ← c .before .nanos .ensures, ← c .nanos2 .ensures)
+returns-2 c = rw (c .before .before .if1 .left) (ap₂ ltb (c .before .nanos .ensures) (c .nanos2 .ensures))
 
 pub order-admits-spec : {M : Type 1} → statement M
 order-admits-spec = tie.close (tie.spec returns nanos-requires nanos-requires-2 returns-2)
