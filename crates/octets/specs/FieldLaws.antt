@@ -3,16 +3,17 @@
 --     getD-puts-out     a byte outside of the layout is as it was
 --     be-puts-out       so is a number
 --     reads-puts        what was written is read back, field by field
+--     reads-out         fields apart from what was written are as they were
 -- Assumes nothing.
-use mathlib.Core.Path.{_≡_, refl, sym, ap, _∙_}
+use mathlib.Core.Path.{_≡_, refl, _∙_}
 use mathlib.Core.Logic.{_⊎_, inl, inr, ⊎-elim}
 use mathlib.Core.List.{List, [], _∷_}
-use Prim.Native.Nat.{ℕ, _+_, _^_, _≤_, _<_}
+use Prim.Native.Nat.{ℕ, _+_, _≤_, _<_}
 use native.Mathlib.Omega.{arith}
 use lib.ListN.{length, getD}
 use Rattle.octets.specs.Octets.{be, put}
 use Rattle.octets.specs.Fields.{total, reads, puts, Fit}
-use Rattle.octets.specs.Laws.{length-put, getD-put-out, be-same, be-put, be-put-out}
+use Rattle.octets.specs.Laws.{length-put, getD-put-out, be-same, be-put}
 
 pub length-puts : (ks vs s : List ℕ) (at o : ℕ) → length (puts ks vs s at o) ≡ length s
 length-puts [] vs s at o = refl
@@ -43,7 +44,6 @@ reads-puts (k ∷ ks) (v ∷ vs) s at o h f =
     reads-puts ks vs t at (o + k) (omega (arith, length-put k s (at + o) v)) (f .1) in
     cc
 
--- fields apart from what was written are as they were
 pub reads-out : (js ks vs s : List ℕ) (i p at o : ℕ) → (i + p + total js ≤ at + o) ⊎ (at + o + total ks ≤ i + p) → reads js (puts ks vs s at o) i p ≡ reads js s i p
 reads-out [] ks vs s i p at o h = refl
 reads-out (j ∷ js) ks vs s i p at o h =

@@ -1,16 +1,17 @@
 -- Laws of `be` and `put`, each over the width.
---     be-step, be-room      one byte more
+--     be-step, put-step     one byte more
+--     be-room, room-8       it fits, up to 8 bytes in 64 bits
 --     length-put            a write keeps the length
 --     getD-put-out          a byte outside of what was written is as it was
 --     be-same               a number is read from its own bytes alone
 --     be-put-out            a number apart from what was written is as it was
 --     be-put                what was written is read back
 -- Assumes nothing.
-use mathlib.Core.Path.{_≡_, refl, sym, ap, _∙_}
+use mathlib.Core.Path.{_≡_, refl, _∙_}
 use mathlib.Core.Logic.{_⊎_, inl, inr, ⊎-elim}
 use mathlib.Core.List.{List}
 use Prim.Native.Nat.{ℕ, zero, suc, _+_, _*_, _/_, _%_, _^_, _≤_, _<_}
-use native.Mathlib.Nat.{pow-suc, pow-zero, pow-le-pow-right, div-add-mod', div-lt-iff-lt-mul, add-suc}
+use native.Mathlib.Nat.{pow-suc, pow-zero, pow-le-pow-right, div-lt-iff-lt-mul}
 use native.Mathlib.Numerals.{add-one}
 use native.Mathlib.Omega.{arith}
 use lib.ListN.{length, getD, set, length-set}

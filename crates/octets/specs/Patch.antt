@@ -1,11 +1,22 @@
--- A part of a list replaced, and fields as the bytes that they are. Assumes nothing.
-use Prim.Native.Nat.{ℕ, zero, suc, _+_, _*_, _/_, _%_, _≤_, _<_}
+-- A part of a list replaced, and fields as the bytes that they are.
+--     patch                 a list with a part replaced
+--     digits, fields        the bytes of a number, and of fields one after the other
+--     Same                  as many values as fields
+-- and their laws:
+--     take-patch, drop-patch, length-patch      what a patch leaves as it was
+--     patch-nil, set-patch, patch-patch         a patch of none, of one, and two end to end
+--     patch-behind, patch-at                    a patch of a list that is given in parts
+--     paste-up, paste-down                      parts moved up and down, and what they left written over
+--     length-digits, length-fields              as wide as they should be
+--     put-patch, puts-patch                     a write of a number, or of fields, is a patch
+-- Assumes nothing.
+use Prim.Native.Nat.{ℕ, zero, suc, _+_, _/_, _%_, _≤_, _<_}
 use mathlib.Core.Path.{_≡_, refl, sym, ap, _∙_}
-use mathlib.Core.List.{List, [], _∷_, _++_, append-assoc, append-nil}
+use mathlib.Core.List.{List, [], _∷_, _++_, append-assoc}
 use native.Mathlib.Nat.{add-zero, add-suc, add-assoc}
 use native.Mathlib.Omega.{arith}
-use lib.ListN.{length, take, drop, getD, set, length-append, length-take, length-drop, length-set, take-append-drop}
-use lib.Seq.{take-at, drop-at, drop-drop, take-set-le, drop-cons, drop-set-lt, set-split, length-take-le, getD-set-same, append-snoc}
+use lib.ListN.{length, take, drop, set, length-append, length-drop, length-set, take-append-drop}
+use lib.Seq.{take-at, drop-at, drop-drop, take-take, take-append-le, take-set-le, drop-cons, drop-set-lt, set-split, length-take-le, getD-set-same, paste}
 use Rattle.octets.specs.Octets.{put}
 use Rattle.octets.specs.Fields.{puts, total}
 use Rattle.octets.specs.Laws.{length-put}
@@ -14,22 +25,42 @@ use Rattle.octets.specs.Laws.{length-put}
 abbrev pub patch : {A : Type 0} → List A → ℕ → ℕ → List A → List A
 patch d at k r = take at d ++ (r ++ drop (at + k) d)
 
-module _ {A : Type 0} where
-  pub take-patch : (d : List A) (at k : ℕ) (r : List A) → at ≤ length d → length r ≡ k → take (at + k) (patch d at k r) ≡ take at d ++ r
-  take-patch d at k r h e =
-      let n : length (take at d ++ r) ≡ at + k = rw (length-append (take at d) r, length-take-le at d h, e) in
-      rw (← append-assoc (take at d) r (drop (at + k) d)) (take-at (take at d ++ r) (drop (at + k) d) (at + k) n)
+-- the k bytes of v
+unfoldable pub digits : ℕ → ℕ → List ℕ
+digits zero v = []
+digits (suc k) v = digits k (v / 256) ++ (v % 256 ∷ [])
 
-  pub drop-patch : (d : List A) (at k : ℕ) (r : List A) → at ≤ length d → length r ≡ k → drop (at + k) (patch d at k r) ≡ drop (at + k) d
-  drop-patch d at k r h e =
-      let n : length (take at d ++ r) ≡ at + k = rw (length-append (take at d) r, length-take-le at d h, e) in
-      rw (← append-assoc (take at d) r (drop (at + k) d)) (drop-at (take at d ++ r) (drop (at + k) d) (at + k) n)
+-- the bytes of the values vs in fields of the widths ks
+abbrev pub fields : List ℕ → List ℕ → List ℕ
+fields [] vs = []
+fields (k ∷ ks) [] = []
+fields (k ∷ ks) (v ∷ vs) = digits k v ++ fields ks vs
+
+-- there is one value for each field
+abbrev pub Same : List ℕ → List ℕ → Type 0
+Same [] [] = Unit
+Same [] (v ∷ vs) = ⊥
+Same (k ∷ ks) [] = ⊥
+Same (k ∷ ks) (v ∷ vs) = Same ks vs
+
+-- ---- laws of patches
+
+module _ {A : Type 0} where
+  -- up to the end of the part, and from there on
+  module _ (d : List A) (at k : ℕ) (r : List A) (h : at ≤ length d) (e : length r ≡ k) where
+    patched : length (take at d ++ r) ≡ at + k
+    patched = rw (length-append (take at d) r, length-take-le at d h, e)
+
+    pub take-patch : take (at + k) (patch d at k r) ≡ take at d ++ r
+    take-patch = rw (← append-assoc (take at d) r (drop (at + k) d)) (take-at (take at d ++ r) (drop (at + k) d) (at + k) patched)
+
+    pub drop-patch : drop (at + k) (patch d at k r) ≡ drop (at + k) d
+    drop-patch = rw (← append-assoc (take at d) r (drop (at + k) d)) (drop-at (take at d ++ r) (drop (at + k) d) (at + k) patched)
 
   pub length-patch : (d : List A) (at k : ℕ) (r : List A) → at + k ≤ length d → length r ≡ k → length (patch d at k r) ≡ length d
   length-patch d at k r h e =
       omega (arith, length-append (take at d) (r ++ drop (at + k) d), length-append r (drop (at + k) d), length-take-le at d (omega arith), length-drop (at + k) d)
 
-  -- two patches end to end are one
   pub patch-patch : (d : List A) (at k m : ℕ) (a b : List A) → at + k ≤ length d → length a ≡ k →
       patch (patch d at k a) (at + k) m b ≡ patch d at (k + m) (a ++ b)
   patch-patch d at k m a b h e =
@@ -43,14 +74,49 @@ module _ {A : Type 0} where
   pub patch-nil : (d : List A) (at : ℕ) → d ≡ patch d at 0 []
   patch-nil d at = rw (add-zero at) (sym (take-append-drop at d))
 
-  -- one element
   pub set-patch : (d : List A) (i : ℕ) (x : A) → i < length d → set d i x ≡ patch d i 1 (x ∷ [])
   set-patch d i x h = let e : i + 1 ≡ suc i = omega arith in rw e (set-split d i x h)
 
--- the k bytes of v
-unfoldable pub digits : ℕ → ℕ → List ℕ
-digits zero v = []
-digits (suc k) v = digits k (v / 256) ++ (v % 256 ∷ [])
+  pub patch-behind : (p d : List A) (at k : ℕ) (r : List A) → length p ≡ at → patch (p ++ d) at k r ≡ p ++ (r ++ drop k d)
+  patch-behind p d at k r e = rw (take-at p d at e, ← drop-drop k at (p ++ d), drop-at p d at e)
+
+  pub patch-at : (p q z : List A) (at k : ℕ) (r : List A) → length p ≡ at → length q ≡ k → patch (p ++ (q ++ z)) at k r ≡ p ++ (r ++ z)
+  patch-at p q z at k r e f = rw (patch-behind p (q ++ z) at k r e, drop-at q z k f)
+
+  -- q moves up by k, and r is written where it was
+  pub paste-up : (p q z : List A) (at m k : ℕ) (r : List A) → length p ≡ at → length q ≡ m → k ≤ length z →
+      patch (paste (p ++ (q ++ z)) (at + k) (drop at (p ++ (q ++ z))) m) at k r ≡ p ++ (r ++ (q ++ drop k z))
+  paste-up p q z at m k r e f h =
+      let t : List A = p ++ (q ++ z) in
+      let n : at + k ≤ length t = omega (arith, length-append p (q ++ z), length-append q z) in
+      let front : List A = take (at + k) t in
+      let moved : take m (drop at t) ≡ q = rw (drop-at p (q ++ z) at e) (take-at q z m f) in
+      let o : at + k + m ≡ at + (m + k) = omega arith in
+      let rest : drop (at + k + m) t ≡ drop k z =
+      rw (o, ← drop-drop (m + k) at t, drop-at p (q ++ z) at e, ← drop-drop k m (q ++ z), drop-at q z m f) in
+      let whole : paste t (at + k) (drop at t) m ≡ front ++ (q ++ drop k z) = rw (moved, rest) (append-assoc front q (drop k z)) in
+      let wide : length front ≡ at + k = length-take-le (at + k) t n in
+      let first : take at (front ++ (q ++ drop k z)) ≡ p =
+      take-append-le at front (q ++ drop k z) (omega arith) ∙ take-take at (at + k) t (omega arith) ∙ take-at p (q ++ z) at e in
+      rw (whole, first, drop-at front (q ++ drop k z) (at + k) wide)
+
+  -- q moves down over s, and r is written behind it
+  pub paste-down : (p s q z : List A) (at k m : ℕ) (r : List A) → length p ≡ at → length s ≡ k → length q ≡ m →
+      patch (paste (p ++ (s ++ (q ++ z))) at (drop (at + k) (p ++ (s ++ (q ++ z)))) m) (at + m) k r ≡ p ++ (q ++ (r ++ z))
+  paste-down p s q z at k m r e f g =
+      let u : List A = s ++ (q ++ z) in
+      let t : List A = p ++ u in
+      let moved : take m (drop (at + k) t) ≡ q =
+      rw (← drop-drop k at t, drop-at p u at e, drop-at s (q ++ z) k f) (take-at q z m g) in
+      let rest : drop (at + m) t ≡ drop m u = rw (← drop-drop m at t, drop-at p u at e) in
+      let o : m + k ≡ k + m = omega arith in
+      let last : drop k (drop m u) ≡ z =
+      drop-drop k m u ∙ rw (o, ← drop-drop m k u, drop-at s (q ++ z) k f) (drop-at q z m g) in
+      let wide : length (p ++ q) ≡ at + m = omega (arith, length-append p q) in
+      rw (take-at p u at e, moved, rest)
+      (patch-behind (p ++ q) (drop m u) (at + m) k r wide ∙ rw last (append-assoc p q (r ++ z)))
+
+-- ---- laws of fields
 
 pub length-digits : (k v : ℕ) → length (digits k v) ≡ k
 unfolding digits
@@ -68,18 +134,6 @@ put-patch (suc k) s at v h =
     drop-cons w (at + k) 0 (omega arith)
     ∙ rw (getD-set-same s (at + k) (v % 256) 0 (omega arith), drop-set-lt (suc (at + k)) s (at + k) (v % 256) (omega arith), add-suc at k) in
     put-patch k w at (v / 256) (omega arith) ∙ rw (x, y) (ap (λ (z : List ℕ). take at s ++ z) (sym (append-assoc (digits k (v / 256)) (v % 256 ∷ []) (drop (at + suc k) s))))
-
--- the bytes of fields
-abbrev pub fields : List ℕ → List ℕ → List ℕ
-fields [] vs = []
-fields (k ∷ ks) [] = []
-fields (k ∷ ks) (v ∷ vs) = digits k v ++ fields ks vs
-
-abbrev pub Same : List ℕ → List ℕ → Type 0
-Same [] [] = Unit
-Same [] (v ∷ vs) = ⊥
-Same (k ∷ ks) [] = ⊥
-Same (k ∷ ks) (v ∷ vs) = Same ks vs
 
 pub length-fields : (ks vs : List ℕ) → Same ks vs → length (fields ks vs) ≡ total ks
 length-fields [] [] e = refl

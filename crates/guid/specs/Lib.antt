@@ -1,0 +1,3 @@
+-- Laws of keys and GUIDs as numbers.
+pub mod Digits
+pub mod Laws

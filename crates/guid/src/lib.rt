@@ -1,0 +1,44 @@
+// Keys and GUIDs: their order, their equality and their prefix, as model's definitions say. Rests on model.
+use model::Guid;
+ghost use mathlib.Core.Path.{_≡_};
+ghost use Rattle.model.specs.Guids.{less, same, samePrefix, nil};
+
+// Whether a stands before b in byte order.
+pub fn is_less(a: Guid, b: Guid) -> bool
+    ensures { λ r. ⌜ r ≡ less a b ⌝ }
+{
+    if a.hi < b.hi {
+        return true;
+    }
+    if b.hi < a.hi {
+        return false;
+    }
+    a.lo < b.lo
+}
+
+// Whether a and b are the same 16 bytes.
+pub fn is_same(a: Guid, b: Guid) -> bool
+    ensures { λ r. ⌜ r ≡ same a b ⌝ }
+{
+    if a.hi != b.hi {
+        return false;
+    }
+    a.lo == b.lo
+}
+
+// Whether a and b share their first 12 bytes, the prefix of their participant.
+pub fn same_prefix(a: Guid, b: Guid) -> bool
+    ensures { λ r. ⌜ r ≡ samePrefix a b ⌝ }
+{
+    if a.hi != b.hi {
+        return false;
+    }
+    a.lo / 4294967296 == b.lo / 4294967296
+}
+
+// The GUID of zeros, which stands where none is present.
+pub fn nil() -> Guid
+    ensures { λ r. ⌜ r ≡ nil ⌝ }
+{
+    Guid { hi: 0, lo: 0 }
+}

@@ -1,0 +1,3 @@
+-- Laws that the proofs of octets cite.
+pub mod Moves
+pub mod Scan

@@ -1,0 +1,59 @@
+-- `clear` meets its contract: after i turns the first i bytes are 0. Assumes nothing.
+use Prim.Native.Nat.{_-_, _≤_}
+use mathlib.Core.Path.{_≡_, refl}
+use native.Mathlib.Omega.{arith}
+use lib.ListN.{length, replicate, length-set}
+use Rattle.octets.specs.Patch.{patch, patch-nil}
+use Rattle.octets.proofs.Moves.{clear-turn}
+use Rattle.octets.proofs.clear.Statement.{statement}
+use Rattle.octets.proofs.clear.Tie as tie
+
+abbrev Inv-loop : tie.InvT-loop
+Inv-loop b₀ from n i₀ b i = (i ≤ n) × (length b ≡ length b₀) × (b ≡ patch b₀ from i (replicate i 0))
+
+abbrev μ-loop : tie.MeasureT-loop
+μ-loop b₀ from n i₀ b i = n - i
+
+loop-holds : tie.Need-loop-holds Inv-loop μ-loop
+loop-holds c = (omega arith, refl, patch-nil (c .args .b .now) (c .args .from))
+
+add-b : tie.Need-add-b Inv-loop μ-loop
+add-b c = omega arith
+
+slice-write-b : tie.Need-slice-write-b Inv-loop μ-loop
+slice-write-b c = omega arith
+
+add-i : tie.Need-add-i Inv-loop μ-loop
+add-i c = omega arith
+
+loop-less : tie.Need-loop-less Inv-loop μ-loop
+loop-less c = omega arith
+
+loop-again : tie.Need-loop-again Inv-loop μ-loop
+loop-again c =
+    let a = c .before .before .args in
+    let l = c .before .loop in
+    (omega arith, simp length-set (l .inv .1), rw (l .inv .2) (clear-turn (a .b .now) (a .from) (l .i) (omega arith)))
+
+same-length : tie.Need-same-length Inv-loop μ-loop
+same-length c = omega arith
+
+returns : tie.Need-returns Inv-loop μ-loop
+returns c =
+    let e : c .before .loop .i ≡ c .before .before .args .n = omega arith in
+    rw e at (c .before .loop .inv .2)
+
+pub clear-spec : {M : Type 1} → statement M
+clear-spec =
+    tie.close
+    (tie.spec
+    Inv-loop
+    μ-loop
+    loop-holds
+    add-b
+    slice-write-b
+    add-i
+    loop-less
+    loop-again
+    same-length
+    returns)
