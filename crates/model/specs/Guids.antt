@@ -3,8 +3,11 @@ use Prim.Native.Nat.{ℕ, _+_, _*_, _/_, _^_}
 use mathlib.Core.Bool.{Bool}
 use mathlib.Core.List.{List, [], _∷_}
 use lib.Dec.{eqb, ltb}
+use Rattle.octets.specs.Lay.{rows}
+use Rattle.octets.specs.Octets.{be}
 use Rattle.octets.specs.Patch.{fields}
 use Rattle.model.specs.declared.Guid.{Guid}
+use Rattle.model.specs.Layout.{readRows}
 
 -- the number that the 16 bytes make, most significant first
 unfoldable pub num : Guid → ℕ
@@ -27,6 +30,23 @@ samePrefix a b = eqb (prefix a) (prefix b)
 abbrev pub nil : Guid
 nil = record { hi = 0; lo = 0 }
 
--- the 16 bytes
+-- ---- in bytes
+
+abbrev pub guidSize : ℕ
+guidSize = 16
+
+abbrev pub guidAt : List ℕ → ℕ → Guid
+guidAt r at = record { hi = be 8 r at; lo = be 8 r (at + 8) }
+
+-- the GUID of 16 bytes, and the first n of a list
+abbrev pub guidOf : List ℕ → Guid
+guidOf r = guidAt r 0
+
+abbrev pub guidsIn : ℕ → List ℕ → List Guid
+guidsIn n t = readRows guidOf guidSize n t
+
 unfoldable pub guidBytes : Guid → List ℕ
 guidBytes g = fields (8 ∷ 8 ∷ []) (g .hi ∷ g .lo ∷ [])
+
+abbrev pub guidsBytes : List Guid → List ℕ
+guidsBytes gs = rows guidBytes gs

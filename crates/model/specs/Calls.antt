@@ -1,0 +1,89 @@
+-- The calls by name and by number. Sections 3, 4 and 5 begin with these lists.
+use Prim.Native.Nat.{ℕ}
+use mathlib.Core.Bool.{cond}
+use mathlib.Core.List.{List, [], _∷_, map}
+use mathlib.Core.Option.{Option, none, some}
+use lib.Dec.{eqb}
+
+-- section 3 ("pen calls"), in the order of their numbers
+pub data InstanceCall : Type 0 where
+  register ensureRegisteredLimited dispose unregister unregisterWriter noteWriter dropWriter : InstanceCall
+  observeLifecycle observeAdmitted noteAdmitted recordDelivery noteTaken markViewSeen markViewNew : InstanceCall
+  drainSamples acceptUnderExclusiveOwnership updateOwnerStrength clearOwnerForWriter : InstanceCall
+  clearOwnerForWriterPrefix releaseOwnerOf autopurge : InstanceCall
+
+-- section 4
+pub data TrackerCall : Type 0 where
+  matched unmatched lostWithParticipant writerAsserted participantAsserted : TrackerCall
+  expire takeLost takeStatus acknowledge : TrackerCall
+
+-- section 5
+pub data JoinedCall : Type 0 where
+  admit lapse part depart : JoinedCall
+
+pub data Call : Type 0 where
+  instances : InstanceCall → Call
+  tracker : TrackerCall → Call
+  joined : JoinedCall → Call
+
+pub record Numbered : Type 0 where
+  pub code : ℕ
+  pub call : Call
+
+abbrev numbered : ℕ → Call → Numbered
+numbered n c = record { code = n; call = c }
+
+-- codes 1 to 21, 32 to 40 and 48 to 51; there are no others
+unfoldable pub calls : List Numbered
+calls =
+    numbered 1 (instances register)
+    ∷ numbered 2 (instances ensureRegisteredLimited)
+    ∷ numbered 3 (instances dispose)
+    ∷ numbered 4 (instances unregister)
+    ∷ numbered 5 (instances unregisterWriter)
+    ∷ numbered 6 (instances noteWriter)
+    ∷ numbered 7 (instances dropWriter)
+    ∷ numbered 8 (instances observeLifecycle)
+    ∷ numbered 9 (instances observeAdmitted)
+    ∷ numbered 10 (instances noteAdmitted)
+    ∷ numbered 11 (instances recordDelivery)
+    ∷ numbered 12 (instances noteTaken)
+    ∷ numbered 13 (instances markViewSeen)
+    ∷ numbered 14 (instances markViewNew)
+    ∷ numbered 15 (instances drainSamples)
+    ∷ numbered 16 (instances acceptUnderExclusiveOwnership)
+    ∷ numbered 17 (instances updateOwnerStrength)
+    ∷ numbered 18 (instances clearOwnerForWriter)
+    ∷ numbered 19 (instances clearOwnerForWriterPrefix)
+    ∷ numbered 20 (instances releaseOwnerOf)
+    ∷ numbered 21 (instances autopurge)
+    ∷ numbered 32 (tracker matched)
+    ∷ numbered 33 (tracker unmatched)
+    ∷ numbered 34 (tracker lostWithParticipant)
+    ∷ numbered 35 (tracker writerAsserted)
+    ∷ numbered 36 (tracker participantAsserted)
+    ∷ numbered 37 (tracker expire)
+    ∷ numbered 38 (tracker takeLost)
+    ∷ numbered 39 (tracker takeStatus)
+    ∷ numbered 40 (tracker acknowledge)
+    ∷ numbered 48 (joined admit)
+    ∷ numbered 49 (joined lapse)
+    ∷ numbered 50 (joined part)
+    ∷ numbered 51 (joined depart)
+    ∷ []
+
+abbrev pub codeOf : Numbered → ℕ
+codeOf n = n .code
+
+-- the valid codes, rising
+unfoldable pub validCodes : List ℕ
+unfolding calls
+validCodes = map codeOf calls
+
+unfoldable pub amongst : ℕ → List Numbered → Option Call
+amongst n [] = none
+amongst n (c ∷ cs) = cond (eqb (c .code) n) (some (c .call)) (amongst n cs)
+
+-- the call of a code, none for an unknown one
+unfoldable pub callOfCode : ℕ → Option Call
+callOfCode n = amongst n calls
