@@ -16,9 +16,9 @@ use lib.Dec.{ltb}
 use lib.ListN.{length, getD}
 use borrow.Author.Tests.{eqb-true, eqb-false}
 use Rattle.model.specs.declared.Guid.{Guid}
-use Rattle.model.specs.Guids.{num, same}
+use Rattle.model.specs.Guids.{num, same, guidAt}
 use Rattle.tables.specs.declared.Found.the-variants.{At, Missing}
-use Rattle.tables.specs.Keys.{guidAt, keys, rising}
+use Rattle.tables.specs.Keys.{keys, rising}
 use Rattle.tables.specs.KeyLaws.{length-keys, getD-keys, rising-snoc, rising-left, rising-pairs}
 use Rattle.tables.specs.Found.{lowerBound, foundIn}
 use Rattle.tables.specs.FoundLaws.{lower-unique, lower-found, lower-missing}

@@ -15,8 +15,8 @@ use lib.Dec.{ltb}
 use lib.ListN.{length, getD, length-append, List·getD-append}
 use lib.Seq.{getD-at}
 use borrow.Author.Tests.{ltb-true, lt-ltb}
-use Rattle.model.specs.Guids.{num}
-use Rattle.tables.specs.Keys.{guidAt, keys, leads, rising}
+use Rattle.model.specs.Guids.{num, guidAt}
+use Rattle.tables.specs.Keys.{keys, leads, rising}
 
 pub length-keys : (size n : ℕ) (t : List ℕ) → length (keys size n t) ≡ n
 unfolding keys

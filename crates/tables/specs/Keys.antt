@@ -1,15 +1,9 @@
 -- The keys of a table: records of `size` bytes end to end, each with a 16-byte key in front.
-use Prim.Native.Nat.{ℕ, zero, suc, _+_, _*_}
+use Prim.Native.Nat.{ℕ, zero, suc, _*_}
 use mathlib.Core.Bool.{Bool, true, _&&_}
 use mathlib.Core.List.{List, [], _∷_, _++_}
 use lib.Dec.{ltb}
-use Rattle.octets.specs.Octets.{be}
-use Rattle.model.specs.declared.Guid.{Guid}
-use Rattle.model.specs.Guids.{num}
-
--- the key at index at
-abbrev pub guidAt : List ℕ → ℕ → Guid
-guidAt t at = record { hi = be 8 t at; lo = be 8 t (at + 8) }
+use Rattle.model.specs.Guids.{num, guidAt}
 
 -- the numbers of the keys of the first n records
 unfoldable pub keys : ℕ → ℕ → List ℕ → List ℕ

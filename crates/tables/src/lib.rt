@@ -5,8 +5,8 @@ ghost use mathlib.Core.Bool.{true};
 ghost use mathlib.Core.Path.{_≡_};
 ghost use Prim.Native.Nat.{_+_, _*_, _≤_, _<_};
 ghost use lib.ListN.{length};
-ghost use Rattle.model.specs.Guids.{num};
-ghost use Rattle.tables.specs.Keys.{guidAt, keys, rising};
+ghost use Rattle.model.specs.Guids.{num, guidAt};
+ghost use Rattle.tables.specs.Keys.{keys, rising};
 ghost use Rattle.tables.specs.Found.{lowerBound, foundIn};
 ghost use Rattle.tables.specs.Gaps.{opened, closed};
 

@@ -5,8 +5,8 @@ use mathlib.Core.Bool.{true}
 use native.Mathlib.Omega.{arith}
 use borrow.Author.Tests.{not-true, not-false}
 use lib.ListN.{length}
-use Rattle.model.specs.Guids.{less}
-use Rattle.tables.specs.Keys.{guidAt, keys, leads, rising}
+use Rattle.model.specs.Guids.{less, guidAt}
+use Rattle.tables.specs.Keys.{keys, leads, rising}
 use Rattle.tables.proofs.Search.{record-le, Rises, rise-turn, rise-stop}
 use Rattle.tables.proofs.keys_rise.Statement.{statement}
 use Rattle.tables.proofs.keys_rise.Tie as tie
