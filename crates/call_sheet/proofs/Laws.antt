@@ -3,9 +3,9 @@
 --     sheet-made       fields that were read make the sheet
 -- Assumes nothing.
 use Prim.Native.Nat.{ℕ, _+_, _-_, _%_, _≤_}
-use mathlib.Core.Bool.{Bool, true}
-use mathlib.Core.Path.{_≡_, sym, ap, _∙_}
-use mathlib.Core.List.{List, [], _++_}
+use mathlib.Core.Bool.{Bool, true, false, _&&_}
+use mathlib.Core.Path.{_≡_, refl, sym, ap, _∙_}
+use mathlib.Core.List.{List, [], _∷_, _++_}
 use native.Mathlib.Nat.{zero-add}
 use native.Mathlib.Omega.{arith}
 use lib.ListN.{length, take, drop, replicate, length-replicate, replicate-append-replicate}
@@ -18,6 +18,8 @@ use Rattle.model.specs.declared.Sheet.{Sheet}
 use Rattle.model.specs.Guids.{guidAt}
 use Rattle.model.specs.Handles.{handle}
 use Rattle.model.specs.InstanceRecord.{flag, timeAt}
+use Rattle.model.specs.Refusals.{nanosecondsOk}
+use Rattle.model.specs.Tables.{all}
 use Rattle.model.specs.Sheets.{padded, holderOn, sheetOf}
 
 drop-zeros : (k n : ℕ) → k ≤ n → drop k (replicate {A = ℕ} n 0) ≡ replicate (n - k) 0
@@ -28,6 +30,19 @@ drop-zeros k n h =
 
 pub paste-padded : (t : List ℕ) (n : ℕ) → n ≤ 144 → n ≤ length t → paste (replicate 144 0) 0 t n ≡ padded (take n t)
 paste-padded t n h l = rw (zero-add n, drop-zeros n 144 h, length-take-le n t l)
+
+pub and-true : (b : Bool) → (b && true) ≡ b
+and-true true = refl
+and-true false = refl
+
+-- two times, by the test of the first
+pub both-first : (t u : MaybeTime) (r : Bool) → all nanosecondsOk (t ∷ []) ≡ true → r ≡ all nanosecondsOk (u ∷ []) → r ≡ all nanosecondsOk (t ∷ u ∷ [])
+unfolding all
+both-first t u r e f = f ∙ rw (sym (and-true (nanosecondsOk t)) ∙ e)
+
+pub both-none : (t u : MaybeTime) → all nanosecondsOk (t ∷ []) ≡ false → false ≡ all nanosecondsOk (t ∷ u ∷ [])
+unfolding all
+both-none t u e = rw (sym (and-true (nanosecondsOk t)) ∙ e)
 
 -- a sheet made of fields that were read
 pub sheet-made : (s : List ℕ) (bits : ℕ) (key guid : Guid) (h : ℕ) (t u : MaybeTime) (a b first second : ℕ) (p q d l m y : Bool) (code : ℕ) (holder : Holder) →
@@ -50,7 +65,7 @@ pub sheet-made : (s : List ℕ) (bits : ℕ) (key guid : Guid) (h : ℕ) (t u : 
       «by_source» = y;
       kind = bits % 4;
       code = code;
-      holder = holder
+      holder = holder;
     } (sheetOf s)
 unfolding sheetOf
 sheet-made s bits key guid h t u a b first second p q d l m y code holder eb ek eg eh ep et eu ea e1 e2 e3 ed el em ey ec eq eo =

@@ -1,11 +1,18 @@
 // A call's sheet: its 256 bytes as fields, and the refusals that the sheet alone decides. Rests on octets, tables and model.
-use model::{Holder, InstanceHandle, MaybeTime, Sheet};
+use model::Holder;
+use model::InstanceCall;
+use model::InstanceHandle;
+use model::MaybeTime;
+use model::Sheet;
 ghost use mathlib.Core.Path.{_≡_};
 ghost use mathlib.Core.Bool.{true};
+ghost use mathlib.Core.List.{[], _∷_};
 ghost use Prim.Native.Nat.{_+_, _*_, _≤_, _<_, min};
 ghost use lib.ListN.{length, take, drop};
 ghost use Rattle.model.specs.InstanceRecord.{flag, timeAt};
+ghost use Rattle.model.specs.Refusals.{optional, timesUsedBy, nanosecondsOk};
 ghost use Rattle.model.specs.Sheets.{padded, holderOn, sheetOf};
+ghost use Rattle.model.specs.Tables.{all};
 
 // The time from index at.
 fn read_time(s: &[u8], at: usize, present: bool) -> MaybeTime
@@ -14,7 +21,11 @@ fn read_time(s: &[u8], at: usize, present: bool) -> MaybeTime
 {
     let sec = octets::get_u32(s, at);
     let nanosec = octets::get_u32(s, at + 4);
-    MaybeTime { present: present, sec: sec, nanosec: nanosec }
+    MaybeTime {
+        present: present,
+        sec: sec,
+        nanosec: nanosec,
+    }
 }
 
 // The first n bytes from index 84, zeros behind them.
@@ -42,7 +53,11 @@ fn read_holder(s: &[u8], present: bool) -> Holder
     let len = octets::get_u16(s, 82);
     let n = held(len);
     let bytes = holder_bytes(s, n);
-    Holder { present: present, len: len, bytes: bytes }
+    Holder {
+        present: present,
+        len: len,
+        bytes: bytes,
+    }
 }
 
 // The bit of weight w, a divisor of 128.
@@ -82,5 +97,65 @@ pub fn read_sheet(s: &[u8]) -> Sheet
         kind: bits % 4,
         code: octets::get_u8(s, 81),
         holder: holder,
+    }
+}
+
+// ---- what the sheet alone decides
+
+// Nanoseconds below 10^9.
+pub fn nanoseconds_ok(t: MaybeTime) -> bool
+    ensures { λ r. ⌜ r ≡ all nanosecondsOk (t ∷ []) ⌝ }
+{
+    t.nanosec < 1_000_000_000
+}
+
+// The same of a time that is used where its presence bit is set.
+pub fn optional_ok(t: MaybeTime) -> bool
+    ensures { λ r. ⌜ r ≡ all nanosecondsOk (optional t) ⌝ }
+{
+    if t.present {
+        return nanoseconds_ok(t);
+    }
+    true
+}
+
+// The same of two times.
+pub fn both_ok(t: MaybeTime, u: MaybeTime) -> bool
+    ensures { λ r. ⌜ r ≡ all nanosecondsOk (t ∷ u ∷ []) ⌝ }
+{
+    if nanoseconds_ok(t) {
+        return nanoseconds_ok(u);
+    }
+    false
+}
+
+// The times that a call on instances uses.
+pub fn times_ok(c: InstanceCall, s: Sheet) -> bool
+    ensures { λ r. ⌜ r ≡ all nanosecondsOk (timesUsedBy c s) ⌝ }
+{
+    let t = s.time_1;
+    let u = s.time_2;
+    match c {
+        InstanceCall::Register => optional_ok(t),
+        InstanceCall::EnsureRegisteredLimited => true,
+        InstanceCall::Dispose => optional_ok(t),
+        InstanceCall::Unregister => optional_ok(t),
+        InstanceCall::UnregisterWriter => optional_ok(t),
+        InstanceCall::NoteWriter => true,
+        InstanceCall::DropWriter => optional_ok(t),
+        InstanceCall::ObserveLifecycle => optional_ok(t),
+        InstanceCall::ObserveAdmitted => nanoseconds_ok(t),
+        InstanceCall::NoteAdmitted => both_ok(t, u),
+        InstanceCall::RecordDelivery => nanoseconds_ok(t),
+        InstanceCall::NoteTaken => true,
+        InstanceCall::MarkViewSeen => true,
+        InstanceCall::MarkViewNew => true,
+        InstanceCall::DrainSamples => true,
+        InstanceCall::AcceptUnderExclusiveOwnership => nanoseconds_ok(u),
+        InstanceCall::UpdateOwnerStrength => true,
+        InstanceCall::ClearOwnerForWriter => true,
+        InstanceCall::ClearOwnerForWriterPrefix => true,
+        InstanceCall::ReleaseOwnerOf => true,
+        InstanceCall::Autopurge => nanoseconds_ok(u),
     }
 }
