@@ -1,11 +1,13 @@
 -- Laws that the proofs cite.
 --     paste-padded     bytes copied over zeros are the bytes, zeros behind them
+--     all-first, all-none      a test of all of a list, by its first
+--     refuses-4, refuses-6, refuses-none      the chain of refusals
 --     sheet-made       fields that were read make the sheet
 -- Assumes nothing.
 use Prim.Native.Nat.{ℕ, _+_, _-_, _%_, _≤_}
 use mathlib.Core.Bool.{Bool, true, false, _&&_}
 use mathlib.Core.Path.{_≡_, refl, sym, ap, _∙_}
-use mathlib.Core.List.{List, [], _∷_, _++_}
+use mathlib.Core.List.{List, [], _∷_}
 use native.Mathlib.Nat.{zero-add}
 use native.Mathlib.Omega.{arith}
 use lib.ListN.{length, take, drop, replicate, length-replicate, replicate-append-replicate}
@@ -18,7 +20,10 @@ use Rattle.model.specs.declared.Sheet.{Sheet}
 use Rattle.model.specs.Guids.{guidAt}
 use Rattle.model.specs.Handles.{handle}
 use Rattle.model.specs.InstanceRecord.{flag, timeAt}
-use Rattle.model.specs.Refusals.{nanosecondsOk}
+use Rattle.model.specs.declared.InstanceCall.{InstanceCall}
+use Rattle.model.specs.Calls.{instances}
+use Rattle.model.specs.Refusals.{timesUsedBy, nanosecondsOk, holderFits, sheetRefusal}
+use Rattle.model.specs.State.{State}
 use Rattle.model.specs.Tables.{all}
 use Rattle.model.specs.Sheets.{padded, holderOn, sheetOf}
 
@@ -35,14 +40,28 @@ pub and-true : (b : Bool) → (b && true) ≡ b
 and-true true = refl
 and-true false = refl
 
--- two times, by the test of the first
-pub both-first : (t u : MaybeTime) (r : Bool) → all nanosecondsOk (t ∷ []) ≡ true → r ≡ all nanosecondsOk (u ∷ []) → r ≡ all nanosecondsOk (t ∷ u ∷ [])
+-- the first of a list, by its test: the rest decides, or all is decided
+pub all-first : {A : Type 0} (p : A → Bool) (x : A) (xs : List A) (r : Bool) → all p (x ∷ []) ≡ true → r ≡ all p xs → r ≡ all p (x ∷ xs)
 unfolding all
-both-first t u r e f = f ∙ rw (sym (and-true (nanosecondsOk t)) ∙ e)
+all-first p x xs r e f = f ∙ rw (sym (and-true (p x)) ∙ e)
 
-pub both-none : (t u : MaybeTime) → all nanosecondsOk (t ∷ []) ≡ false → false ≡ all nanosecondsOk (t ∷ u ∷ [])
+pub all-none : {A : Type 0} (p : A → Bool) (x : A) (xs : List A) → all p (x ∷ []) ≡ false → false ≡ all p (x ∷ xs)
 unfolding all
-both-none t u e = rw (sym (and-true (nanosecondsOk t)) ∙ e)
+all-none p x xs e = rw (sym (and-true (p x)) ∙ e)
+
+-- the chain of refusals of a call on instances
+module _ (c : InstanceCall) (s : Sheet) (st : State) where
+  pub refuses-4 : all nanosecondsOk (timesUsedBy c s) ≡ false → 4 ≡ sheetRefusal (instances c) s st
+  unfolding sheetRefusal
+  refuses-4 e = rw e
+
+  pub refuses-6 : all nanosecondsOk (timesUsedBy c s) ≡ true → holderFits (instances c) s ≡ false → 6 ≡ sheetRefusal (instances c) s st
+  unfolding sheetRefusal all
+  refuses-6 e h = rw (e, h)
+
+  pub refuses-none : all nanosecondsOk (timesUsedBy c s) ≡ true → holderFits (instances c) s ≡ true → 0 ≡ sheetRefusal (instances c) s st
+  unfolding sheetRefusal all
+  refuses-none e h = rw (e, h)
 
 -- a sheet made of fields that were read
 pub sheet-made : (s : List ℕ) (bits : ℕ) (key guid : Guid) (h : ℕ) (t u : MaybeTime) (a b first second : ℕ) (p q d l m y : Bool) (code : ℕ) (holder : Holder) →

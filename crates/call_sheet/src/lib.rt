@@ -4,15 +4,20 @@ use model::InstanceCall;
 use model::InstanceHandle;
 use model::MaybeTime;
 use model::Sheet;
+use model::TrackerCall;
 ghost use mathlib.Core.Path.{_≡_};
 ghost use mathlib.Core.Bool.{true};
 ghost use mathlib.Core.List.{[], _∷_};
 ghost use Prim.Native.Nat.{_+_, _*_, _≤_, _<_, min};
 ghost use lib.ListN.{length, take, drop};
 ghost use Rattle.model.specs.InstanceRecord.{flag, timeAt};
-ghost use Rattle.model.specs.Refusals.{optional, timesUsedBy, nanosecondsOk};
+ghost use Rattle.model.specs.declared.TrackerCall.the-variants.{Matched};
+ghost use Rattle.model.specs.Calls.{instances, tracker};
+ghost use Rattle.model.specs.Refusals.{optional, timesUsedBy, nanosecondsOk, holderUsedBy, holderFits, clocksUsedBy, kindOk, sheetRefusal};
 ghost use Rattle.model.specs.Sheets.{padded, holderOn, sheetOf};
+ghost use Rattle.model.specs.State.{State};
 ghost use Rattle.model.specs.Tables.{all};
+ghost use Rattle.model.specs.WellFormed.{clockOk};
 
 // The time from index at.
 fn read_time(s: &[u8], at: usize, present: bool) -> MaybeTime
@@ -157,5 +162,114 @@ pub fn times_ok(c: InstanceCall, s: Sheet) -> bool
         InstanceCall::ClearOwnerForWriterPrefix => true,
         InstanceCall::ReleaseOwnerOf => true,
         InstanceCall::Autopurge => nanoseconds_ok(u),
+    }
+}
+
+// A call on instances takes the holder: codes 1 and 9 in any case, code 8 by its presence bit.
+fn holder_used(c: InstanceCall, s: Sheet) -> bool
+    ensures { λ r. ⌜ r ≡ holderUsedBy c s ⌝ }
+{
+    let h = s.holder;
+    let present = h.present;
+    match c {
+        InstanceCall::Register => true,
+        InstanceCall::EnsureRegisteredLimited => false,
+        InstanceCall::Dispose => false,
+        InstanceCall::Unregister => false,
+        InstanceCall::UnregisterWriter => false,
+        InstanceCall::NoteWriter => false,
+        InstanceCall::DropWriter => false,
+        InstanceCall::ObserveLifecycle => present,
+        InstanceCall::ObserveAdmitted => true,
+        InstanceCall::NoteAdmitted => false,
+        InstanceCall::RecordDelivery => false,
+        InstanceCall::NoteTaken => false,
+        InstanceCall::MarkViewSeen => false,
+        InstanceCall::MarkViewNew => false,
+        InstanceCall::DrainSamples => false,
+        InstanceCall::AcceptUnderExclusiveOwnership => false,
+        InstanceCall::UpdateOwnerStrength => false,
+        InstanceCall::ClearOwnerForWriter => false,
+        InstanceCall::ClearOwnerForWriterPrefix => false,
+        InstanceCall::ReleaseOwnerOf => false,
+        InstanceCall::Autopurge => false,
+    }
+}
+
+// A holder that the call takes has at most 144 bytes.
+pub fn holder_fits(c: InstanceCall, s: Sheet) -> bool
+    ensures { λ r. ⌜ r ≡ holderFits (instances c) s ⌝ }
+{
+    let h = s.holder;
+    if holder_used(c, s) {
+        return h.len <= 144;
+    }
+    true
+}
+
+// The number of the refusal that the sheet of a call on instances meets, 0 for none.
+pub fn instance_refusal(c: InstanceCall, s: Sheet) -> u8
+    ensures { λ r. ⌜ ((st : State) → r ≡ sheetRefusal (instances c) s st) ⌝ }
+{
+    if !times_ok(c, s) {
+        return 4;
+    }
+    if !holder_fits(c, s) {
+        return 6;
+    }
+    0
+}
+
+// A clock below 2^62.
+pub fn clock_ok(clock: u64) -> bool
+    ensures { λ r. ⌜ r ≡ all clockOk (clock ∷ []) ⌝ }
+{
+    clock < 0x4000_0000_0000_0000
+}
+
+// The clock and the lease of a match.
+pub fn lease_ok(s: Sheet) -> bool
+    ensures { λ r. ⌜ r ≡ all clockOk (clocksUsedBy Matched s) ⌝ }
+{
+    if !clock_ok(s.a) {
+        return false;
+    }
+    if s.lease_present {
+        return clock_ok(s.b);
+    }
+    true
+}
+
+// The clocks and leases that a call on writers uses.
+pub fn clocks_ok(c: TrackerCall, s: Sheet) -> bool
+    ensures { λ r. ⌜ r ≡ all clockOk (clocksUsedBy c s) ⌝ }
+{
+    match c {
+        TrackerCall::Matched => lease_ok(s),
+        TrackerCall::Unmatched => true,
+        TrackerCall::LostWithParticipant => true,
+        TrackerCall::WriterAsserted => clock_ok(s.a),
+        TrackerCall::ParticipantAsserted => clock_ok(s.a),
+        TrackerCall::Expire => clock_ok(s.a),
+        TrackerCall::TakeLost => true,
+        TrackerCall::TakeStatus => true,
+        TrackerCall::Acknowledge => true,
+    }
+}
+
+// Kind 3 in a match is none.
+pub fn kind_ok(c: TrackerCall, s: Sheet) -> bool
+    ensures { λ r. ⌜ r ≡ kindOk (tracker c) s ⌝ }
+{
+    match c {
+        TrackerCall::Matched => s.kind != 3,
+        TrackerCall::Unmatched => true,
+        TrackerCall::LostWithParticipant => true,
+        TrackerCall::WriterAsserted => true,
+        TrackerCall::ParticipantAsserted => true,
+        TrackerCall::Expire => true,
+        TrackerCall::TakeLost => true,
+        TrackerCall::TakeStatus => true,
+        TrackerCall::Acknowledge => true,
     }
 }

@@ -1,6 +1,8 @@
 -- `call_sheet::both_ok` meets its contract. Assumes nothing.
 use mathlib.Core.Path.{sym, _∙_}
-use Rattle.call_sheet.proofs.Laws.{both-first, both-none}
+use mathlib.Core.List.{[], _∷_}
+use Rattle.model.specs.Refusals.{nanosecondsOk}
+use Rattle.call_sheet.proofs.Laws.{all-first, all-none}
 use borrow.Author.Needs.{needs}
 use Rattle.call_sheet.proofs.both_ok.Statement.{statement}
 use Rattle.call_sheet.proofs.both_ok.Tie as tie
@@ -12,10 +14,13 @@ nanoseconds-ok-requires-2 : tie.Need-nanoseconds-ok-requires-2
 nanoseconds-ok-requires-2 c κs = search needs
 
 returns : tie.Need-returns
-returns c = both-first (c .before .before .before .args .t) (c .before .before .before .args .u) _ (sym (c .before .before .nanoseconds-ok .ensures) ∙ c .before .if1 .taken) (c .nanoseconds-ok2 .ensures)
+returns c =
+    all-first nanosecondsOk (c .before .before .before .args .t) (c .before .before .before .args .u ∷ []) _ (sym (c .before .before .nanoseconds-ok .ensures) ∙ c .before .if1 .taken)
+    (c .nanoseconds-ok2 .ensures)
 
 returns-2 : tie.Need-returns-2
-returns-2 c = both-none (c .before .before .args .t) (c .before .before .args .u) (sym (c .before .nanoseconds-ok .ensures) ∙ c .if1 .left)
+returns-2 c =
+    all-none nanosecondsOk (c .before .before .args .t) (c .before .before .args .u ∷ []) (sym (c .before .nanoseconds-ok .ensures) ∙ c .if1 .left)
 
 pub both-ok-spec : {M : Type 1} → statement M
 both-ok-spec =

@@ -1,0 +1,31 @@
+-- `call_sheet::lease_ok` meets its contract. Assumes nothing.
+use mathlib.Core.Path.{sym, _∙_}
+use mathlib.Core.List.{[], _∷_}
+use borrow.Author.Tests.{not-true, not-false}
+use Rattle.model.specs.WellFormed.{clockOk}
+use Rattle.call_sheet.proofs.Laws.{all-none, all-first}
+use borrow.Author.Needs.{needs}
+use Rattle.call_sheet.proofs.lease_ok.Statement.{statement}
+use Rattle.call_sheet.proofs.lease_ok.Tie as tie
+
+clock-ok-requires : tie.Need-clock-ok-requires
+clock-ok-requires c κs = search needs
+
+returns : tie.Need-returns
+returns c = all-none clockOk (c .before .before .args .s .a) _ (sym (c .before .clock-ok .ensures) ∙ not-true _ (c .if1 .taken))
+
+clock-ok-requires-2 : tie.Need-clock-ok-requires-2
+clock-ok-requires-2 c κs = search needs
+
+returns-2 : tie.Need-returns-2
+returns-2 c =
+    rw (c .before .if2 .taken)
+    (all-first clockOk (c .before .before .before .before .args .s .a) (c .before .before .before .before .args .s .b ∷ []) _ (sym (c .before .before .before .clock-ok .ensures) ∙ not-false _ (c .before .before .if1 .left)) (c .clock-ok2 .ensures))
+
+returns-3 : tie.Need-returns-3
+returns-3 c =
+    rw (c .if2 .left) (sym (not-false _ (c .before .if1 .left)) ∙ c .before .before .clock-ok .ensures)
+
+pub lease-ok-spec : {M : Type 1} → statement M
+lease-ok-spec =
+    tie.close (tie.spec clock-ok-requires returns clock-ok-requires-2 returns-2 returns-3)
