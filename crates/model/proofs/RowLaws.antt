@@ -4,7 +4,6 @@
 --     rows-read         what was read is laid out as it was, where each record is
 --     lay-read          so is the whole buffer, where the rest is zero
 --     lay-rest          behind what was laid out all is zero
---     zeros-all         a list of zeros is one, by its test
 -- Assumes nothing.
 use mathlib.Core.Bool.{Bool, true, false, _&&_}
 use mathlib.Core.Path.{_≡_, refl, sym, ap, _∙_}
@@ -12,32 +11,16 @@ use mathlib.Core.List.{List, [], _∷_, _++_, append-assoc}
 use Prim.Native.Nat.{ℕ, zero, suc, _+_, _-_, _*_, _≤_}
 use native.Mathlib.Nat.{suc-mul, zero-mul}
 use native.Mathlib.Omega.{arith}
-use borrow.Author.Tests.{eqb-true}
-use lib.Dec.{eqb}
 use lib.ListN.{length, take, drop, replicate, length-drop, take-append-drop}
 use lib.Seq.{take-at, drop-at, take-add}
 use Rattle.octets.specs.Lay.{rows, lay, All, length-rows}
+use Rattle.octets.specs.Zeros.{allZero, allZero-zeros, zeros-allZero}
 use Rattle.model.specs.Layout.{readRows}
-use Rattle.model.specs.WellFormed.{allZero}
 
 -- both parts of a test hold
 pub both : (a b : Bool) → (a && b) ≡ true → (a ≡ true) × (b ≡ true)
 both true b e = (refl, e)
 both false b e = let z : _≡_ {A = ℕ} 0 1 = cc in absurd (omega arith)
-
-pub zeros-all : (l : List ℕ) → allZero l ≡ true → l ≡ replicate (length l) 0
-unfolding allZero
-zeros-all [] e = refl
-zeros-all (b ∷ bs) e =
-    let p : (eqb b 0 ≡ true) × (allZero bs ≡ true) = both (eqb b 0) (allZero bs) e in
-    let h : b ≡ 0 = eqb-true b 0 (p .0) in
-    let t : bs ≡ replicate (length bs) 0 = zeros-all bs (p .1) in
-    cc
-
-pub all-zeros : (n : ℕ) → allZero (replicate n 0) ≡ true
-unfolding allZero
-all-zeros zero = refl
-all-zeros (suc n) = all-zeros n
 
 pub length-read : {A : Type 0} (recordOf : List ℕ → A) (size n : ℕ) (t : List ℕ) → length (readRows recordOf size n t) ≡ n
 unfolding readRows
@@ -80,11 +63,11 @@ module _ {A : Type 0} (row : A → List ℕ) (recordOf : List ℕ → A) (size :
   unfolding lay
   lay-read n t h f z =
       let e : drop (n * size) t ≡ replicate (length t - n * size) 0 =
-      zeros-all (drop (n * size) t) z ∙ ap (λ (i : ℕ). replicate i 0) (length-drop (n * size) t) in
+      zeros-allZero (drop (n * size) t) z ∙ ap (λ (i : ℕ). replicate i 0) (length-drop (n * size) t) in
       rw (rows-read n t h f, length-read recordOf size n t, ← e) (take-append-drop (n * size) t)
 
   pub lay-rest : (n : ℕ) (xs : List A) → All Back xs → allZero (drop (length xs * size) (lay row size n xs)) ≡ true
   unfolding lay
   lay-rest n xs h =
       rw (drop-at (rows row xs) (replicate (n - length xs * size) 0) (length xs * size) (length-rows row size Back (λ x b. b .width) xs h))
-      (all-zeros (n - length xs * size))
+      (allZero-zeros (n - length xs * size))

@@ -20,13 +20,14 @@ use Rattle.octets.specs.Bounds.{Bytes}
 use Rattle.octets.specs.Lay.{rows, lay, All}
 use Rattle.octets.specs.Laws.{be-same}
 use Rattle.octets.specs.Octets.{be}
+use Rattle.octets.specs.Zeros.{allZero}
 use Rattle.model.specs.declared.Instance.{Instance}
 use Rattle.model.specs.declared.Writer.{Writer}
 use Rattle.model.specs.Guids.{guidOf, guidBytes, guidsIn}
 use Rattle.model.specs.InstanceRecord.{flagsAt, flagsOf, instanceOf, instanceBytes}
 use Rattle.model.specs.State.{Lent, State, stateOf, layOut, headOf, fresh, freshState, aliveCount, notAliveCount, instancesIn, writersIn}
 use Rattle.model.specs.Tables.{pick, all, rising}
-use Rattle.model.specs.WellFormed.{handlesDistinct, allZero, within, headOk, kindsOk, sparesOk, instancesOk, instanceTableOk, writersOk, writerTableOk, lostOk, countsOk, wellFormed, valid}
+use Rattle.model.specs.WellFormed.{handlesDistinct, within, headOk, kindsOk, sparesOk, instancesOk, instanceTableOk, writersOk, writerTableOk, lostOk, countsOk, wellFormed, valid}
 use Rattle.model.specs.WriterRecord.{writerFlagsAt, writerFlags, writerOf, writerBytes}
 use Rattle.model.proofs.Fits.{FitsGuid, FitsInstance, FitsWriter}
 use Rattle.model.proofs.FlagLaws.{flags-small, writer-apart}

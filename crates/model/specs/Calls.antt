@@ -1,25 +1,15 @@
--- The calls by name and by number. Sections 3, 4 and 5 begin with these lists.
+-- The calls by name and by number. Sections 3 ("pen calls"), 4 and 5 begin with these lists.
 use Prim.Native.Nat.{ℕ}
 use mathlib.Core.Bool.{cond}
 use mathlib.Core.List.{List, [], _∷_, map}
 use mathlib.Core.Option.{Option, none, some}
 use lib.Dec.{eqb}
-
--- section 3 ("pen calls"), in the order of their numbers
-pub data InstanceCall : Type 0 where
-  register ensureRegisteredLimited dispose unregister unregisterWriter noteWriter dropWriter : InstanceCall
-  observeLifecycle observeAdmitted noteAdmitted recordDelivery noteTaken markViewSeen markViewNew : InstanceCall
-  drainSamples acceptUnderExclusiveOwnership updateOwnerStrength clearOwnerForWriter : InstanceCall
-  clearOwnerForWriterPrefix releaseOwnerOf autopurge : InstanceCall
-
--- section 4
-pub data TrackerCall : Type 0 where
-  matched unmatched lostWithParticipant writerAsserted participantAsserted : TrackerCall
-  expire takeLost takeStatus acknowledge : TrackerCall
-
--- section 5
-pub data JoinedCall : Type 0 where
-  admit lapse part depart : JoinedCall
+pub use Rattle.model.specs.declared.InstanceCall.{InstanceCall}
+pub use Rattle.model.specs.declared.InstanceCall.the-variants.{Register as register, EnsureRegisteredLimited as ensureRegisteredLimited, Dispose as dispose, Unregister as unregister, UnregisterWriter as unregisterWriter, NoteWriter as noteWriter, DropWriter as dropWriter, ObserveLifecycle as observeLifecycle, ObserveAdmitted as observeAdmitted, NoteAdmitted as noteAdmitted, RecordDelivery as recordDelivery, NoteTaken as noteTaken, MarkViewSeen as markViewSeen, MarkViewNew as markViewNew, DrainSamples as drainSamples, AcceptUnderExclusiveOwnership as acceptUnderExclusiveOwnership, UpdateOwnerStrength as updateOwnerStrength, ClearOwnerForWriter as clearOwnerForWriter, ClearOwnerForWriterPrefix as clearOwnerForWriterPrefix, ReleaseOwnerOf as releaseOwnerOf, Autopurge as autopurge}
+pub use Rattle.model.specs.declared.TrackerCall.{TrackerCall}
+pub use Rattle.model.specs.declared.TrackerCall.the-variants.{Matched as matched, Unmatched as unmatched, LostWithParticipant as lostWithParticipant, WriterAsserted as writerAsserted, ParticipantAsserted as participantAsserted, Expire as expire, TakeLost as takeLost, TakeStatus as takeStatus, Acknowledge as acknowledge}
+pub use Rattle.model.specs.declared.JoinedCall.{JoinedCall}
+pub use Rattle.model.specs.declared.JoinedCall.the-variants.{Admit as admit, Lapse as lapse, Part as part, Depart as depart}
 
 pub data Call : Type 0 where
   instances : InstanceCall → Call

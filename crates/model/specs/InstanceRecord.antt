@@ -6,7 +6,6 @@ use lib.Dec.{eqb}
 use lib.ListN.{take, drop}
 use Rattle.octets.specs.Octets.{be}
 use Rattle.octets.specs.Patch.{fields}
-use Rattle.model.specs.declared.Guid.{Guid}
 use Rattle.model.specs.declared.MaybeTime.{MaybeTime}
 use Rattle.model.specs.declared.InstanceStateKind.{InstanceStateKind}
 use Rattle.model.specs.declared.InstanceStateKind.the-variants.{Alive, NotAliveDisposed, NotAliveNoWriters}

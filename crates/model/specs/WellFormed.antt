@@ -7,6 +7,7 @@ use lib.IntN.{ℤ, pos, negsuc, _-ℤ_}
 use lib.ListN.{length, drop}
 use lib.Signed.{leZ}
 use Rattle.octets.specs.Octets.{be}
+use Rattle.octets.specs.Zeros.{allZero}
 use Rattle.model.specs.declared.Guid.{Guid}
 use Rattle.model.specs.declared.Head.{Head}
 use Rattle.model.specs.declared.Holder.{Holder}
@@ -29,10 +30,6 @@ use Rattle.model.specs.State.{Lent, State, instanceKey, writerKey, write
 use Rattle.model.specs.Tables.{all, rising}
 use Rattle.model.specs.Times.{billion}
 use Rattle.model.specs.WriterRecord.{writerSize, writerFlagsAt, livelinessNumber}
-
-unfoldable pub allZero : List ℕ → Bool
-allZero [] = true
-allZero (b ∷ bs) = eqb b 0 && allZero bs
 
 -- ---- one instance: fields marked absent and unused bytes are zero
 

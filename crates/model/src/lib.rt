@@ -140,6 +140,52 @@ pub struct Head {
     pub changes: u64,
 }
 
+// The calls on instances, in the order of their codes 1 to 21.
+pub enum InstanceCall {
+    Register,
+    EnsureRegisteredLimited,
+    Dispose,
+    Unregister,
+    UnregisterWriter,
+    NoteWriter,
+    DropWriter,
+    ObserveLifecycle,
+    ObserveAdmitted,
+    NoteAdmitted,
+    RecordDelivery,
+    NoteTaken,
+    MarkViewSeen,
+    MarkViewNew,
+    DrainSamples,
+    AcceptUnderExclusiveOwnership,
+    UpdateOwnerStrength,
+    ClearOwnerForWriter,
+    ClearOwnerForWriterPrefix,
+    ReleaseOwnerOf,
+    Autopurge,
+}
+
+// The calls on writers, in the order of their codes 32 to 40.
+pub enum TrackerCall {
+    Matched,
+    Unmatched,
+    LostWithParticipant,
+    WriterAsserted,
+    ParticipantAsserted,
+    Expire,
+    TakeLost,
+    TakeStatus,
+    Acknowledge,
+}
+
+// The joined calls, in the order of their codes 48 to 51.
+pub enum JoinedCall {
+    Admit,
+    Lapse,
+    Part,
+    Depart,
+}
+
 // A sheet's fields as they stand, used or not. Numbers with a sign are given by their bits.
 pub struct Sheet {
     pub key: Guid,

@@ -10,7 +10,8 @@ use mir.Facts.{toZ-ofZ, sfits-widen}
 use mir.Syntax.{Width, w32, w64}
 use mir.Val.{Fits, SFits, ofZ, toZ}
 use Rattle.model.specs.Times.{raised}
-use Rattle.numbers.specs.Signs.{withinBound, raised-is}
+use Rattle.model.specs.WellFormed.{within}
+use Rattle.numbers.specs.Signs.{raised-is}
 
 pub fits-as : {w : Width} {y z : ℤ} → y ≡ z → SFits w z → SFits w y
 fits-as e f = rw e f
@@ -33,8 +34,10 @@ pub lowered : {b : ℕ} → b < 2 ^ 32 → pos (raised b) -ℤ pos (2 ^ 31) ≡ 
 lowered {b} h = ap (λ (z : ℤ). z -ℤ pos (2 ^ 31)) (sym (raised-is b h)) ∙ +ℤ-negℤ-cancel (toZ w32 b) (pos (2 ^ 31))
 
 -- the bound's two tests
-pub bound-high : {x y : ℤ} → y ≡ x → leZ (negsuc 1073741823) y ≡ true → leZ y (pos 1073741824) ≡ withinBound x
+pub bound-high : {x y : ℤ} → y ≡ x → leZ (negsuc 1073741823) y ≡ true → leZ y (pos 1073741824) ≡ within x
+unfolding within
 bound-high e t = rw (← e, t)
 
-pub bound-low : {x y : ℤ} → y ≡ x → leZ (negsuc 1073741823) y ≡ false → leZ (negsuc 1073741823) y ≡ withinBound x
+pub bound-low : {x y : ℤ} → y ≡ x → leZ (negsuc 1073741823) y ≡ false → leZ (negsuc 1073741823) y ≡ within x
+unfolding within
 bound-low e t = rw (← e, t)

@@ -1,5 +1,4 @@
 -- Numbers with a sign, and their 32 bits. Assumes nothing.
---     withinBound       between -2^30 and 2^30
 --     raised-is         raised bits are the number plus 2^31
 --     raised-raised     raised twice, bits are as they were
 --     raised-order      the order of raised bits is the order of the signed numbers
@@ -14,15 +13,12 @@ use native.Mathlib.Omega.{arith}
 use borrow.Author.Tests.{lt-ltb, le-ltb, leb-true}
 use lib.Dec.{ltb, leb}
 use lib.IntN.{ℤ, pos, negsuc, negℤ, _+ℤ_, _-ℤ_}
-use lib.Signed.{leZ, ltZ, mag}
+use lib.Signed.{ltZ, mag}
 use mir.Syntax.{w32, w64}
 use mir.Val.{SFits, toZ}
 use Rattle.model.specs.Times.{raised}
+use Rattle.model.specs.WellFormed.{within}
 use Rattle.numbers.specs.Tests.{leb-iff, lt-or-le}
-
--- between -2^30 and 2^30, as the status asks of a count less its change
-abbrev pub withinBound : ℤ → Bool
-withinBound x = leZ (negsuc 1073741823) x && leZ x (pos 1073741824)
 
 -- ---- raised bits
 
@@ -86,13 +82,14 @@ first : (x : Bool) → x && true ≡ true → x ≡ true
 first true e = refl
 first false e = e
 
-bound-mag : (x : ℤ) → withinBound x ≡ true → mag x < 2 ^ 30 + 1
+bound-mag : (x : ℤ) → within x ≡ true → mag x < 2 ^ 30 + 1
+unfolding within
 bound-mag (pos n) e = omega (arith, leb-true n 1073741824 e)
 bound-mag (negsuc n) e = omega (arith, leb-true n 1073741823 (first (leb n 1073741823) e))
 
-pub sum-fits : (x y : ℤ) → withinBound x ≡ true → SFits w32 y → SFits w64 (x +ℤ y)
+pub sum-fits : (x y : ℤ) → within x ≡ true → SFits w32 y → SFits w64 (x +ℤ y)
 sum-fits x y e f = record { sfits = omega (arith, mag-sum x y (2 ^ 30 + 1) (2 ^ 31) (bound-mag x e) (f .sfits)) }
 
-pub change-fits : (n : ℕ) (x : ℤ) → n ≤ 128 → withinBound x ≡ true → SFits w32 (pos n -ℤ x)
+pub change-fits : (n : ℕ) (x : ℤ) → n ≤ 128 → within x ≡ true → SFits w32 (pos n -ℤ x)
 change-fits n x h e =
     record { sfits = omega (arith, mag-sum (pos n) (negℤ x) 129 (2 ^ 30 + 2) (omega arith) (mag-neg x (2 ^ 30 + 1) (bound-mag x e))) }

@@ -6,7 +6,7 @@ ghost use lib.IntN.{pos, _+ℤ_, _-ℤ_};
 ghost use mir.Syntax.{w32, w64};
 ghost use mir.Val.{SFits, ofZ, toZ};
 ghost use Rattle.model.specs.Times.{raised};
-ghost use Rattle.numbers.specs.Signs.{withinBound};
+ghost use Rattle.model.specs.WellFormed.{within};
 
 // a + b, stopping at 2^32 - 1.
 pub fn saturating_add_u32(a: u32, b: u32) -> u32
@@ -87,7 +87,7 @@ pub fn acknowledged(count: u32, change: i32) -> i64
 
 // x lies within -2^30 and 2^30.
 pub fn within_bound(x: i64) -> bool
-    ensures { λ r. ⌜ r ≡ withinBound x ⌝ }
+    ensures { λ r. ⌜ r ≡ within x ⌝ }
 {
     -0x4000_0000 <= x && x <= 0x4000_0000
 }
