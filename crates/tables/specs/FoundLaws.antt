@@ -1,9 +1,10 @@
 -- Laws of the place of a key.
 --     lower-le, lower-before, lower-at     what the lower bound is
 --     lower-unique                         no other place is so
+--     StandsAt                             a key stands at a place: all before it are less
 --     InsertsAt                            a key would go in at a place: all before it are less, all from there on greater
 --     lower-found, lower-missing           what is found, from the lower bound
---     found-at, at-found                   At i says that key i is it, and is said where it is
+--     found-at, at-found                   At i says that it stands at i, and is said where key i is it
 --     found-missing, missing-found         Missing i says that it would go in at i, and is said where it would
 -- Assumes nothing.
 use mathlib.Core.Path.{_≡_, refl, sym, ap}
@@ -21,6 +22,12 @@ use Rattle.tables.specs.declared.Found.the-variants.{At, Missing}
 use Rattle.tables.specs.Keys.{rising}
 use Rattle.tables.specs.KeyLaws.{rising-pairs}
 use Rattle.tables.specs.Found.{lowerBound, foundIn}
+
+-- a key stands at place i
+pub record StandsAt (ks : List ℕ) (k i : ℕ) : Type 0 where
+  pub within : i < length ks
+  pub before : (j : ℕ) → j < i → getD ks j 0 < k
+  pub here : getD ks i 0 ≡ k
 
 -- a key would go in at place i
 pub record InsertsAt (ks : List ℕ) (k i : ℕ) : Type 0 where
@@ -90,10 +97,13 @@ found-step Q ks k y n = each (ltb p (length ks)) (eqb (getD ks p 0) k) refl refl
     each true false d e = n (λ l. eqb-false (getD ks p 0) k e)
     each false t d e = n (λ l. let h : length ks ≤ p = ltb-false p (length ks) d in absurd (omega arith))
 
-pub found-at : (ks : List ℕ) (k i : ℕ) → foundIn ks k ≡ At i → (i < length ks) × (getD ks i 0 ≡ k)
+pub found-at : (ks : List ℕ) (k i : ℕ) → foundIn ks k ≡ At i → StandsAt ks k i
 found-at ks k i =
-    found-step (λ (r : Found). r ≡ At i → (i < length ks) × (getD ks i 0 ≡ k)) ks k
-    (λ l e r. let q : lowerBound ks k ≡ i = cc in (rw q at l, rw q at e))
+    found-step (λ (r : Found). r ≡ At i → StandsAt ks k i) ks k
+    (λ l e r.
+    let q : lowerBound ks k ≡ i = cc in
+    let s : StandsAt ks k (lowerBound ks k) = record { within = l; before = lower-before ks k; here = e } in
+    rw q at s)
     (λ n r. let z : _≡_ {A = ℕ} 0 1 = cc in absurd (omega arith))
 
 pub found-missing : (ks : List ℕ) (k i : ℕ) → rising ks ≡ true → foundIn ks k ≡ Missing i → InsertsAt ks k i

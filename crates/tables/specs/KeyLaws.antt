@@ -3,6 +3,7 @@
 --     rising-snoc                    one key more
 --     rising-left                    a first part of what rises rises
 --     rising-pairs, pairs-rising     the test, and what it says of any two keys
+--     both                           both of two tests hold
 -- Assumes nothing.
 use mathlib.Core.Path.{_≡_, refl, sym, _∙_}
 use mathlib.Core.Logic.{⊎-elim}
@@ -36,7 +37,7 @@ getD-keys size (suc n) t i h =
     (eq-or-lt-of-le q)
 
 -- both of two tests hold
-both : (a b : Bool) → (a && b) ≡ true → (a ≡ true) × (b ≡ true)
+pub both : (a b : Bool) → (a && b) ≡ true → (a ≡ true) × (b ≡ true)
 both true b h = (refl, h)
 both false b h = let z : _≡_ {A = ℕ} 0 1 = cc in absurd (omega arith)
 

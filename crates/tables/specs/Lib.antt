@@ -5,3 +5,4 @@ pub mod Gaps
 pub mod KeyLaws
 pub mod FoundLaws
 pub mod GapLaws
+pub mod RecordLaws
