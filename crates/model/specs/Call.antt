@@ -1,4 +1,4 @@
--- A call: the bytes read back to records, the call's turn on records, the result laid out. One function on bytes, for
+-- A call, with section 8's order of refusals: the bytes read back to records, the call's turn on records, the result laid out. One function on bytes, for
 -- every input.
 use Prim.Native.Nat.{ℕ}
 use mathlib.Core.Bool.{cond}

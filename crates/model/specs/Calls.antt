@@ -1,4 +1,4 @@
--- The calls by name and by number. Sections 3 ("pen calls"), 4 and 5 begin with these lists.
+-- The calls by name and by number: sections 3 ("pen calls"), 4 and 5.
 use Prim.Native.Nat.{ℕ}
 use mathlib.Core.Bool.{cond}
 use mathlib.Core.List.{List, [], _∷_, map}

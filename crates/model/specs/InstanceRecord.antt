@@ -39,7 +39,7 @@ kindNumber Alive = 0
 kindNumber NotAliveDisposed = 1
 kindNumber NotAliveNoWriters = 2
 
--- ---- reading
+-- ---- reading (kind 3 reads as the last case; such a record is not well formed, `kindsOk`)
 
 -- the bit of weight w
 abbrev pub flag : ℕ → ℕ → Bool

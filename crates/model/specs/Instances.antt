@@ -1,5 +1,5 @@
--- Section 3: what each of the calls 1 to 21 does to an instance that it reaches. The section's rules stand in its order;
--- the table of the calls closes the file.
+-- Section 3: what each of the calls 1 to 21 does to an instance that it reaches, in the order of the codes; the table of the
+-- calls closes the file. Limits stand in InstanceCalls.antt, filters, order, deadline and purge delays in Times.antt.
 use Prim.Native.Nat.{ℕ, _+_, _-_, min, max}
 use mathlib.Core.Bool.{Bool, true, false, not, _&&_, _||_, cond}
 use mathlib.Core.List.{List}
@@ -376,7 +376,7 @@ effect clearOwnerForWriterPrefix s x = some (prefixCleared (s .guid) x)
 effect releaseOwnerOf s x = some (ownerCleared (s .guid) x)
 effect autopurge s x = cond (purged s x) none (some x)
 
--- ---- how each reaches: by key, by handle, or as a call on every instance. Of those by key some start an absent instance,
+-- ---- section 6: how each reaches: by key, by handle, or as a call on every instance. Of those by key some start an absent instance,
 -- two of them up to a limit. Two calls put a GUID into the writer set, and one lists the instances that it leaves
 -- writerless
 
@@ -450,7 +450,7 @@ limitedBy startingWithin = true
 limitedBy byHandle = false
 limitedBy every = false
 
--- a started instance: alive, view-new, all else zero or absent
+-- section 6: a started instance: alive, view-new, all else zero or absent
 unfoldable pub startedState : InstanceState
 startedState =
     record {

@@ -1,4 +1,4 @@
--- Section 8: the refusals that need no step of the call, as one chain in the order of their numbers; and section 2's "a
+-- Section 8: refusal 1, and 4 to 8 as one chain in the order of their numbers (2 and 3 stand in Call.antt); and section 2's "a
 -- field is used if the call takes it and its presence bit, where it has one, is set". The late ones, 9 to 13, stand with
 -- their calls.
 use Prim.Native.Nat.{ℕ, _*_}

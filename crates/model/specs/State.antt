@@ -20,7 +20,7 @@ use Rattle.model.specs.Layout.{readRows}
 use Rattle.model.specs.Tables.{pick}
 use Rattle.model.specs.WriterRecord.{writerSize, writerOf, writerBytes}
 
--- what a maker lends to a call, but for the sheet
+-- what a caller lends to a call, but for the sheet
 pub record Lent : Type 0 where
   pub head : Head
   pub pens : List ℕ
@@ -48,7 +48,7 @@ writerKey w = num (w .guid)
 
 -- ---- sizes
 
--- the number of instance places; definitions take it as a parameter
+-- the number of instance places; definitions take it as the parameter `places`
 abbrev pub instancePlaces : ℕ
 instancePlaces = 128
 
@@ -61,7 +61,7 @@ lostPlaces = 256
 abbrev pub outSize : ℕ
 outSize = 4096
 
--- ---- the classes of a writer: alive; not alive, with departed; neither
+-- ---- section 6: the classes of a writer: alive; not alive, with departed; neither
 
 pub data Class : Type 0 where
   alive notAlive neither : Class
@@ -152,7 +152,8 @@ stateOf l =
       changes = l .head .changes;
     }
 
--- ---- fresh: counts and all three changes 0, next handle 1, no last writer, buffers zero
+-- ---- fresh: counts and all three changes 0, next handle 1, no last writer, buffers zero; Out is any list, since every
+-- call is lent one of its own
 
 abbrev pub freshState : State
 freshState =

@@ -83,7 +83,7 @@ unfoldable pub instancesOk : ℕ → List Instance → Bool
 instancesOk next xs =
     rising instanceKey xs && (all instanceOk xs && (all (handleBelow next) xs && handlesDistinct xs))
 
--- kind is no 3 in any of the first n records
+-- kind, the two top bits of the flags, is no 3 in any of the first n records: 3 is from 49152 = 3 · 2^14 on
 unfoldable pub kindsOk : ℕ → List ℕ → Bool
 kindsOk zero t = true
 kindsOk (suc n) t = ltb (flagsAt t) 49152 && kindsOk n (drop instanceSize t)
@@ -121,7 +121,8 @@ writerOk w =
 unfoldable pub writersOk : List Writer → Bool
 writersOk ws = rising writerKey ws && all writerOk ws
 
--- kind is no 3, and the spare bits and bytes are zero in each of the first n records
+-- kind, the two top bits of byte 16, is no 3 (from 192 = 3 · 2^6 on), and its three spare bits and the seven unused bytes
+-- are zero, in each of the first n records
 unfoldable pub sparesOk : ℕ → List ℕ → Bool
 sparesOk zero t = true
 sparesOk (suc n) t =

@@ -40,7 +40,7 @@ stateNumbered (suc zero) = Alive
 stateNumbered (suc (suc zero)) = NotAlive
 stateNumbered (suc (suc (suc n))) = Departed
 
--- ---- reading
+-- ---- reading (kind 3 reads as the last case; such a record is not well formed, `sparesOk`)
 
 -- kind, state and lease present, in one byte at offset 16
 abbrev pub writerFlagsAt : List ℕ → ℕ

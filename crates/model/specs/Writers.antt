@@ -1,5 +1,6 @@
 -- Section 4: the calls 32 to 40. Each turns the table of writers; counts, changes and last writer follow from the classes
--- of the writers before and after ("settle", below).
+-- of the writers before and after (`movers`, `lastAfter`, and the counts of State.antt). Section 6's words on one writer
+-- are used beside section 4's names.
 use Prim.Native.Nat.{ℕ, _+_, _%_, _^_, min}
 use mathlib.Core.Bool.{Bool, true, false, not, _&&_, _||_, cond}
 use mathlib.Core.List.{List, [], _∷_, _++_, map}
@@ -83,7 +84,7 @@ abbrev pub matchedWriter : Sheet → Option Writer → Writer
 matchedWriter s none = matchedAs s Unasserted (s .a)
 matchedWriter s (some w) = matchedFrom s (w .liveliness .state) (w .liveliness .«last_assertion»)
 
--- whom an assertion covers: the named writer; at the same prefix automatic ones and, if manual, by-participant ones
+-- section 6: whom an assertion covers: the named writer; at the same prefix automatic ones and, if manual, by-participant ones
 pub record Assertion : Type 0 where
   pub guid : Guid
   pub named : Bool
@@ -106,7 +107,7 @@ isNotAlive Alive = false
 isNotAlive NotAlive = true
 isNotAlive Departed = false
 
--- it acts on a tracked writer if later than the last, or equal and not yet not alive
+-- section 6: it acts on a tracked writer if later than the last, or equal and not yet not alive
 unfoldable pub renews : Assertion → Writer → Bool
 renews a w =
     tracked w && (ltb (w .liveliness .«last_assertion») (a .clock)
@@ -230,7 +231,7 @@ guidIn w = w .guid
 unfoldable pub movers : TrackerCall → Sheet → List Writer → List Guid
 movers c s ws = map guidIn (pick (moves (writerStep c s ws)) (writersBegun c s ws))
 
--- the greatest that changed class, where one did
+-- section 6: the last writer is the greatest that changed class, where one did; movers rise, so it is their last
 unfoldable pub lastAfter : List Guid → LastWriter → LastWriter
 lastAfter [] last = last
 lastAfter (g ∷ gs) last = lastAfter gs (Is g)

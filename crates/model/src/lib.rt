@@ -1,5 +1,5 @@
-// The types that code and definitions share. Their meaning stands in specs/, one file for each section of the scope
-// document; no function stands here.
+// The types that code and definitions share. Their meaning stands in specs/, a file for each section of the scope document or
+// a part of one; no function stands here.
 //
 // Derives from instance_tracker.rs, liveliness_tracker.rs and instance_handle.rs of ZeroDDS.
 // Copyright 2026 ZeroDDS Contributors. SPDX-License-Identifier: Apache-2.0. Changed: written anew in Rattle, with the
