@@ -1,0 +1,4 @@
+-- Laws of turns.
+pub mod Finds
+pub mod Sifts
+pub mod Keys
