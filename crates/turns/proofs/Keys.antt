@@ -8,10 +8,11 @@
 --     missing-inserts, missing-le, missing-nowhere, missing-put
 --     rising-put, rising-sift              the keys go on rising
 --     all-put                              what holds of all still does
---     distinct-ne, only-handle             of instances with distinct handles at most one has a handle
+--     distinct-ne, pairs-distinct          handles that are distinct, by places
+--     only-handle                          of instances with distinct handles at most one has a handle
 -- Assumes nothing.
 use Prim.Native.Nat.{ℕ, zero, suc, _≤_, _<_}
-use mathlib.Core.Bool.{true, _&&_}
+use mathlib.Core.Bool.{true, not, _&&_}
 use mathlib.Core.List.{List, [], _∷_, _++_, map}
 use mathlib.Core.Logic.{_≢_, ⊎-elim}
 use mathlib.Core.Option.{Option, none, some}
@@ -31,7 +32,7 @@ use Rattle.tables.specs.KeyLaws.{rising-pairs}
 use Rattle.tables.specs.Found.{foundIn}
 use Rattle.tables.specs.FoundLaws.{InsertsAt, found-at, found-missing}
 use Rattle.turns.specs.Places.{keyed, handleOf, Only, Nowhere}
-use Rattle.turns.proofs.Finds.{both, bool-iff, split, lt-or-le, all-at}
+use Rattle.turns.proofs.Finds.{both, bool-iff, split, lt-or-le, all-at, at-all}
 
 module _ {A : Type 0} (key : A → ℕ) where
   -- ---- the test
@@ -231,6 +232,14 @@ module _ (d : Instance) where
       (all-at (otherHandle (x .handle .0)) xs d (both (all (otherHandle (x .handle .0)) xs) (handlesDistinct xs) h .0) j (omega arith)))
   distinct-ne (x ∷ xs) h (suc i) (suc j) l m =
       distinct-ne xs (both (all (otherHandle (x .handle .0)) xs) (handlesDistinct xs) h .1) i j (omega arith) (omega arith)
+
+  pub pairs-distinct : (xs : List Instance) → ((i j : ℕ) → i < j → j < length xs → getD xs j d .handle .0 ≢ getD xs i d .handle .0) → handlesDistinct xs ≡ true
+  unfolding handlesDistinct
+  pairs-distinct [] h = refl
+  pairs-distinct (x ∷ xs) h =
+      rw (at-all (otherHandle (x .handle .0)) xs d
+      (λ j l. ap not (ne-eqb (getD xs j d .handle .0) (x .handle .0) (h zero (suc j) (omega arith) (omega arith)))))
+      (pairs-distinct xs (λ i j l m. h (suc i) (suc j) (omega arith) (omega arith)))
 
   pub only-handle : (xs : List Instance) → handlesDistinct xs ≡ true → (i k : ℕ) → i < length xs → getD xs i d .handle .0 ≡ k → Only (keyed handleOf k) xs i d
   only-handle xs h i k l e =
