@@ -2,3 +2,5 @@
 pub mod Rows
 pub mod Handles
 pub mod Finding
+pub mod Records
+pub mod LaidOut

@@ -9,10 +9,11 @@ use model::Guid;
 use model::InstanceHandle;
 use tables::Found;
 ghost use mathlib.Core.Bool.{true, _&&_};
-ghost use mathlib.Core.List.{map};
+ghost use mathlib.Core.List.{List, map};
 ghost use mathlib.Core.Path.{_≡_};
-ghost use Prim.Native.Nat.{_+_, _*_, _≤_, _<_};
-ghost use lib.ListN.{length};
+ghost use Prim.Native.Nat.{ℕ, _+_, _*_, _≤_, _<_};
+ghost use lib.ListN.{length, take};
+ghost use Rattle.model.specs.declared.Instance.{Instance};
 ghost use Rattle.model.specs.Guids.{num};
 ghost use Rattle.model.specs.Instances.{hasHandle};
 ghost use Rattle.model.specs.Reads.{usedIn, tableOk};
@@ -21,7 +22,7 @@ ghost use Rattle.model.specs.Tables.{all, rising};
 ghost use Rattle.model.specs.WellFormed.{otherHandle, handleBelow, handlesDistinct, instanceTableOk};
 ghost use Rattle.tables.specs.Found.{foundIn};
 ghost use Rattle.turns.specs.Places.{placeOf};
-ghost use Rattle.instance_table.specs.Laid.{handleAt};
+ghost use Rattle.instance_table.specs.Laid.{handleAt, Laid};
 
 // ---- well-formedness
 
@@ -116,4 +117,14 @@ pub fn find_handle(t: &[u8], count: usize, h: InstanceHandle) -> usize
         i += 1;
     }
     i
+}
+
+// ---- the table changes
+
+// Of the first count instances only the first kept stay: the places behind them are cleared.
+pub fn truncate(t: &mut [u8], kept: usize, count: usize)
+    requires { ⌜ (kept ≤ count) × (count * 512 ≤ length (now t)) ⌝ }
+    ensures { λ _. ⌜ ((places : ℕ) (xs : List Instance) → Laid places xs (now (t .entry)) → length xs ≡ count → Laid places (take kept xs) (now (t .exit))) ⌝ }
+{
+    octets::clear(t, kept * 512, (count - kept) * 512);
 }
