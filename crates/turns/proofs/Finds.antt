@@ -9,7 +9,7 @@
 --     pick-append, pick-take, pick-more              pick, a record more
 --     place-le, place-before, place-at               what `placeOf` is
 --     place-unique, find-place, noplace              no other place is so; what is found is there
---     only-insert                                    p holds of a record put in alone
+--     only-insert, only-set, find-set                p holds of a record put in, or replaced, alone
 -- Assumes nothing.
 use Prim.Native.Nat.{ℕ, zero, suc, _+_, _-_, _≤_, _<_}
 use mathlib.Core.Bool.{Bool, true, false, _&&_, cond, and-assoc}
@@ -20,8 +20,8 @@ use mathlib.Core.Path.{_≡_, refl, sym, ap, _∙_}
 use native.Mathlib.Nat.{eq-or-lt-of-le}
 use native.Mathlib.Numerals.{add-one}
 use native.Mathlib.Omega.{arith}
-use lib.ListN.{length, getD, take, drop, length-append, length-drop, List·getD-append}
-use lib.Seq.{take-suc, getD-at, length-take-le, getD-take, getD-drop, getD-append-add}
+use lib.ListN.{length, getD, take, drop, length-append, length-drop, List·getD-append, set, length-set}
+use lib.Seq.{getD-set-same, getD-set-other, take-suc, getD-at, length-take-le, getD-take, getD-drop, getD-append-add}
 use Rattle.model.specs.Tables.{isSome, find, pick, all, any}
 use Rattle.turns.specs.Places.{placeOf, Only, Nowhere}
 
@@ -225,3 +225,15 @@ module _ {A : Type 0} (p : A → Bool) where
           ap (λ (n : ℕ). getD (take i xs ++ y ∷ drop i xs) n d) (sym q)
           ∙ getD-append-add (take i xs) (y ∷ drop i xs) (suc b) d ∙ getD-drop i xs b d in
           rw o (n (i + b) (omega (arith, length-append (take i xs) (y ∷ drop i xs), length-take-le i xs l, length-drop i xs, i-lt j e k)))
+
+  -- the record of which p holds alone, replaced by one of which it holds too
+  pub only-set : (xs : List A) (y d : A) (i : ℕ) → Only p xs i d → p y ≡ true → Only p (set xs i y) i d
+  only-set xs y d i o h =
+      record {
+        within = omega (arith, length-set xs i y, o .within);
+        here = rw (getD-set-same xs i y d (o .within)) h;
+        elsewhere = λ j l n. rw (getD-set-other xs i j y d n) (o .elsewhere j (omega (arith, length-set xs i y)) n);
+      }
+
+  pub find-set : (xs : List A) (y d : A) (i : ℕ) → Only p xs i d → p y ≡ true → find p (set xs i y) ≡ some y
+  find-set xs y d i o h = find-only d (set xs i y) i (only-set xs y d i o h) ∙ ap some (getD-set-same xs i y d (o .within))

@@ -6,13 +6,14 @@
 --     put-set, put-insert                  put is a `set` at its key's place, or an insert where it would go in
 --     found-key, found-only, found-put                        the same, from what was found
 --     missing-inserts, missing-le, missing-nowhere, missing-put
+--     missing-only, missing-sift           a record put in and then changed
 --     rising-put, rising-sift              the keys go on rising
 --     all-put                              what holds of all still does
 --     distinct-ne, pairs-distinct          handles that are distinct, by places
 --     only-handle                          of instances with distinct handles at most one has a handle
 -- Assumes nothing.
 use Prim.Native.Nat.{ℕ, zero, suc, _≤_, _<_}
-use mathlib.Core.Bool.{true, not, _&&_}
+use mathlib.Core.Bool.{true, false, not, _&&_}
 use mathlib.Core.List.{List, [], _∷_, _++_, map}
 use mathlib.Core.Logic.{_≢_, ⊎-elim}
 use mathlib.Core.Option.{Option, none, some}
@@ -22,6 +23,7 @@ use native.Mathlib.Omega.{arith}
 use borrow.Author.Tests.{lt-ltb, le-ltb, ltb-true, ltb-false, eq-eqb, ne-eqb, eqb-true, eqb-false, not-true}
 use lib.Dec.{ltb, eqb}
 use lib.ListN.{length, getD, take, drop, set, length-map}
+use lib.Seq.{length-take-le, getD-at, set-at}
 use Rattle.octets.specs.Lay.{All}
 use Rattle.model.specs.declared.Instance.{Instance}
 use Rattle.model.specs.Tables.{all, put, above, rising, sift, kept}
@@ -32,7 +34,8 @@ use Rattle.tables.specs.KeyLaws.{rising-pairs}
 use Rattle.tables.specs.Found.{foundIn}
 use Rattle.tables.specs.FoundLaws.{InsertsAt, found-at, found-missing}
 use Rattle.turns.specs.Places.{keyed, handleOf, Only, Nowhere}
-use Rattle.turns.proofs.Finds.{both, bool-iff, split, lt-or-le, all-at, at-all}
+use Rattle.turns.proofs.Finds.{both, bool-iff, split, lt-or-le, all-at, at-all, only-insert}
+use Rattle.turns.proofs.Sifts.{sift-only}
 
 module _ {A : Type 0} (key : A → ℕ) where
   -- ---- the test
@@ -162,6 +165,19 @@ module _ {A : Type 0} (key : A → ℕ) where
 
     pub missing-put : (y : A) → key y ≡ k → foundIn (map key xs) k ≡ Missing i → put key y xs ≡ take i xs ++ y ∷ drop i xs
     missing-put y e f = put-insert xs y i (rw e (missing-inserts f))
+
+    -- a record put in, and each taken through a function that acts on its key alone
+    module _ (f : A → Option A) (acts : (x : A) → keyed key k x ≡ false → f x ≡ some x) (m : foundIn (map key xs) k ≡ Missing i) (y : A) (e : key y ≡ k) where
+      pub missing-only : Only (keyed key k) (put key y xs) i d
+      missing-only =
+          rw (missing-put y e m) (only-insert (keyed key k) xs y d i (missing-le m) (missing-nowhere m) (eq-eqb (key y) k e))
+
+      pub missing-sift : (z : A) → f y ≡ some z → sift f (put key y xs) ≡ take i xs ++ z ∷ drop i xs
+      missing-sift z g =
+          let n : length (take i xs) ≡ i = length-take-le i xs (missing-le m) in
+          let w : getD (put key y xs) i d ≡ y = rw (missing-put y e m) (getD-at (take i xs) y (drop i xs) d i n) in
+          sift-only f d (keyed key k) acts (put key y xs) i z missing-only (rw w g)
+          ∙ rw (missing-put y e m) (set-at (take i xs) y (drop i xs) z i n)
 
   -- ---- the keys go on rising
 

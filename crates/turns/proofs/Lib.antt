@@ -2,3 +2,4 @@
 pub mod Finds
 pub mod Sifts
 pub mod Keys
+pub mod Passes

@@ -1,13 +1,14 @@
 -- Records of a list by their places. Assumes nothing.
 use Prim.Native.Nat.{ℕ, zero, suc, _<_}
 use mathlib.Core.Bool.{Bool, true, false, cond}
-use mathlib.Core.List.{List, [], _∷_}
+use mathlib.Core.List.{List, [], _∷_, _++_}
 use mathlib.Core.Logic.{_≢_}
 use mathlib.Core.Option.{Option, none, some}
 use mathlib.Core.Path.{_≡_}
 use lib.Dec.{eqb}
-use lib.ListN.{length, getD}
+use lib.ListN.{length, getD, take, drop}
 use Rattle.model.specs.declared.Instance.{Instance}
+use Rattle.model.specs.Tables.{sift}
 
 abbrev pub handleOf : Instance → ℕ
 handleOf x = x .handle .0
@@ -40,3 +41,11 @@ module _ {A : Type 0} where
   -- p holds of no record
   abbrev pub Nowhere : (A → Bool) → List A → A → Type 0
   Nowhere p xs d = (j : ℕ) → j < length xs → p (getD xs j d) ≡ false
+
+  -- how many of the first i records survive f
+  abbrev pub survivors : (A → Option A) → List A → ℕ → ℕ
+  survivors f xs i = length (sift f (take i xs))
+
+  -- a pass midway: what f left of the first i records, and behind it the records as they were
+  unfoldable pub midway : (A → Option A) → List A → ℕ → List A
+  midway f xs i = sift f (take i xs) ++ drop (survivors f xs i) xs
