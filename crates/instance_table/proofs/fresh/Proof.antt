@@ -1,0 +1,63 @@
+-- `fresh` meets its contract: none that was passed has the handle. Assumes nothing.
+use Prim.Native.Nat.{ℕ, _-_, _≤_, _<_}
+use mathlib.Core.Logic.{_≢_}
+use mathlib.Core.Path.{sym, _∙_}
+use native.Mathlib.Omega.{arith}
+use borrow.Author.Count.{below-more}
+use Rattle.instance_table.specs.Laid.{handleAt}
+use Rattle.instance_table.proofs.Handles.{others-all, others-not}
+use Rattle.instance_table.proofs.fresh.Statement.{statement}
+use Rattle.instance_table.proofs.fresh.Tie as tie
+
+abbrev Inv-loop : tie.InvT-loop
+Inv-loop t n h flag j₀ j = (j ≤ n) × ((i : ℕ) → i < j → handleAt t i ≢ h)
+
+abbrev μ-loop : tie.MeasureT-loop
+μ-loop t n h flag j₀ j = n - j
+
+returns : tie.Need-returns Inv-loop μ-loop
+returns c = sym (c .before .before .pre .1 (c .if1 .taken))
+
+loop-holds : tie.Need-loop-holds Inv-loop μ-loop
+loop-holds c = (omega arith, (λ i l. absurd (omega arith)))
+
+number-at-requires : tie.Need-number-at-requires Inv-loop μ-loop
+number-at-requires c κs = omega arith
+
+returns-2 : tie.Need-returns-2 Inv-loop μ-loop
+returns-2 c =
+    let a = c .before .before .before .before .before .before .args in
+    let l = c .before .before .before .loop in
+    sym (others-not (a .t .now) (a .n) (a .h) (l .j) (omega arith) (sym (c .before .number-at .ensures) ∙ c .if2 .taken))
+
+add-j : tie.Need-add-j Inv-loop μ-loop
+add-j c = omega arith
+
+loop-less : tie.Need-loop-less Inv-loop μ-loop
+loop-less c = omega arith
+
+loop-again : tie.Need-loop-again Inv-loop μ-loop
+loop-again c =
+    let l = c .before .before .before .loop in
+    (omega arith, below-more _ _ (l .inv .1) (λ e. c .if2 .left (c .before .number-at .ensures ∙ e)))
+
+returns-3 : tie.Need-returns-3 Inv-loop μ-loop
+returns-3 c =
+    let a = c .before .before .before .before .args in
+    let l = c .before .loop in
+    sym (others-all (a .t .now) (a .n) (a .h) (λ i m. l .inv .1 i (omega arith)))
+
+pub fresh-spec : {M : Type 1} → statement M
+fresh-spec =
+    tie.close
+    (tie.spec
+    Inv-loop
+    μ-loop
+    returns
+    loop-holds
+    number-at-requires
+    returns-2
+    add-j
+    loop-less
+    loop-again
+    returns-3)

@@ -1,0 +1,90 @@
+-- `handles_ok` meets its contract: the handles passed are as they should be, and the flags of their remainders are set.
+-- Assumes nothing.
+use Prim.Native.Nat.{_-_, _≤_}
+use mathlib.Core.Path.{_≡_, sym, _∙_}
+use native.Mathlib.Omega.{arith}
+use borrow.Author.Tests.{not-true, not-false}
+use Rattle.instance_table.proofs.Handles.{Met, met-start, met-tells, met-turn, met-end, low-end, high-end, used-end}
+use Rattle.instance_table.proofs.handles_ok.Statement.{statement}
+use Rattle.instance_table.proofs.handles_ok.Tie as tie
+
+abbrev Inv-loop : tie.InvT-loop
+Inv-loop t count next met₀ i₀ met i = (i ≤ count) × Met t next i met
+
+abbrev μ-loop : tie.MeasureT-loop
+μ-loop t count next met₀ i₀ met i = count - i
+
+loop-holds : tie.Need-loop-holds Inv-loop μ-loop
+loop-holds c = (omega arith, met-start (c .before .args .t .now) (c .before .args .next))
+
+number-at-requires : tie.Need-number-at-requires Inv-loop μ-loop
+number-at-requires c κs = omega arith
+
+returns : tie.Need-returns Inv-loop μ-loop
+returns c =
+    let a = c .before .before .before .before .before .args in
+    let l = c .before .before .before .loop in
+    low-end (a .t .now) (a .next) (a .count) (l .i) (omega arith) (sym (c .before .number-at .ensures) ∙ c .if1 .taken)
+
+returns-2 : tie.Need-returns-2 Inv-loop μ-loop
+returns-2 c =
+    let a = c .before .before .before .before .before .before .args in
+    let l = c .before .before .before .before .loop in
+    high-end (a .t .now) (a .next) (a .count) (l .i) (omega arith) (omega (arith, c .before .before .number-at .ensures))
+
+array-read-fresh : tie.Need-array-read-fresh Inv-loop μ-loop
+array-read-fresh c = omega arith
+
+fresh-requires : tie.Need-fresh-requires Inv-loop μ-loop
+fresh-requires c κs = (omega arith, met-tells (c .before .before .before .before .loop .inv .1) (c .before .before .number-at .result))
+
+returns-3 : tie.Need-returns-3 Inv-loop μ-loop
+returns-3 c =
+    let a = c .before .before .before .before .before .before .before .before .args in
+    let l = c .before .before .before .before .before .before .loop in
+    used-end (a .t .now) (a .next) (a .count) (l .i) (omega arith)
+    (rw (← c .before .before .before .before .number-at .ensures) (sym (c .before .fresh .ensures) ∙ not-true _ (c .if3 .taken)))
+
+array-write-met : tie.Need-array-write-met Inv-loop μ-loop
+array-write-met c = omega arith
+
+add-i : tie.Need-add-i Inv-loop μ-loop
+add-i c = omega arith
+
+loop-less : tie.Need-loop-less Inv-loop μ-loop
+loop-less c = omega arith
+
+loop-again : tie.Need-loop-again Inv-loop μ-loop
+loop-again c =
+    let l = c .before .before .before .before .before .before .loop in
+    let n = c .before .before .before .before .number-at in (
+      omega arith,
+      met-turn (l .inv .1) (n .result) (n .ensures) (c .before .before .before .if1 .left) (c .before .before .if2 .left)
+          (sym (c .before .fresh .ensures) ∙ not-false _ (c .if3 .left)),
+    )
+
+returns-4 : tie.Need-returns-4 Inv-loop μ-loop
+returns-4 c =
+    let a = c .before .before .before .args in
+    let l = c .before .loop in
+    let e : l .i ≡ a .count = omega arith in
+    met-end (a .t .now) (a .next) (a .count) (l .met) (rw e at (l .inv .1))
+
+pub handles-ok-spec : {M : Type 1} → statement M
+handles-ok-spec =
+    tie.close
+    (tie.spec
+    Inv-loop
+    μ-loop
+    loop-holds
+    number-at-requires
+    returns
+    returns-2
+    array-read-fresh
+    fresh-requires
+    returns-3
+    array-write-met
+    add-i
+    loop-less
+    loop-again
+    returns-4)

@@ -1,0 +1,130 @@
+// The instance table in the lent bytes: its well-formedness, where an instance stands, and an instance replaced, put in and
+// the last ones taken out. The number of places is a parameter.
+// Rests on octets, model, tables, instance_record and turns.
+//
+// Derives from instance_tracker.rs of ZeroDDS.
+// Copyright 2026 ZeroDDS Contributors. SPDX-License-Identifier: Apache-2.0. Changed: written anew in Rattle, with the map of
+// instances as a table of records in lent bytes.
+use model::Guid;
+use model::InstanceHandle;
+use tables::Found;
+ghost use mathlib.Core.Bool.{true, _&&_};
+ghost use mathlib.Core.List.{List, map};
+ghost use mathlib.Core.Path.{_≡_};
+ghost use Prim.Native.Nat.{ℕ, _+_, _*_, _≤_, _<_};
+ghost use lib.ListN.{length, take};
+ghost use Rattle.model.specs.declared.Instance.{Instance};
+ghost use Rattle.model.specs.Guids.{num};
+ghost use Rattle.model.specs.Instances.{hasHandle};
+ghost use Rattle.model.specs.Reads.{usedIn, tableOk};
+ghost use Rattle.model.specs.State.{instanceKey, instancesIn};
+ghost use Rattle.model.specs.Tables.{all, rising};
+ghost use Rattle.model.specs.WellFormed.{otherHandle, handleBelow, handlesDistinct, instanceTableOk};
+ghost use Rattle.tables.specs.Found.{foundIn};
+ghost use Rattle.turns.specs.Places.{placeOf};
+ghost use Rattle.instance_table.specs.Laid.{handleAt, Laid};
+
+// ---- well-formedness
+
+// The handle of record i, as a number.
+fn number_at(t: &[u8], i: usize) -> u64
+    requires { ⌜ i * 512 + 512 ≤ length (now t) ⌝ }
+    ensures { λ r. ⌜ r ≡ handleAt (now (t .entry)) i ⌝ }
+{
+    octets::get_u64(t, i * 512 + 16)
+}
+
+// Whether none of the first n instances has the handle h. A flag of 0 says so already.
+fn fresh(t: &[u8], n: usize, h: u64, flag: u8) -> bool
+    requires { ⌜ (n * 512 ≤ length (now t)) × (flag ≡ 0 → all (otherHandle h) (instancesIn n (now t)) ≡ true) ⌝ }
+    ensures { λ r. ⌜ r ≡ all (otherHandle h) (instancesIn n (now (t .entry))) ⌝ }
+{
+    if flag == 0 {
+        return true;
+    }
+    let mut j = 0;
+    while j < n {
+        if number_at(t, j) == h {
+            return false;
+        }
+        j += 1;
+    }
+    true
+}
+
+// Whether the handles of the first count instances are from 1 to below next, and distinct. A handle that differs modulo
+// 1,024 from all before it needs no comparison.
+fn handles_ok(t: &[u8], count: usize, next: u64) -> bool
+    requires { ⌜ count * 512 ≤ length (now t) ⌝ }
+    ensures { λ r. ⌜ r ≡ (all (handleBelow next) (instancesIn count (now (t .entry))) && handlesDistinct (instancesIn count (now (t .entry)))) ⌝ }
+{
+    let mut met = [0u8; 1024];
+    let mut i = 0;
+    while i < count {
+        let h = number_at(t, i);
+        if h == 0 {
+            return false;
+        }
+        if next <= h {
+            return false;
+        }
+        let r = (h % 1024) as usize;
+        if !fresh(t, i, h, met[r]) {
+            return false;
+        }
+        met[r] = 1;
+        i += 1;
+    }
+    true
+}
+
+// How many records stand before the first whose handle is 0.
+pub fn used(t: &[u8], places: usize) -> usize
+    requires { ⌜ length (now t) ≡ places * 512 ⌝ }
+    ensures { λ r. ⌜ r ≡ usedIn places (now (t .entry)) ⌝ }
+{
+    let mut i = 0;
+    while i < places {
+        if number_at(t, i) == 0 {
+            return i;
+        }
+        i += 1;
+    }
+    i
+}
+
+// ---- where an instance stands
+
+// The place of the key among the first count instances, or the place where its instance would go in.
+pub fn find_key(t: &[u8], count: usize, key: Guid) -> Found
+    requires { ⌜ (count * 512 ≤ length (now t)) × (rising instanceKey (instancesIn count (now t)) ≡ true) ⌝ }
+    ensures { λ r. ⌜ r ≡ foundIn (map instanceKey (instancesIn count (now (t .entry)))) (num key) ⌝ }
+{
+    tables::find(t, 512, count, key)
+}
+
+// The place of the first of count instances that has the handle, count where none has it.
+pub fn find_handle(t: &[u8], count: usize, h: InstanceHandle) -> usize
+    requires { ⌜ count * 512 ≤ length (now t) ⌝ }
+    ensures { λ r. ⌜ r ≡ placeOf (hasHandle h) (instancesIn count (now (t .entry))) ⌝ }
+{
+    let n = h.0;
+    let mut i = 0;
+    while i < count {
+        if number_at(t, i) == n {
+            return i;
+        }
+        i += 1;
+    }
+    i
+}
+
+// ---- the table changes
+
+// Of the first count instances only the first kept stay: the places behind them are cleared.
+pub fn truncate(t: &mut [u8], kept: usize, count: usize)
+    requires { ⌜ (kept ≤ count) × (count * 512 ≤ length (now t)) ⌝ }
+    ensures { λ _. ⌜ ((places : ℕ) (xs : List Instance) → Laid places xs (now (t .entry)) → length xs ≡ count → Laid places (take kept xs) (now (t .exit))) ⌝ }
+{
+    octets::clear(t, kept * 512, (count - kept) * 512);
+}

@@ -1,0 +1,5 @@
+-- Laws of turns.
+pub mod Finds
+pub mod Sifts
+pub mod Keys
+pub mod Passes
