@@ -145,8 +145,8 @@ module _ {A : Type 0} (key : A → ℕ) where
     pub found-key : foundIn (map key xs) k ≡ At i → (i < length xs) × (key (getD xs i d) ≡ k)
     found-key f =
         let p = found-at (map key xs) k i f in
-        let l : i < length xs = omega (arith, p .0, length-map xs key) in
-        (l, sym (get-key xs i d l) ∙ p .1)
+        let l : i < length xs = omega (arith, p .within, length-map xs key) in
+        (l, sym (get-key xs i d l) ∙ p .here)
 
     pub found-only : foundIn (map key xs) k ≡ At i → Only (keyed key k) xs i d
     found-only f = only-key xs d r i k (found-key f .0) (found-key f .1)
