@@ -1,1 +1,6 @@
+//! The Rust as the judge: runs generated lists through the reading of 01 and
+//! through the Rust, and compares every answer and the whole state.
 
+pub mod compare;
+
+pub use compare::{Tally, against_the_rust, reading_alone};

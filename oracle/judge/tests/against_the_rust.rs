@@ -1,1 +1,39 @@
-fn main(){}
+//! A million calls of the reading of 01 against the Rust, and each deliberate
+//! misreading caught. Without a harness, so that what was run, or skipped, is
+//! always said.
+
+use std::process::ExitCode;
+use std::time::Instant;
+
+use judge::against_the_rust;
+use reading::Misreading;
+
+const CALLS: u64 = 1_000_000;
+
+fn main() -> ExitCode {
+    if !original::PRESENT {
+        println!(
+            "SKIPPED: the comparison with the Rust. No sources of ZeroDDS in {} (set ZERO_DDS_SRC).",
+            original::DIRECTORY
+        );
+        return ExitCode::SUCCESS;
+    }
+    let begun = Instant::now();
+    match against_the_rust(1.., CALLS, None) {
+        Ok(tally) => println!("the reading and the Rust agree: {tally:?}, {:?}", begun.elapsed()),
+        Err(disagreement) => {
+            println!("the reading and the Rust differ: {disagreement:#?}");
+            return ExitCode::FAILURE;
+        }
+    }
+    for misreading in Misreading::ALL {
+        match against_the_rust(1.., CALLS, Some(misreading)) {
+            Ok(_) => {
+                println!("NOT CAUGHT: {misreading:?}");
+                return ExitCode::FAILURE;
+            }
+            Err(d) => println!("caught: {misreading:?} at list {}, call {}", d.seed, d.call),
+        }
+    }
+    ExitCode::SUCCESS
+}

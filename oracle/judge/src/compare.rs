@@ -1,0 +1,153 @@
+//! One list through the reading and, where it is at hand, the Rust.
+
+use lists::damage::Clause;
+use lists::{Book, Generator, Step};
+use original::Original;
+use reading::layout::{LOST_BYTES, PENS_BYTES, WRITERS_BYTES};
+use reading::{Answer, Misreading, Sheet, State, call_as};
+
+/// What was run.
+#[derive(Debug, Default, Clone, Copy)]
+pub struct Tally {
+    pub lists: u64,
+    pub calls: u64,
+    pub accepted: u64,
+    /// Refusals 9 to 13 that the Rust's own result confirmed.
+    pub without_place: u64,
+}
+
+/// Where two readings part.
+#[derive(Debug)]
+pub struct Disagreement {
+    pub seed: u64,
+    pub call: usize,
+    pub code: Option<u8>,
+    pub what: String,
+}
+
+/// Runs the lists of `seeds` until `calls` calls are done.
+pub fn against_the_rust(
+    seeds: impl Iterator<Item = u64>,
+    calls: u64,
+    misreading: Option<Misreading>,
+) -> Result<Tally, Disagreement> {
+    let mut tally = Tally::default();
+    let mut scratch = Book::fresh();
+    for seed in seeds {
+        if tally.calls >= calls {
+            break;
+        }
+        one_list(seed, misreading, &mut tally, &mut scratch)?;
+    }
+    Ok(tally)
+}
+
+fn one_list(
+    seed: u64,
+    misreading: Option<Misreading>,
+    tally: &mut Tally,
+    scratch: &mut Book,
+) -> Result<(), Disagreement> {
+    let (mut generator, start) = Generator::new(seed);
+    let mut book = Book::of_state(&start);
+    let mut rust = Original::at(&start);
+    let mut state = start;
+    tally.lists += 1;
+    for call in 0..generator.length() {
+        let step = generator.next(&state);
+        let disagree =
+            |what: String| Disagreement { seed, call, code: step.code(), what };
+        let (answer, out) =
+            book.step(&step, |head, sheet, lent| call_as(head, sheet, lent, misreading));
+        tally.calls += 1;
+        tally.accepted += u64::from(answer.number == 0);
+        if step.damages() && !matches!(answer.number, 1..=3) {
+            return Err(disagree(format!("damage {:?} met {}", step.damage, answer.number)));
+        }
+        if let Some(rust) = &mut rust {
+            let told = judged(rust, &state, &step, &answer, &out);
+            told.and_then(|()| same_state(rust, &book, scratch)).map_err(disagree)?;
+            tally.without_place += u64::from(answer.number >= 9);
+        }
+        state = book.state().ok_or_else(|| disagree("not well formed after it".into()))?;
+    }
+    Ok(())
+}
+
+/// Runs the Rust for an accepted call and compares answer and Out; for one
+/// refused as 9 to 13, sees that the Rust's result has no place.
+fn judged(
+    rust: &mut Original,
+    before: &State,
+    step: &Step,
+    answer: &Answer,
+    out: &[u8],
+) -> Result<(), String> {
+    let mut expected_out = vec![step.fill; step.lengths.out];
+    if (1..=8).contains(&answer.number) {
+        return same("Out of a refused call", &expected_out.as_slice(), &out);
+    }
+    let sheet = Sheet::of(&step.sheet).ok_or("a sheet of another length was accepted")?;
+    let expected = match rust.call(sheet) {
+        Ok((answer, listed)) => {
+            expected_out[..listed.len()].copy_from_slice(&listed);
+            answer
+        }
+        Err(number) => {
+            *rust = Original::at(before).ok_or("the Rust is gone")?;
+            Answer::refused(number)
+        }
+    };
+    same("answer", &expected, answer)?;
+    same("Out", &expected_out.as_slice(), &out)
+}
+
+fn same<T: PartialEq + std::fmt::Debug>(what: &str, rust: &T, reading: &T) -> Result<(), String> {
+    if rust == reading {
+        Ok(())
+    } else {
+        Err(format!("{what}: the Rust has {rust:?}, the reading {reading:?}"))
+    }
+}
+
+/// Lays the Rust's state out and compares head and all buffers.
+fn same_state(rust: &Original, book: &Book, scratch: &mut Book) -> Result<(), String> {
+    let state = rust.state();
+    state.write(
+        &mut scratch.head,
+        &mut scratch.pens[..PENS_BYTES],
+        &mut scratch.writers[..WRITERS_BYTES],
+        &mut scratch.lost[..LOST_BYTES],
+    );
+    same("head", &scratch.head, &book.head)?;
+    if scratch.pens != book.pens || scratch.writers != book.writers || scratch.lost != book.lost {
+        let seen = book.state();
+        return Err(format!("buffers: the Rust has {state:?}, the reading {seen:?}"));
+    }
+    if !rust.maps_agree() {
+        return Err("the Rust's map from handles is not the inverse of its map from keys".into());
+    }
+    Ok(())
+}
+
+/// Runs lists through the reading alone and counts how often each clause was
+/// damaged on a state that had something to damage for it.
+pub fn reading_alone(seeds: impl Iterator<Item = u64>) -> Result<Vec<(Clause, u64)>, String> {
+    let mut counts: Vec<(Clause, u64)> = Clause::all().into_iter().map(|c| (c, 0)).collect();
+    for seed in seeds {
+        let mut rng = lists::rng::Rng::new(seed);
+        let (_, state) = Generator::new(seed);
+        let mut book = Book::of_state(&state);
+        for (clause, count) in &mut counts {
+            let mut step = Step::of(lists::fill::Filled::code(39).0);
+            if lists::damage::one(&mut rng, &state, *clause, &mut step) {
+                let (answer, _) = book.step(&step, reading::call);
+                if answer != Answer::refused(3) {
+                    return Err(format!("seed {seed}: damage to {clause:?} met {answer:?}"));
+                }
+                *count += 1;
+            }
+        }
+    }
+    Ok(counts)
+}
