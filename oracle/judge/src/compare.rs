@@ -1,6 +1,7 @@
 //! One list through the reading and, where it is at hand, the Rust.
 
 use lists::damage::Clause;
+use lists::record::Witness;
 use lists::{Book, Generator, Step};
 use original::Original;
 use reading::layout::{LOST_BYTES, PENS_BYTES, WRITERS_BYTES};
@@ -23,6 +24,38 @@ pub struct Disagreement {
     pub call: usize,
     pub code: Option<u8>,
     pub what: String,
+}
+
+/// The Rust beside a recording, where it is at hand.
+pub struct RustBeside {
+    rust: Option<Original>,
+    scratch: Book,
+}
+
+impl Default for RustBeside {
+    fn default() -> Self {
+        Self { rust: None, scratch: Book::fresh() }
+    }
+}
+
+impl Witness for RustBeside {
+    fn start(&mut self, state: &State) -> Result<(), String> {
+        self.rust = Original::at(state);
+        Ok(())
+    }
+
+    fn call(
+        &mut self,
+        before: &State,
+        step: &Step,
+        answer: &Answer,
+        out: &[u8],
+        after: &Book,
+    ) -> Result<(), String> {
+        let Some(rust) = &mut self.rust else { return Ok(()) };
+        judged(rust, before, step, answer, out)?;
+        same_state(rust, after, &mut self.scratch)
+    }
 }
 
 /// Runs the lists of `seeds` until `calls` calls are done.

@@ -3,4 +3,4 @@
 
 pub mod compare;
 
-pub use compare::{Tally, against_the_rust, reading_alone};
+pub use compare::{RustBeside, Tally, against_the_rust, reading_alone};

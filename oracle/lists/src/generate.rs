@@ -21,13 +21,21 @@ use crate::start::{self, Start};
 pub enum Calls {
     Instance,
     Liveliness,
+    /// Joined calls above all, with what they need around them.
+    Joined,
     All,
 }
 
-const INSTANCE_CODES: [u8; 21] =
-    [1, 2, 3, 4, 5, 6, 7, 8, 9, 10, 11, 12, 13, 14, 15, 16, 17, 18, 19, 20, 21];
-const LIVELINESS_CODES: [u8; 9] = [32, 33, 34, 35, 36, 37, 38, 39, 40];
-const JOINED_CODES: [u8; 4] = [48, 49, 50, 51];
+/// Ownership and the loss of writers more often: they need more to be there.
+const INSTANCE_CODES: [u8; 26] = [
+    1, 2, 3, 4, 5, 6, 6, 7, 7, 8, 9, 10, 11, 12, 13, 14, 15, 16, 16, 16, 17, 18, 18, 19, 20, 21,
+];
+/// Matches, assertions and expiries more often, so that there is what to lose.
+const LIVELINESS_CODES: [u8; 18] =
+    [32, 32, 32, 32, 33, 33, 34, 35, 35, 35, 36, 36, 37, 37, 38, 39, 40, 40];
+const JOINED_CODES: [u8; 6] = [48, 48, 49, 49, 50, 51];
+const AROUND_JOINED_CODES: [u8; 20] =
+    [48, 48, 48, 48, 48, 49, 49, 50, 51, 32, 32, 32, 32, 35, 35, 35, 36, 16, 38, 39];
 /// The codes next to the known ones, and the ends.
 const UNKNOWN_CODES: [u8; 8] = [0, 22, 31, 41, 47, 52, 128, 255];
 
@@ -50,21 +58,25 @@ pub struct Generator {
     rng: Rng,
     pools: Pools,
     calls: Calls,
-    wide: bool,
-    rates: Rates,
+    start: Start,
+    pub rates: Rates,
+    /// Where the list's clock stands; it moves on with the assertions.
+    clock: u64,
 }
 
 impl Generator {
     /// The list of a seed, and the state it starts from.
     pub fn new(seed: u64) -> (Self, State) {
         let mut rng = Rng::new(seed);
-        let calls = rng.pick(&[Calls::Instance, Calls::Liveliness, Calls::All, Calls::All]);
+        let calls =
+            rng.pick(&[Calls::Instance, Calls::Liveliness, Calls::Joined, Calls::All, Calls::All]);
         let start = match rng.below(20) {
             0..9 => Start::Fresh,
-            9..15 => Start::Any,
-            15 => Start::FullInstances,
-            16 => Start::FullWriters,
-            17 | 18 => Start::NearlyFullLost,
+            9..14 => Start::Any,
+            14 => Start::FullInstances,
+            15 | 16 => Start::FullSets,
+            17 => Start::FullWriters,
+            18 => Start::NearlyFullLost,
             _ => Start::LastHandles,
         };
         Self::with(rng, calls, start)
@@ -76,10 +88,17 @@ impl Generator {
     }
 
     fn with(mut rng: Rng, calls: Calls, start: Start) -> (Self, State) {
-        let pools = Pools::new(&mut rng);
+        // Full sets and many expiries take many GUIDs; the joined calls meet
+        // the same writers again with few.
+        let guids = match (start, calls) {
+            (Start::FullSets | Start::NearlyFullLost, _) => 24,
+            (_, Calls::Joined) => 3,
+            _ => rng.pick(&[2, 4, 6, 20, 24]),
+        };
+        let pools = Pools::new(&mut rng, guids);
         let state = start::state(&mut rng, &pools, start);
-        let wide = matches!(start, Start::FullInstances | Start::FullWriters);
-        (Self { rng, pools, calls, wide, rates: Rates::USUAL }, state)
+        let clock = pools.clock;
+        (Self { rng, pools, calls, start, rates: Rates::USUAL, clock }, state)
     }
 
     pub fn calls(&self) -> Calls {
@@ -109,10 +128,31 @@ impl Generator {
         if self.rng.one_in(self.rates.unknown_code) {
             return self.rng.pick(&UNKNOWN_CODES);
         }
+        if self.rng.one_in(2) {
+            if let Some(code) = self.rng.pick_some(self.pressing()) {
+                return *code;
+            }
+        }
         match (self.calls, self.rng.below(10)) {
             (Calls::Instance, _) | (Calls::All, 0..4) => self.rng.pick(&INSTANCE_CODES),
-            (Calls::Liveliness, _) | (Calls::All, 4..6) => self.rng.pick(&LIVELINESS_CODES),
+            (Calls::Liveliness, _) | (Calls::All, 4..7) => self.rng.pick(&LIVELINESS_CODES),
+            (Calls::Joined, _) => self.rng.pick(&AROUND_JOINED_CODES),
             _ => self.rng.pick(&JOINED_CODES),
+        }
+    }
+
+    /// The calls that press on what the list started with nearly full.
+    fn pressing(&self) -> &'static [u8] {
+        match (self.start, self.calls) {
+            (Start::FullInstances | Start::LastHandles, Calls::Instance) => &[1, 2, 8, 9],
+            (Start::FullInstances | Start::LastHandles, Calls::All) => &[1, 2, 8, 9, 48],
+            (Start::FullInstances | Start::LastHandles, Calls::Joined) => &[48],
+            (Start::FullSets, Calls::Instance) => &[6, 10],
+            (Start::FullSets, Calls::All | Calls::Joined) => &[6, 10, 48],
+            (Start::FullWriters, Calls::Liveliness | Calls::All | Calls::Joined) => &[32],
+            (Start::NearlyFullLost, Calls::Liveliness) => &[37],
+            (Start::NearlyFullLost, Calls::All | Calls::Joined) => &[37, 49],
+            _ => &[],
         }
     }
 
@@ -135,9 +175,9 @@ impl Generator {
     /// A sheet with every field likely, and then what the call does not take
     /// sometimes overwritten: a call must ignore it.
     fn sheet(&mut self, state: &State, code: u8) -> Vec<u8> {
-        let key = self.key(state);
+        let key = self.key(state, code);
         let found = state.place(&key).ok().map(|place| &state.instances[place]);
-        let guid = self.guid(state, found);
+        let guid = self.guid(state, found, code);
         let bits = self.bits(code);
         let (a, b) = (self.a(state, code), self.b(code));
         let (time1, time2) = self.times(state, found, code, a, b);
@@ -178,25 +218,35 @@ impl Generator {
         }
     }
 
-    fn key(&mut self, state: &State) -> [u8; 16] {
-        if !self.rng.one_in(4) {
-            if let Some(instance) = self.rng.pick_some(&state.instances) {
+    /// A key that is there, or one of the pool; for ownership one with an
+    /// owner.
+    fn key(&mut self, state: &State, code: u8) -> [u8; 16] {
+        let pressed = matches!(self.start, Start::FullInstances | Start::LastHandles);
+        if !self.rng.one_in(if pressed { 2 } else { 4 }) {
+            let owned = matches!(code, 16 | 20 | 48) && self.rng.one_in(2);
+            let fits = |i: &&Instance| !owned || i.owner.is_some();
+            let all: Vec<&Instance> = state.instances.iter().filter(fits).collect();
+            if let Some(instance) = self.rng.pick_some(&all) {
                 return instance.key;
             }
         }
-        self.pools.key(&mut self.rng, self.wide)
+        self.pools.key(&mut self.rng, pressed)
     }
 
-    /// Of the pool, of the instance's set or owner, or of a writer record.
-    fn guid(&mut self, state: &State, found: Option<&Instance>) -> [u8; 16] {
+    /// Of an instance's set or owner, of a writer record, or of the pool.
+    fn guid(&mut self, state: &State, found: Option<&Instance>, code: u8) -> [u8; 16] {
         let rng = &mut self.rng;
-        let met = match rng.below(6) {
-            0 => found.and_then(|i| rng.pick_some(&i.writers).copied()),
-            1 => found.and_then(|i| i.owner.map(|(guid, _)| guid)),
-            2 | 3 => rng.pick_some(&state.writers).map(|w| w.guid),
+        // Calls on every instance have one of them in mind too.
+        let every = matches!(code, 7 | 17..=19 | 32 | 50 | 51);
+        let meant = if every { rng.pick_some(&state.instances) } else { found };
+        let met = match (code, rng.below(6)) {
+            (20, 0..3) | (_, 0) => meant.and_then(|i| i.owner.map(|(guid, _)| guid)),
+            (6 | 10 | 48, 1..4) => None,
+            (_, 1 | 2) => meant.and_then(|i| rng.pick_some(&i.writers).copied()),
+            (_, 3) => rng.pick_some(&state.writers).map(|w| w.guid),
             _ => None,
         };
-        let wide = self.wide && rng.one_in(2);
+        let wide = self.start == Start::FullWriters && rng.one_in(2);
         met.unwrap_or_else(|| self.pools.guid(rng, wide))
     }
 
@@ -210,10 +260,16 @@ impl Generator {
         self.rng.pick(&[0, 1, next, next.wrapping_sub(1), u64::MAX])
     }
 
+    /// Any bits; a match mostly has a lease, and seldom kind 3.
     fn bits(&mut self, code: u8) -> u8 {
-        let bits = self.rng.below(256) as u8;
-        let kind_three = code == 32 && bits & 3 == 3 && !self.rng.one_in(4);
-        if kind_three { bits & !3 } else { bits }
+        let mut bits = self.rng.below(256) as u8;
+        if code == 32 && bits & 3 == 3 && !self.rng.one_in(4) {
+            bits &= !3;
+        }
+        if code == 32 && self.rng.one_in(2) {
+            bits |= fill::LEASE_PRESENT;
+        }
+        bits
     }
 
     fn hostile(&mut self) -> bool {
@@ -259,9 +315,11 @@ impl Generator {
         if self.hostile() {
             return self.rng.pick(&[CLOCK_END, 1 << 63, u64::MAX]);
         }
-        match (self.rng.below(3), self.rng.pick_some(&state.writers)) {
+        self.clock = (self.clock + self.rng.below(6) as u64).min(CLOCK_END - 1);
+        match (self.rng.below(4), self.rng.pick_some(&state.writers)) {
             (0, Some(w)) => one_off(&mut self.rng, w.last_assertion),
-            _ => self.pools.clock(&mut self.rng),
+            (1, _) => self.pools.clock(&mut self.rng),
+            _ => self.clock,
         }
     }
 
@@ -273,7 +331,7 @@ impl Generator {
         let alive: Vec<u64> = state.writers.iter().filter_map(|w| w.due()).collect();
         match (self.rng.below(4), self.rng.pick_some(&alive)) {
             (0..3, Some(due)) => one_off(&mut self.rng, *due).min(CLOCK_END - 1),
-            _ => self.pools.clock(&mut self.rng),
+            _ => self.clock,
         }
     }
 
@@ -354,7 +412,7 @@ impl Generator {
                 self.rng.pick(&n) as i32
             }
             (16 | 48, Some(Instance { owner: Some((_, strength)), .. })) if self.rng.one_in(2) => {
-                strength.saturating_add(self.rng.below(3) as i32 - 1)
+                strength.saturating_add(self.rng.pick(&[-1, -1, 0, 1]))
             }
             _ => self.pools.strength(&mut self.rng),
         };

@@ -15,11 +15,12 @@ pub struct Pools {
     key_base: Key,
     prefixes: Vec<[u8; 12]>,
     /// Around which the list's clocks stand.
-    clock: u64,
+    pub clock: u64,
 }
 
 impl Pools {
-    pub fn new(rng: &mut Rng) -> Self {
+    /// Pools with up to so many GUIDs.
+    pub fn new(rng: &mut Rng, guids: usize) -> Self {
         let mut key_base = [0; 16];
         if rng.one_in(2) {
             rng.fill(&mut key_base);
@@ -32,7 +33,7 @@ impl Pools {
             prefixes,
             clock: rng.pick(&[1, 100, 1000, 1 << 40, CLOCK_END - 100]),
         };
-        let (keys, guids) = (1 + rng.below(9), rng.pick(&[2, 4, 6, 20, 24]));
+        let keys = 1 + rng.below(9);
         for _ in 0..keys {
             let key = pools.any_key(rng);
             pools.keys.push(key);
@@ -100,14 +101,14 @@ impl Pools {
     }
 
     pub fn clock(&self, rng: &mut Rng) -> u64 {
-        match rng.below(8) {
+        match rng.below(30) {
             0 => rng.pick(&[0, 1, CLOCK_END - 1]),
             _ => self.clock + rng.below(30) as u64,
         }
     }
 
     pub fn lease(&self, rng: &mut Rng) -> u64 {
-        rng.pick(&[0, 1, 5, 10, 10, 20, CLOCK_END - 1])
+        rng.pick(&[0, 1, 5, 5, 10, 10, 20, 20, CLOCK_END - 1])
     }
 
     pub fn strength(&self, rng: &mut Rng) -> i32 {

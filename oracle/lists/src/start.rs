@@ -15,6 +15,8 @@ pub enum Start {
     Any,
     /// 126 to 128 instances.
     FullInstances,
+    /// Writer sets of 14 to 16 GUIDs.
+    FullSets,
     /// 126 to 128 writer records.
     FullWriters,
     /// Lost with 250 to 256 GUIDs, and writers about to expire.
@@ -33,14 +35,15 @@ pub fn state(rng: &mut Rng, pools: &Pools, start: Start) -> State {
     }
     let few = rng.below(6);
     let (instances, writers, lost) = match start {
-        Start::FullInstances => (126 + rng.below(3), few, rng.below(3)),
+        Start::FullInstances => (rng.pick(&[126, 128, 128]), few, rng.below(3)),
         Start::FullWriters => (few, 126 + rng.below(3), rng.below(3)),
         Start::NearlyFullLost => (few, 4 + rng.below(6), 250 + rng.below(7)),
+        Start::FullSets => (1 + few, rng.below(7), rng.below(4)),
         _ => (few, rng.below(7), rng.below(4)),
     };
     let wide = start == Start::FullInstances;
     for key in distinct(rng, instances, |rng| pools.key(rng, wide)) {
-        let instance = instance(rng, pools, key, wide);
+        let instance = instance(rng, pools, key, start);
         state.instances.push(instance);
     }
     for guid in distinct(rng, writers, |rng| pools.guid(rng, start == Start::FullWriters)) {
@@ -64,7 +67,7 @@ fn distinct(rng: &mut Rng, n: usize, draw: impl Fn(&mut Rng) -> [u8; 16]) -> Vec
     all.into_iter().collect()
 }
 
-fn instance(rng: &mut Rng, pools: &Pools, key: Key, lean: bool) -> Instance {
+fn instance(rng: &mut Rng, pools: &Pools, key: Key, start: Start) -> Instance {
     let mut i = Instance::fresh(key, 0);
     i.kind = rng.pick(&[Kind::Alive, Kind::Alive, Kind::Disposed, Kind::NoWriters]);
     i.view_new = rng.one_in(2);
@@ -79,15 +82,17 @@ fn instance(rng: &mut Rng, pools: &Pools, key: Key, lean: bool) -> Instance {
     i.no_writers_at = optional_time(rng, pools);
     i.owner_at = optional_time(rng, pools);
     i.owner = rng.one_in(2).then(|| (pools.guid(rng, false), pools.strength(rng)));
-    if !lean || rng.one_in(16) {
+    // A full table stays lean, so that a recorded one is short.
+    if start != Start::FullInstances || rng.one_in(16) {
         i.holder = rng.one_in(2).then(|| pools.holder(rng));
-        i.writers = set(rng, pools);
+        i.writers = set(rng, pools, start == Start::FullSets);
     }
     i
 }
 
-fn set(rng: &mut Rng, pools: &Pools) -> Vec<Guid> {
+fn set(rng: &mut Rng, pools: &Pools, full: bool) -> Vec<Guid> {
     let n = match rng.below(4) {
+        _ if full => 15 + rng.below(2),
         0 => 14 + rng.below(3),
         1 => 0,
         _ => rng.below(4),

@@ -1,0 +1,129 @@
+//! The sample that the repository keeps: section 10's lists, one list that
+//! breaks each clause of well-formedness, and generated lists of every sort.
+
+use reading::state::State;
+
+use crate::bench;
+use crate::book::{Book, Step};
+use crate::coverage::Coverage;
+use crate::damage::{self, Clause};
+use crate::generate::{Calls, Generator, Rates};
+use crate::record::{Recorder, Witness};
+use crate::rng::Rng;
+use crate::start::Start;
+
+/// Calls of a generated list.
+const LENGTH: usize = 44;
+/// Steps drawn, every other time, to find one that the sample is short of.
+const DRAWS: usize = 16;
+
+/// Generated lists: which calls, which start, and how many.
+const PLAN: [(Calls, Start, u64); 17] = [
+    (Calls::Instance, Start::Fresh, 10),
+    (Calls::Instance, Start::Any, 8),
+    (Calls::Instance, Start::FullInstances, 1),
+    (Calls::Instance, Start::FullSets, 3),
+    (Calls::Instance, Start::LastHandles, 2),
+    (Calls::Liveliness, Start::Fresh, 8),
+    (Calls::Liveliness, Start::Any, 4),
+    (Calls::Liveliness, Start::FullWriters, 2),
+    (Calls::Liveliness, Start::NearlyFullLost, 2),
+    (Calls::Joined, Start::Fresh, 11),
+    (Calls::Joined, Start::FullSets, 2),
+    (Calls::All, Start::Fresh, 10),
+    (Calls::All, Start::Any, 8),
+    (Calls::All, Start::FullInstances, 1),
+    (Calls::All, Start::FullSets, 2),
+    (Calls::All, Start::NearlyFullLost, 2),
+    (Calls::All, Start::LastHandles, 2),
+];
+
+/// Refused calls stand closer in the sample than in the long runs.
+const RATES: Rates = Rates { unknown_code: 60, odd_length: 50, damage: 60, hostile_field: 16 };
+
+/// Records the sample of a seed.
+pub fn make(seed: u64, witness: &mut dyn Witness) -> Result<Vec<u8>, String> {
+    let mut recorder = Recorder::default();
+    for (name, sheets) in bench::lists() {
+        let mut steps = sheets.into_iter().map(|sheet| Step::of(sheet.0));
+        recorder.list(name, 0, &State::fresh(), |_, _| steps.next(), witness)?;
+    }
+    damaged(&mut recorder, seed, witness)?;
+    let mut rng = Rng::new(seed);
+    for (calls, start, many) in PLAN {
+        for _ in 0..many {
+            generated(&mut recorder, rng.next(), calls, start, witness)?;
+        }
+    }
+    Ok(recorder.bytes())
+}
+
+fn generated(
+    recorder: &mut Recorder,
+    seed: u64,
+    calls: Calls,
+    start: Start,
+    witness: &mut dyn Witness,
+) -> Result<(), String> {
+    let (mut generator, state) = Generator::of(seed, calls, start);
+    generator.rates = RATES;
+    let name = match calls {
+        Calls::Instance => "instance calls",
+        Calls::Liveliness => "liveliness calls",
+        Calls::Joined => "joined calls",
+        Calls::All => "all calls",
+    };
+    let mut left = LENGTH;
+    let next = |state: &State, covered: &Coverage| {
+        left = left.checked_sub(1)?;
+        Some(wanted(&mut generator, state, covered, if left % 2 == 0 { DRAWS } else { 1 }))
+    };
+    recorder.list(name, seed, &state, next, witness)
+}
+
+/// The first of some steps that the sample is still short of, or the last.
+fn wanted(generator: &mut Generator, state: &State, covered: &Coverage, draws: usize) -> Step {
+    let book = Book::of_state(state);
+    for _ in 1..draws {
+        let step = generator.next(state);
+        let (answer, _) = book.clone().step(&step, reading::call);
+        if covered.wants(step.code(), &answer) {
+            return step;
+        }
+    }
+    generator.next(state)
+}
+
+/// A list that damages each clause once, from a state that has what each
+/// needs.
+fn damaged(recorder: &mut Recorder, seed: u64, witness: &mut dyn Witness) -> Result<(), String> {
+    let (state, seed) = rich_state(seed);
+    let (mut generator, _) = Generator::of(seed, Calls::All, Start::Any);
+    generator.rates =
+        Rates { unknown_code: usize::MAX, odd_length: usize::MAX, damage: usize::MAX, ..RATES };
+    let mut rng = Rng::new(seed);
+    let mut clauses = Clause::all().into_iter();
+    let next = |state: &State, _: &Coverage| {
+        let clause = clauses.next()?;
+        let mut step = generator.next(state);
+        damage::one(&mut rng, state, clause, &mut step);
+        Some(step)
+    };
+    recorder.list("damage", seed, &state, next, witness)
+}
+
+/// The first state, from a seed on, that every clause can be broken in.
+fn rich_state(seed: u64) -> (State, u64) {
+    let mut seed = seed;
+    loop {
+        let (_, state) = Generator::of(seed, Calls::All, Start::Any);
+        let mut rng = Rng::new(seed);
+        let breaks = |clause: &Clause| {
+            damage::one(&mut rng, &state, *clause, &mut Step::of(Vec::new()))
+        };
+        if Clause::all().iter().all(breaks) {
+            return (state, seed);
+        }
+        seed = seed.wrapping_add(1);
+    }
+}
