@@ -2,10 +2,16 @@
 
 use lists::damage::Clause;
 use lists::record::Witness;
+use lists::rng::Rng;
 use lists::{Book, Generator, Step};
 use original::Original;
 use reading::layout::{LOST_BYTES, PENS_BYTES, WRITERS_BYTES};
 use reading::{Answer, Misreading, Sheet, State, call_as};
+
+use crate::reads::same_reads;
+
+/// The reads are compared after one in so many calls.
+const READS_ONE_IN: usize = 24;
 
 /// What was run.
 #[derive(Debug, Default, Clone, Copy)]
@@ -15,6 +21,8 @@ pub struct Tally {
     pub accepted: u64,
     /// Refusals 9 to 13 that the Rust's own result confirmed.
     pub without_place: u64,
+    /// States on which section 7's reads were compared.
+    pub read: u64,
 }
 
 /// Where two readings part.
@@ -85,6 +93,7 @@ fn one_list(
     let mut book = Book::of_state(&start);
     let mut rust = Original::at(&start);
     let mut state = start;
+    let mut rng = Rng::new(seed);
     tally.lists += 1;
     for call in 0..generator.length() {
         let step = generator.next(&state);
@@ -103,13 +112,19 @@ fn one_list(
             tally.without_place += u64::from(answer.number >= 9);
         }
         state = book.state().ok_or_else(|| disagree("not well formed after it".into()))?;
+        if let (Some(rust), Some(sheet)) = (&rust, Sheet::of(&step.sheet)) {
+            if rng.one_in(READS_ONE_IN) {
+                same_reads(rust, &book, &state, sheet, &mut rng).map_err(disagree)?;
+                tally.read += 1;
+            }
+        }
     }
     Ok(())
 }
 
 /// Runs the Rust for an accepted call and compares answer and Out; for one
 /// refused as 9 to 13, sees that the Rust's result has no place.
-fn judged(
+pub fn judged(
     rust: &mut Original,
     before: &State,
     step: &Step,
@@ -144,7 +159,7 @@ fn same<T: PartialEq + std::fmt::Debug>(what: &str, rust: &T, reading: &T) -> Re
 }
 
 /// Lays the Rust's state out and compares head and all buffers.
-fn same_state(rust: &Original, book: &Book, scratch: &mut Book) -> Result<(), String> {
+pub fn same_state(rust: &Original, book: &Book, scratch: &mut Book) -> Result<(), String> {
     let state = rust.state();
     state.write(
         &mut scratch.head,
@@ -168,7 +183,7 @@ fn same_state(rust: &Original, book: &Book, scratch: &mut Book) -> Result<(), St
 pub fn reading_alone(seeds: impl Iterator<Item = u64>) -> Result<Vec<(Clause, u64)>, String> {
     let mut counts: Vec<(Clause, u64)> = Clause::all().into_iter().map(|c| (c, 0)).collect();
     for seed in seeds {
-        let mut rng = lists::rng::Rng::new(seed);
+        let mut rng = Rng::new(seed);
         let (_, state) = Generator::new(seed);
         let mut book = Book::of_state(&state);
         for (clause, count) in &mut counts {

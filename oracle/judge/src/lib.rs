@@ -2,5 +2,7 @@
 //! through the Rust, and compares every answer and the whole state.
 
 pub mod compare;
+pub mod reads;
+pub mod short;
 
 pub use compare::{RustBeside, Tally, against_the_rust, reading_alone};

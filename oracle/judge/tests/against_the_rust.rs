@@ -1,14 +1,17 @@
-//! A million calls of the reading of 01 against the Rust, and each deliberate
-//! misreading caught. Without a harness, so that what was run, or skipped, is
+//! All short lists over a few sheets and a million calls of generated lists,
+//! the reading of 01 against the Rust; and each deliberate misreading caught. Without a harness, so that what was run, or skipped, is
 //! always said.
 
 use std::process::ExitCode;
 use std::time::Instant;
 
 use judge::against_the_rust;
+use judge::short::{every_list, instance_sheets, joined_sheets, liveliness_sheets};
 use reading::Misreading;
 
 const CALLS: u64 = 1_000_000;
+/// Calls of a short list.
+const SHORT: usize = 3;
 
 fn main() -> ExitCode {
     if !original::PRESENT {
@@ -17,6 +20,19 @@ fn main() -> ExitCode {
             original::DIRECTORY
         );
         return ExitCode::SUCCESS;
+    }
+    for (what, sheets) in [
+        ("instance", instance_sheets()),
+        ("liveliness", liveliness_sheets()),
+        ("joined", joined_sheets()),
+    ] {
+        match every_list(&sheets, SHORT) {
+            Ok(calls) => println!("all lists of {SHORT} {what} calls agree: {calls} calls"),
+            Err(what) => {
+                println!("the reading and the Rust differ: {what}");
+                return ExitCode::FAILURE;
+            }
+        }
     }
     let begun = Instant::now();
     match against_the_rust(1.., CALLS, None) {

@@ -6,6 +6,7 @@
 use std::sync::Arc;
 use std::time::Duration;
 
+use reading::bytes::{Guid, Key};
 use reading::layout::{self, Instance, Kind, Standing, Time, Writer, WriterKind};
 use reading::{Answer, Head, Sheet, State};
 
@@ -90,6 +91,49 @@ impl Original {
             }
         };
         self.no_place().map_or(Ok(turn), Err)
+    }
+
+    pub fn delivers_under_filter(&self, key: &Key, time: Time, separation: u64) -> bool {
+        let t = &self.instances;
+        t.should_deliver_under_time_based_filter(key, to_time(time), delay(separation))
+    }
+
+    pub fn delivers_under_order(&self, key: &Key, time: Time, by_source: bool) -> bool {
+        self.instances.should_deliver_under_destination_order(key, to_time(time), by_source)
+    }
+
+    pub fn last_delivered(&self, key: &Key) -> Option<Time> {
+        self.instances.last_delivered_ts(key).map(of_time)
+    }
+
+    pub fn left_writerless(&self, gone: &[Guid], views: u32) -> Vec<u64> {
+        self.instances.left_writerless(gone, views).iter().map(InstanceHandle::as_raw).collect()
+    }
+
+    pub fn would_leave_writerless(&self, gone: &[Guid], views: u32) -> bool {
+        self.instances.would_leave_writerless(gone, views)
+    }
+
+    pub fn next_handle_after(&self, previous: u64) -> Option<u64> {
+        let previous = InstanceHandle::from_raw(previous);
+        self.instances.next_handle_after(previous).map(|h| h.as_raw())
+    }
+
+    /// Ownership asked without a time or a deadline.
+    pub fn accepts_sample(&self, key: &Key, guid: Guid, strength: i32) -> bool {
+        self.instances.should_accept_sample_under_exclusive_ownership(key, guid, strength)
+    }
+
+    pub fn holder(&self, key: &Key) -> Option<Vec<u8>> {
+        self.instances.lookup(key).and_then(|handle| self.instances.get_key_holder(handle))
+    }
+
+    pub fn status(&self) -> Answer {
+        status(&self.liveliness.status())
+    }
+
+    pub fn changes(&self) -> u64 {
+        self.liveliness.changes()
     }
 
     fn instance_call(&mut self, sheet: Sheet<'_>) -> (Answer, Vec<u8>) {
@@ -250,7 +294,7 @@ impl Original {
     }
 
     /// Codes 7 and 18 for each writer gone.
-    fn without(&self, sheet: Sheet<'_>, answer: Answer, gone: &[[u8; 16]]) -> (Answer, Vec<u8>) {
+    fn without(&self, sheet: Sheet<'_>, answer: Answer, gone: &[Guid]) -> (Answer, Vec<u8>) {
         let (mut writerless, mut count) = (Vec::new(), 0);
         for guid in gone {
             writerless.extend(self.instances.drop_writer(guid, given_time(sheet)));
@@ -283,6 +327,19 @@ impl Original {
             None
         }
     }
+}
+
+/// Two handles from an allocator that starts at a number, and where it then
+/// stands.
+pub fn two_handles(next: u64) -> Option<(u64, u64, u64)> {
+    let allocator = instance_handle::access::starting_at(next);
+    let (first, second) = (allocator.allocate(), allocator.allocate());
+    Some((first.as_raw(), second.as_raw(), instance_handle::access::next(&allocator)))
+}
+
+/// The handle that a GUID gives.
+pub fn handle_of(guid: Guid) -> Option<u64> {
+    Some(InstanceHandle::from_guid(crate::wire_types::Guid::from_bytes(guid)).as_raw())
 }
 
 /// The answer of a call of the Rust that answers nothing.
@@ -364,7 +421,7 @@ fn to_instance(i: &Instance) -> InstanceState {
     }
 }
 
-fn of_instance(key: [u8; 16], s: &InstanceState) -> Instance {
+fn of_instance(key: Key, s: &InstanceState) -> Instance {
     Instance {
         key,
         handle: s.handle.as_raw(),

@@ -25,12 +25,12 @@ pub use stand_ins::{
 #[cfg(sources)]
 mod driver;
 #[cfg(sources)]
-pub use driver::{Original, Turn};
+pub use driver::{Original, Turn, handle_of, two_handles};
 
 #[cfg(not(sources))]
 mod absent;
 #[cfg(not(sources))]
-pub use absent::{Original, Turn};
+pub use absent::{Original, Turn, handle_of, two_handles};
 
 /// Whether the sources were at hand when this was built.
 pub const PRESENT: bool = cfg!(sources);

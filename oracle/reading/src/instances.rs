@@ -6,6 +6,7 @@
 use crate::Misreading;
 use crate::answer::Answer;
 use crate::bytes::{Guid, Key, prefix_of};
+use crate::handles;
 use crate::layout::{Instance, Kind, LAST_NEXT_HANDLE, PLACES, SET_PLACES, Time};
 use crate::sheet::Sheet;
 use crate::state::State;
@@ -109,8 +110,9 @@ fn start(state: &mut State, key: Key) -> Result<&mut Instance, u8> {
     let place = match state.place(&key) {
         Ok(place) => place,
         Err(place) => {
-            state.instances.insert(place, Instance::fresh(key, state.head.next_handle));
-            state.head.next_handle += 1;
+            let (handle, next) = handles::allocate(state.head.next_handle);
+            state.instances.insert(place, Instance::fresh(key, handle));
+            state.head.next_handle = next;
             place
         }
     };

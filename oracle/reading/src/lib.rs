@@ -6,11 +6,13 @@
 
 pub mod answer;
 pub mod bytes;
+pub mod handles;
 pub mod head;
 pub mod instances;
 pub mod joined;
 pub mod layout;
 pub mod liveliness;
+pub mod reads;
 pub mod sheet;
 pub mod state;
 

@@ -6,7 +6,9 @@
 
 use crate::Misreading;
 use crate::answer::Answer;
-use crate::bytes::{Guid, Prefix, fnv1a, prefix_of};
+use crate::bytes::{Guid, Prefix, prefix_of};
+use crate::handles;
+use crate::head::Head;
 use crate::instances::Turn;
 use crate::layout::{LOST_PLACES, PLACES, Standing, Writer, WriterKind};
 use crate::sheet::Sheet;
@@ -172,25 +174,19 @@ fn take_lost(state: &mut State) -> (Answer, Vec<u8>) {
 }
 
 /// The liveliness status; nil stands for no last writer.
-pub fn status(state: &State) -> Answer {
-    let head = &state.head;
+pub fn status(head: &Head) -> Answer {
     Answer {
         alive: head.alive,
         not_alive: head.not_alive,
         alive_change: head.alive_change,
         not_alive_change: head.not_alive_change,
-        last_publication_handle: head.last_writer.map_or(0, |guid| handle_of(&guid)),
+        last_publication_handle: head.last_writer.map_or(0, |guid| handles::of_guid(&guid)),
         ..Answer::default()
     }
 }
 
-/// The handle a GUID gives, never nil.
-pub fn handle_of(guid: &Guid) -> u64 {
-    fnv1a(guid).max(1)
-}
-
 fn take_status(state: &mut State) -> Answer {
-    let answer = status(state);
+    let answer = status(&state.head);
     state.head.alive_change = 0;
     state.head.not_alive_change = 0;
     answer
