@@ -3,7 +3,7 @@
 use lists::damage::Clause;
 use lists::record::Witness;
 use lists::rng::Rng;
-use lists::{Book, Generator, Step};
+use lists::{Image, Generator, Step};
 use original::Original;
 use reading::layout::{LOST_BYTES, PENS_BYTES, WRITERS_BYTES};
 use reading::{Answer, Misreading, Sheet, State, call_as};
@@ -37,12 +37,12 @@ pub struct Disagreement {
 /// The Rust beside a recording, where it is at hand.
 pub struct RustBeside {
     rust: Option<Original>,
-    scratch: Book,
+    scratch: Image,
 }
 
 impl Default for RustBeside {
     fn default() -> Self {
-        Self { rust: None, scratch: Book::fresh() }
+        Self { rust: None, scratch: Image::fresh() }
     }
 }
 
@@ -58,7 +58,7 @@ impl Witness for RustBeside {
         step: &Step,
         answer: &Answer,
         out: &[u8],
-        after: &Book,
+        after: &Image,
     ) -> Result<(), String> {
         let Some(rust) = &mut self.rust else { return Ok(()) };
         judged(rust, before, step, answer, out)?;
@@ -73,7 +73,7 @@ pub fn against_the_rust(
     misreading: Option<Misreading>,
 ) -> Result<Tally, Disagreement> {
     let mut tally = Tally::default();
-    let mut scratch = Book::fresh();
+    let mut scratch = Image::fresh();
     for seed in seeds {
         if tally.calls >= calls {
             break;
@@ -87,10 +87,10 @@ fn one_list(
     seed: u64,
     misreading: Option<Misreading>,
     tally: &mut Tally,
-    scratch: &mut Book,
+    scratch: &mut Image,
 ) -> Result<(), Disagreement> {
     let (mut generator, start) = Generator::new(seed);
-    let mut book = Book::of_state(&start);
+    let mut image = Image::of_state(&start);
     let mut rust = Original::at(&start);
     let mut state = start;
     let mut rng = Rng::new(seed);
@@ -100,7 +100,7 @@ fn one_list(
         let disagree =
             |what: String| Disagreement { seed, call, code: step.code(), what };
         let (answer, out) =
-            book.step(&step, |head, sheet, lent| call_as(head, sheet, lent, misreading));
+            image.step(&step, |head, sheet, lent| call_as(head, sheet, lent, misreading));
         tally.calls += 1;
         tally.accepted += u64::from(answer.number == 0);
         if step.damages() && !matches!(answer.number, 1..=3) {
@@ -108,13 +108,13 @@ fn one_list(
         }
         if let Some(rust) = &mut rust {
             let told = judged(rust, &state, &step, &answer, &out);
-            told.and_then(|()| same_state(rust, &book, scratch)).map_err(disagree)?;
+            told.and_then(|()| same_state(rust, &image, scratch)).map_err(disagree)?;
             tally.without_place += u64::from(answer.number >= 9);
         }
-        state = book.state().ok_or_else(|| disagree("not well formed after it".into()))?;
+        state = image.state().ok_or_else(|| disagree("not well formed after it".into()))?;
         if let (Some(rust), Some(sheet)) = (&rust, Sheet::of(&step.sheet)) {
             if rng.one_in(READS_ONE_IN) {
-                same_reads(rust, &book, &state, sheet, &mut rng).map_err(disagree)?;
+                same_reads(rust, &image, &state, sheet, &mut rng).map_err(disagree)?;
                 tally.read += 1;
             }
         }
@@ -159,7 +159,7 @@ fn same<T: PartialEq + std::fmt::Debug>(what: &str, rust: &T, reading: &T) -> Re
 }
 
 /// Lays the Rust's state out and compares head and all buffers.
-pub fn same_state(rust: &Original, book: &Book, scratch: &mut Book) -> Result<(), String> {
+pub fn same_state(rust: &Original, image: &Image, scratch: &mut Image) -> Result<(), String> {
     let state = rust.state();
     state.write(
         &mut scratch.head,
@@ -167,9 +167,9 @@ pub fn same_state(rust: &Original, book: &Book, scratch: &mut Book) -> Result<()
         &mut scratch.writers[..WRITERS_BYTES],
         &mut scratch.lost[..LOST_BYTES],
     );
-    same("head", &scratch.head, &book.head)?;
-    if scratch.pens != book.pens || scratch.writers != book.writers || scratch.lost != book.lost {
-        let seen = book.state();
+    same("head", &scratch.head, &image.head)?;
+    if scratch.pens != image.pens || scratch.writers != image.writers || scratch.lost != image.lost {
+        let seen = image.state();
         return Err(format!("buffers: the Rust has {state:?}, the reading {seen:?}"));
     }
     if !rust.maps_agree() {
@@ -185,11 +185,11 @@ pub fn reading_alone(seeds: impl Iterator<Item = u64>) -> Result<Vec<(Clause, u6
     for seed in seeds {
         let mut rng = Rng::new(seed);
         let (_, state) = Generator::new(seed);
-        let mut book = Book::of_state(&state);
+        let mut image = Image::of_state(&state);
         for (clause, count) in &mut counts {
             let mut step = Step::of(lists::fill::Filled::code(39).0);
             if lists::damage::one(&mut rng, &state, *clause, &mut step) {
-                let (answer, _) = book.step(&step, reading::call);
+                let (answer, _) = image.step(&step, reading::call);
                 if answer != Answer::refused(3) {
                     return Err(format!("seed {seed}: damage to {clause:?} met {answer:?}"));
                 }

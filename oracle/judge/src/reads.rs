@@ -2,7 +2,7 @@
 
 use lists::fill::Filled;
 use lists::rng::Rng;
-use lists::{Book, Step};
+use lists::{Image, Step};
 use original::Original;
 use reading::bytes::Guid;
 use reading::layout::{OUT_BYTES, PENS_BYTES};
@@ -11,12 +11,12 @@ use reading::{Sheet, State, reads};
 /// Asks both for every read, with the fields of a sheet.
 pub fn same_reads(
     rust: &Original,
-    book: &Book,
+    image: &Image,
     state: &State,
     sheet: Sheet<'_>,
     rng: &mut Rng,
 ) -> Result<(), String> {
-    let pens = &book.pens[..PENS_BYTES];
+    let pens = &image.pens[..PENS_BYTES];
     let (key, time1, time2) = (sheet.key(), sheet.time1(), sheet.time2());
     let filter = reads::delivers_under_filter(pens, &key, time2, sheet.a());
     same("filter", filter, time2.in_range().then(|| rust.delivers_under_filter(&key, time2, sheet.a())))?;
@@ -31,8 +31,8 @@ pub fn same_reads(
     let offered = sheet.key();
     let holder = reads::holder_in_force(pens, &key, &offered);
     same("holder", Ok(holder), Some(rust.holder(&key).unwrap_or(offered.to_vec())))?;
-    same("status", reads::status(&book.head), Some(rust.status()))?;
-    same("changes", reads::changes(&book.head), Some(rust.changes()))?;
+    same("status", reads::status(&image.head), Some(rust.status()))?;
+    same("changes", reads::changes(&image.head), Some(rust.changes()))?;
     same_writerless(rust, pens, state, sheet, rng)?;
     same_ownership(state, sheet)
 }
@@ -87,10 +87,10 @@ fn same_ownership(state: &State, sheet: Sheet<'_>) -> Result<(), String> {
     let (key, guid, strength) = (sheet.key(), sheet.guid(), sheet.strength());
     let yes = rust.accepts_sample(&key, guid, strength);
     let asked = Filled::code(16).key(key).guid(guid).strength(strength);
-    let mut book = Book::of_state(state);
-    let (answer, _) = book.step(&Step::of(asked.0), reading::call);
+    let mut image = Image::of_state(state);
+    let (answer, _) = image.step(&Step::of(asked.0), reading::call);
     same("ownership", Ok(answer.yes), Some(yes))?;
-    if book.state() == Some(rust.state()) {
+    if image.state() == Some(rust.state()) {
         Ok(())
     } else {
         Err("ownership: the states differ".into())

@@ -3,7 +3,7 @@
 use lists::fill::{
     BY_SOURCE, DEADLINE_PRESENT, Filled, HOLDER_PRESENT, LEASE_PRESENT, MANUAL, TIME1_PRESENT,
 };
-use lists::{Book, Step};
+use lists::{Image, Step};
 use original::Original;
 use reading::bytes::{Guid, Key};
 use reading::layout::Time;
@@ -116,7 +116,7 @@ pub fn joined_sheets() -> Vec<Filled> {
 pub fn every_list(sheets: &[Filled], length: usize) -> Result<u64, String> {
     let steps: Vec<Step> = sheets.iter().map(|sheet| Step::of(sheet.0.clone())).collect();
     let mut calls = 0;
-    explore(&steps, &State::fresh(), length, &mut Book::fresh(), &mut calls)?;
+    explore(&steps, &State::fresh(), length, &mut Image::fresh(), &mut calls)?;
     Ok(calls)
 }
 
@@ -124,22 +124,22 @@ fn explore(
     steps: &[Step],
     state: &State,
     left: usize,
-    scratch: &mut Book,
+    scratch: &mut Image,
     calls: &mut u64,
 ) -> Result<(), String> {
     if left == 0 {
         return Ok(());
     }
     for step in steps {
-        let mut book = Book::of_state(state);
-        let (answer, out) = book.step(step, reading::call);
+        let mut image = Image::of_state(state);
+        let (answer, out) = image.step(step, reading::call);
         *calls += 1;
         if let Some(mut rust) = Original::at(state) {
             judged(&mut rust, state, step, &answer, &out)
-                .and_then(|()| same_state(&rust, &book, scratch))
+                .and_then(|()| same_state(&rust, &image, scratch))
                 .map_err(|what| format!("code {:?} on {state:?}: {what}", step.code()))?;
         }
-        let after = book.state().ok_or("a call left its state not well formed")?;
+        let after = image.state().ok_or("a call left its state not well formed")?;
         explore(steps, &after, left - 1, scratch, calls)?;
     }
     Ok(())

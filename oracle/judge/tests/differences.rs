@@ -2,7 +2,7 @@
 //! rules of the Rust that a reader might not expect.
 
 use lists::fill::{Filled, LEASE_PRESENT, TIME1_PRESENT};
-use lists::{Book, Step};
+use lists::{Image, Step};
 use judge::compare::{judged, same_state};
 use original::Original;
 use reading::bytes::Guid;
@@ -28,19 +28,19 @@ fn key(code: u8) -> Filled {
 /// Runs a list through the reading, with the Rust beside it where it is at
 /// hand; the last answer and the state after it.
 fn run(start: State, sheets: Vec<Filled>) -> (Answer, State) {
-    let mut book = Book::of_state(&start);
+    let mut image = Image::of_state(&start);
     let mut rust = Original::at(&start);
     let mut last = Answer::default();
     let mut state = start;
     for sheet in sheets {
         let step = Step::of(sheet.0);
-        let (answer, out) = book.step(&step, reading::call);
+        let (answer, out) = image.step(&step, reading::call);
         if let Some(rust) = &mut rust {
             judged(rust, &state, &step, &answer, &out).expect("the Rust agrees");
-            same_state(rust, &book, &mut Book::fresh()).expect("the Rust agrees");
+            same_state(rust, &image, &mut Image::fresh()).expect("the Rust agrees");
         }
         last = answer;
-        state = book.state().expect("well formed");
+        state = image.state().expect("well formed");
     }
     (last, state)
 }

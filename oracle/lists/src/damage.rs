@@ -7,7 +7,7 @@ use reading::layout::{
 };
 use reading::state::State;
 
-use crate::book::{Buffer, Edit, Step};
+use crate::image::{Buffer, Edit, Step};
 use crate::rng::Rng;
 
 /// Where the six times of an instance stand.

@@ -10,7 +10,7 @@ use reading::answer::ANSWER_BYTES;
 use reading::layout::{GUID_BYTES, INSTANCE_BYTES, WRITER_BYTES};
 use reading::{Answer, Head};
 
-use crate::book::{Book, Buffer, Edit, Lengths, Step};
+use crate::image::{Image, Buffer, Edit, Lengths, Step};
 
 pub const VERSION: u32 = 1;
 const RECORD_HEAD: usize = 8;
@@ -49,12 +49,12 @@ pub struct Digests {
 }
 
 impl Digests {
-    pub fn of(book: &Book, lengths: &Lengths, out: &[u8]) -> Self {
+    pub fn of(image: &Image, lengths: &Lengths, out: &[u8]) -> Self {
         Self {
             out: fnv1a(out),
-            pens: fnv1a(&book.pens[..lengths.pens]),
-            writers: fnv1a(&book.writers[..lengths.writers]),
-            lost: fnv1a(&book.lost[..lengths.lost]),
+            pens: fnv1a(&image.pens[..lengths.pens]),
+            writers: fnv1a(&image.writers[..lengths.writers]),
+            lost: fnv1a(&image.lost[..lengths.lost]),
         }
     }
 }
@@ -234,13 +234,13 @@ impl Recorded {
     }
 }
 
-/// The used records of a book, each without the zeros that it ends in.
-pub fn used(book: &Book) -> Vec<Edit> {
-    let head = &book.head;
+/// The used records of an image, each without the zeros that it ends in.
+pub fn used(image: &Image) -> Vec<Edit> {
+    let head = &image.head;
     let parts = [
-        (Buffer::Pens, &book.pens, head.instances, INSTANCE_BYTES),
-        (Buffer::Writers, &book.writers, head.writer_records, WRITER_BYTES),
-        (Buffer::Lost, &book.lost, head.lost, GUID_BYTES),
+        (Buffer::Pens, &image.pens, head.instances, INSTANCE_BYTES),
+        (Buffer::Writers, &image.writers, head.writer_records, WRITER_BYTES),
+        (Buffer::Lost, &image.lost, head.lost, GUID_BYTES),
     ];
     let mut edits = Vec::new();
     for (buffer, bytes, count, size) in parts {

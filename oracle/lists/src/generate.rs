@@ -7,7 +7,7 @@ use reading::layout::{CLOCK_END, Instance, NANOSECONDS, Time};
 use reading::sheet::SHEET_BYTES;
 use reading::state::State;
 
-use crate::book::{
+use crate::image::{
     LOST_MOST, Lengths, OUT_MOST, PENS_MOST, SHEET_MOST, Step, WRITERS_MOST,
 };
 use crate::damage;

@@ -1,7 +1,7 @@
 //! Lists of calls: generated from a seed, or recorded in a file.
 
 pub mod bench;
-pub mod book;
+pub mod image;
 pub mod coverage;
 pub mod damage;
 pub mod fill;
@@ -11,9 +11,10 @@ pub mod pools;
 pub mod record;
 pub mod replay;
 pub mod rng;
+pub mod run;
 pub mod sample;
 pub mod start;
 
-pub use book::{Book, Step};
+pub use image::{Image, Step};
 pub use coverage::Coverage;
 pub use generate::Generator;

@@ -2,7 +2,7 @@
 
 use reading::{Answer, Head, State, sheet};
 
-use crate::book::{Book, Edit, Step};
+use crate::image::{Image, Edit, Step};
 use crate::coverage::Coverage;
 use crate::format::{
     Digests, INSTANCE_CALLS, JOINED_CALLS, LIVELINESS_CALLS, Record, Recorded, Title, VERSION, used,
@@ -15,7 +15,7 @@ const FULL_EVERY: usize = 16;
 const FULL_MOST: usize = 24;
 
 /// Sees each call as it is recorded: the state before it, the step, its
-/// answer, Out and the book after it.
+/// answer, Out and the image after it.
 pub trait Witness {
     fn start(&mut self, state: &State) -> Result<(), String>;
     fn call(
@@ -24,7 +24,7 @@ pub trait Witness {
         step: &Step,
         answer: &Answer,
         out: &[u8],
-        after: &Book,
+        after: &Image,
     ) -> Result<(), String>;
 }
 
@@ -53,61 +53,61 @@ impl Recorder {
         let mut named = [0; 16];
         named[..name.len()].copy_from_slice(name.as_bytes());
         self.records.push(Record::List(Title { number: self.lists, calls: 0, seed, name: named }));
-        let mut book = Book::of_state(start);
-        self.start(&book);
+        let mut image = Image::of_state(start);
+        self.start(&image);
         witness.start(start)?;
         let (mut state, mut kinds, mut n) = (start.clone(), 0, 0);
         while let Some(step) = next(&state, &self.coverage) {
             kinds |= kind(&step);
             n += 1;
-            let (answer, out) = self.call(&mut book, &step);
+            let (answer, out) = self.call(&mut image, &step);
             self.coverage.call(step.code(), &answer);
             witness
-                .call(&state, &step, &answer, &out, &book)
+                .call(&state, &step, &answer, &out, &image)
                 .map_err(|what| format!("list {name} {seed}, call {n}: {what}"))?;
-            state = book.state().ok_or("a list left its state not well formed")?;
-            if n % FULL_EVERY == 0 && used(&book).len() <= FULL_MOST {
-                self.full(&book);
+            state = image.state().ok_or("a list left its state not well formed")?;
+            if n % FULL_EVERY == 0 && used(&image).len() <= FULL_MOST {
+                self.full(&image);
             }
         }
-        self.full(&book);
+        self.full(&image);
         if let Record::List(title) = &mut self.records[title] {
             title.calls = kinds;
         }
         Ok(())
     }
 
-    fn start(&mut self, book: &Book) {
-        if book.head != Head::fresh() {
-            self.records.push(Record::Head(book.head));
+    fn start(&mut self, image: &Image) {
+        if image.head != Head::fresh() {
+            self.records.push(Record::Head(image.head));
         }
-        self.records.extend(used(book).into_iter().map(Record::Put));
+        self.records.extend(used(image).into_iter().map(Record::Put));
     }
 
-    fn full(&mut self, book: &Book) {
-        self.records.extend(used(book).into_iter().map(Record::Expect));
+    fn full(&mut self, image: &Image) {
+        self.records.extend(used(image).into_iter().map(Record::Expect));
     }
 
     /// A call, between the damage it meets and what undoes that.
-    fn call(&mut self, book: &mut Book, step: &Step) -> (Answer, Vec<u8>) {
+    fn call(&mut self, image: &mut Image, step: &Step) -> (Answer, Vec<u8>) {
         self.calls += 1;
         self.damage(step.damaged_head, &step.damage);
-        let (head, undo) = book.damage(step);
-        let (answer, out) = book.lend(step, reading::call);
+        let (head, undo) = image.damage(step);
+        let (answer, out) = image.lend(step, reading::call);
         let written = (written_bytes(&answer, &step.sheet)).min(out.len());
         self.records.push(Record::Call(Box::new(Recorded {
             sheet: step.sheet.clone(),
             lengths: step.lengths,
             fill: step.fill,
             written: out[..written].to_vec(),
-            digests: Digests::of(book, &step.lengths, &out),
+            digests: Digests::of(image, &step.lengths, &out),
             answer,
-            head: book.head,
+            head: image.head,
         })));
         if step.damages() {
-            book.head = head;
+            image.head = head;
             for edit in &undo {
-                book.edit(edit);
+                image.edit(edit);
             }
             self.damage(step.damaged_head.map(|_| head), &undo);
         }

@@ -2,7 +2,7 @@
 
 use reading::{Answer, Head, Lent};
 
-use crate::book::Book;
+use crate::image::Image;
 use crate::format::{Digests, Record, Recorded};
 
 /// Where a replay differs from what was recorded.
@@ -20,32 +20,32 @@ pub fn replay(
     records: &[Record],
     mut call: impl FnMut(&mut Head, &[u8], Lent<'_>) -> Answer,
 ) -> (u32, Vec<Difference>) {
-    let mut book = Book::fresh();
+    let mut image = Image::fresh();
     let mut differences = Vec::new();
     let (mut list, mut number, mut calls, mut code) = (0, 0, 0, None);
     for record in records {
         let what = match record {
             Record::List(title) => {
-                book = Book::fresh();
+                image = Image::fresh();
                 (list, number) = (title.number, 0);
                 continue;
             }
             Record::Put(edit) => {
-                book.edit(edit);
+                image.edit(edit);
                 continue;
             }
             Record::Head(head) => {
-                book.head = *head;
+                image.head = *head;
                 continue;
             }
             Record::Call(recorded) => {
                 number += 1;
                 calls += 1;
                 code = recorded.sheet.get(81).copied();
-                one(&mut book, recorded, &mut call)
+                one(&mut image, recorded, &mut call)
             }
             Record::Expect(edit) => {
-                let held = &book.buffer(edit.buffer)[edit.offset..][..edit.bytes.len()];
+                let held = &image.buffer(edit.buffer)[edit.offset..][..edit.bytes.len()];
                 (held != edit.bytes).then_some("record in full")
             }
             Record::Begin { .. } | Record::End => continue,
@@ -57,17 +57,17 @@ pub fn replay(
 
 /// The first of a call's results that is not as recorded.
 fn one(
-    book: &mut Book,
+    image: &mut Image,
     recorded: &Recorded,
     call: impl FnMut(&mut Head, &[u8], Lent<'_>) -> Answer,
 ) -> Option<&'static str> {
-    let (answer, out) = book.lend(&recorded.step(), call);
-    let digests = Digests::of(book, &recorded.lengths, &out);
+    let (answer, out) = image.lend(&recorded.step(), call);
+    let digests = Digests::of(image, &recorded.lengths, &out);
     let written = &recorded.written;
     let checks = [
         ("number", answer.number == recorded.answer.number),
         ("answer", answer == recorded.answer),
-        ("head", book.head == recorded.head),
+        ("head", image.head == recorded.head),
         ("written", out.get(..written.len()) == Some(written)),
         ("Out", digests.out == recorded.digests.out),
         ("pens", digests.pens == recorded.digests.pens),

@@ -4,7 +4,7 @@
 use reading::state::State;
 
 use crate::bench;
-use crate::book::{Book, Step};
+use crate::image::{Image, Step};
 use crate::coverage::Coverage;
 use crate::damage::{self, Clause};
 use crate::generate::{Calls, Generator, Rates};
@@ -83,10 +83,10 @@ fn generated(
 
 /// The first of some steps that the sample is still short of, or the last.
 fn wanted(generator: &mut Generator, state: &State, covered: &Coverage, draws: usize) -> Step {
-    let book = Book::of_state(state);
+    let image = Image::of_state(state);
     for _ in 1..draws {
         let step = generator.next(state);
-        let (answer, _) = book.clone().step(&step, reading::call);
+        let (answer, _) = image.clone().step(&step, reading::call);
         if covered.wants(step.code(), &answer) {
             return step;
         }

@@ -13,7 +13,7 @@ pub const SHEET_MOST: usize = 2 * SHEET_BYTES;
 
 /// Head and buffers; past its stated length each buffer is zero.
 #[derive(Debug, Clone, PartialEq, Eq)]
-pub struct Book {
+pub struct Image {
     pub head: Head,
     pub pens: Vec<u8>,
     pub writers: Vec<u8>,
@@ -75,7 +75,7 @@ impl Step {
     }
 }
 
-impl Book {
+impl Image {
     pub fn fresh() -> Self {
         Self {
             head: Head::fresh(),
@@ -86,9 +86,9 @@ impl Book {
     }
 
     pub fn of_state(state: &State) -> Self {
-        let mut book = Self::fresh();
-        state.write(&mut book.head, &mut book.pens, &mut book.writers, &mut book.lost);
-        book
+        let mut image = Self::fresh();
+        state.write(&mut image.head, &mut image.pens, &mut image.writers, &mut image.lost);
+        image
     }
 
     /// None where it is not well formed.
@@ -118,7 +118,7 @@ impl Book {
         Edit { bytes: before, ..edit.clone() }
     }
 
-    /// Damages the book as the step says; gives what undoes it.
+    /// Damages the image as the step says; gives what undoes it.
     pub fn damage(&mut self, step: &Step) -> (Head, Vec<Edit>) {
         let head = self.head;
         self.head = step.damaged_head.unwrap_or(head);
