@@ -5,6 +5,7 @@ use lists::record::Witness;
 use lists::rng::Rng;
 use lists::{Image, Generator, Step};
 use original::Original;
+use reading::accounts::{Accounts, Fed};
 use reading::layout::{LOST_BYTES, PENS_BYTES, WRITERS_BYTES};
 use reading::{Answer, Misreading, Sheet, State, call_as};
 
@@ -23,6 +24,8 @@ pub struct Tally {
     pub without_place: u64,
     /// States on which section 7's reads were compared.
     pub read: u64,
+    /// Lists from the fresh state, along which section 6's accounts were kept.
+    pub from_fresh: u64,
 }
 
 /// Where two readings part.
@@ -94,7 +97,9 @@ fn one_list(
     let mut rust = Original::at(&start);
     let mut state = start;
     let mut rng = Rng::new(seed);
+    let mut accounts = (state == State::fresh()).then(Accounts::default);
     tally.lists += 1;
+    tally.from_fresh += u64::from(accounts.is_some());
     for call in 0..generator.length() {
         let step = generator.next(&state);
         let disagree =
@@ -112,6 +117,10 @@ fn one_list(
             tally.without_place += u64::from(answer.number >= 9);
         }
         state = image.state().ok_or_else(|| disagree("not well formed after it".into()))?;
+        if let Some(accounts) = &mut accounts {
+            accounts.feed(&step.sheet, Fed::of(&answer));
+            same("accounts", &state, &accounts.state()).map_err(disagree)?;
+        }
         if let (Some(rust), Some(sheet)) = (&rust, Sheet::of(&step.sheet)) {
             if rng.one_in(READS_ONE_IN) {
                 same_reads(rust, &image, &state, sheet, &mut rng).map_err(disagree)?;

@@ -1,5 +1,5 @@
-//! Section 10's lines and traps, each as a list of its own, and one list of
-//! writers that lapse.
+//! Section 10's lines and traps, each as a list of its own, and lists of what
+//! seldom comes about by chance.
 
 use reading::bytes::{Guid, Key};
 use reading::layout::{NANOSECONDS, Time};
@@ -35,6 +35,8 @@ pub fn lists() -> Vec<(&'static str, Vec<Filled>)> {
         ("trap view new", trap_view_new()),
         ("trap empties set", trap_empties_set()),
         ("lapses", lapses()),
+        ("lapse order", lapse_order()),
+        ("full set", full_set()),
     ]
 }
 
@@ -178,5 +180,34 @@ fn lapses() -> Vec<Filled> {
         list.push(Filled::code(49).a(clock + 11).time1(at(7, 0)).bits(TIME1_PRESENT));
     }
     list.extend([Filled::code(38), Filled::code(39)]);
+    list
+}
+
+/// Two writers lapse in one call; the lesser GUID holds the greater key, and
+/// that has the lesser handle. Out is in the order of keys.
+fn lapse_order() -> Vec<Filled> {
+    let lapsing = |code: u8, guid: Guid| Filled::code(code).guid(guid);
+    let mut list = Vec::new();
+    for (key, guid) in [(OTHER_KEY, WRITER), (KEY, RIVAL)] {
+        list.push(lapsing(32, guid).a(1).b(10).bits(LEASE_PRESENT));
+        list.push(lapsing(48, guid).key(key).limit(-1));
+    }
+    list.push(Filled::code(49).a(11));
+    list
+}
+
+/// A set of 16 writers: a 17th is refused before ownership is asked, whether
+/// it is the stronger or the weaker; a weaker one of the set is not.
+fn full_set() -> Vec<Filled> {
+    let member = |n: u8| [0x20 + n; 16];
+    let bid = |code: u8, guid: Guid, strength| key(code).guid(guid).strength(strength).limit(-1);
+    let mut list = vec![sample(), bid(16, member(0), 1)];
+    list.extend((0..16).map(|n| Filled::code(6).handle(1).guid(member(n))));
+    list.push(Filled::code(6).handle(1).guid(member(15)));
+    for code in [48, 10] {
+        list.push(bid(code, member(16), 0));
+        list.push(bid(code, member(16), 2));
+        list.push(bid(code, member(3), 0));
+    }
     list
 }

@@ -5,22 +5,22 @@ use std::fmt;
 use reading::Answer;
 
 use crate::format::Record;
+use crate::generate::CODES;
 
 /// Each code is to be accepted so often,
 const ACCEPTED_LEAST: u32 = 50;
 /// and each refusal, outcome, yes, no and none met so often.
 const MET_LEAST: u32 = 10;
-
-const CODES: [u8; 34] = [
-    1, 2, 3, 4, 5, 6, 7, 8, 9, 10, 11, 12, 13, 14, 15, 16, 17, 18, 19, 20, 21, 32, 33, 34, 35, 36,
-    37, 38, 39, 40, 48, 49, 50, 51,
-];
+/// Each late refusal, and each of a used field, so often for each code.
+const PAIR_LEAST: u32 = 2;
 
 /// The accepted calls of one code, and its answers both ways.
 #[derive(Debug, Clone, Copy, Default)]
 struct Code {
     accepted: u32,
     refused: u32,
+    /// By number.
+    refusals: [u32; 14],
     yes: u32,
     present: u32,
     next_due: u32,
@@ -82,11 +82,14 @@ impl Coverage {
 
     /// Whether a call like this is still met too seldom in some respect.
     pub fn wants(&self, code: Option<u8>, answer: &Answer) -> bool {
-        if answer.number != 0 {
-            return self.refusals[usize::from(answer.number)] < MET_LEAST;
-        }
-        let Some(code) = code else { return false };
+        let number = usize::from(answer.number);
+        let Some(code) = code else { return self.refusals[number] < MET_LEAST };
         let c = &self.codes[usize::from(code)];
+        if number != 0 {
+            let pair = refused_pairs().contains(&(code, number));
+            return self.refusals[number] < MET_LEAST
+                || pair && c.refusals[number] < PAIR_LEAST;
+        }
         let mut with = self.clone();
         with.call(Some(code), answer);
         let after = &with.codes[usize::from(code)];
@@ -109,6 +112,7 @@ impl Coverage {
         let counts = &mut self.codes[usize::from(code)];
         if answer.number != 0 {
             counts.refused += 1;
+            counts.refusals[usize::from(answer.number)] += 1;
             return;
         }
         counts.accepted += 1;
@@ -143,11 +147,34 @@ impl Coverage {
         for (number, n) in self.refusals.iter().enumerate().skip(1) {
             least(format!("refusal {number}"), *n, MET_LEAST);
         }
+        for (code, number) in refused_pairs() {
+            let n = self.codes[usize::from(code)].refusals[number];
+            least(format!("code {code} refused as {number}"), n, PAIR_LEAST);
+        }
         for (outcome, n) in self.outcomes.iter().enumerate() {
             least(format!("outcome {outcome}"), *n, MET_LEAST);
         }
         missing
     }
+}
+
+/// The codes that can meet refusals 3 to 13, each with its number.
+fn refused_pairs() -> Vec<(u8, usize)> {
+    let of = |number: usize, codes: &[u8]| codes.iter().map(|c| (*c, number)).collect::<Vec<_>>();
+    [
+        of(3, &CODES),
+        of(4, &[1, 3, 4, 5, 7, 8, 9, 10, 11, 16, 21, 48, 49, 50, 51]),
+        of(5, &[32, 35, 36, 37, 49]),
+        of(6, &[1, 8, 9, 48]),
+        of(7, &[32]),
+        of(8, &[40]),
+        of(9, &[1, 2, 8, 9, 48]),
+        of(10, &[6, 10, 48]),
+        of(11, &[32]),
+        of(12, &[37, 49]),
+        of(13, &[1, 2, 8, 9, 48]),
+    ]
+    .concat()
 }
 
 /// How often a code's answer was yes, present and so on; none where the code

@@ -26,6 +26,11 @@ pub enum Calls {
     All,
 }
 
+/// The known codes.
+pub const CODES: [u8; 34] = [
+    1, 2, 3, 4, 5, 6, 7, 8, 9, 10, 11, 12, 13, 14, 15, 16, 17, 18, 19, 20, 21, 32, 33, 34, 35, 36,
+    37, 38, 39, 40, 48, 49, 50, 51,
+];
 /// Ownership and the loss of writers more often: they need more to be there.
 const INSTANCE_CODES: [u8; 26] = [
     1, 2, 3, 4, 5, 6, 6, 7, 7, 8, 9, 10, 11, 12, 13, 14, 15, 16, 16, 16, 17, 18, 18, 19, 20, 21,

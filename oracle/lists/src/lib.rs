@@ -1,12 +1,13 @@
 //! Lists of calls: generated from a seed, or recorded in a file.
 
 pub mod bench;
-pub mod image;
 pub mod coverage;
 pub mod damage;
 pub mod fill;
 pub mod format;
 pub mod generate;
+pub mod hostile;
+pub mod image;
 pub mod pools;
 pub mod record;
 pub mod replay;
@@ -15,6 +16,6 @@ pub mod run;
 pub mod sample;
 pub mod start;
 
-pub use image::{Image, Step};
 pub use coverage::Coverage;
 pub use generate::Generator;
+pub use image::{Image, Step};

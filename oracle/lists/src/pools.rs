@@ -80,7 +80,7 @@ impl Pools {
             _ => {
                 let mut guid = [0; 16];
                 guid[..12].copy_from_slice(&rng.pick(&self.prefixes));
-                guid[13] = rng.below(4) as u8;
+                guid[13] = rng.below(8) as u8;
                 guid[14] = rng.below(8) as u8;
                 guid[15] = rng.pick(&[0, 2, 3, 0xff]);
                 guid

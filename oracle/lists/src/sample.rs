@@ -7,7 +7,8 @@ use crate::bench;
 use crate::image::{Image, Step};
 use crate::coverage::Coverage;
 use crate::damage::{self, Clause};
-use crate::generate::{Calls, Generator, Rates};
+use crate::generate::{CODES, Calls, Generator, Rates};
+use crate::hostile;
 use crate::record::{Recorder, Witness};
 use crate::rng::Rng;
 use crate::start::Start;
@@ -18,25 +19,29 @@ const LENGTH: usize = 44;
 const DRAWS: usize = 16;
 
 /// Generated lists: which calls, which start, and how many.
-const PLAN: [(Calls, Start, u64); 17] = [
-    (Calls::Instance, Start::Fresh, 10),
-    (Calls::Instance, Start::Any, 8),
-    (Calls::Instance, Start::FullInstances, 1),
+const PLAN: [(Calls, Start, u64); 18] = [
+    (Calls::Instance, Start::Fresh, 8),
+    (Calls::Instance, Start::Any, 6),
+    (Calls::Instance, Start::FullInstances, 2),
     (Calls::Instance, Start::FullSets, 3),
     (Calls::Instance, Start::LastHandles, 2),
-    (Calls::Liveliness, Start::Fresh, 8),
+    (Calls::Liveliness, Start::Fresh, 6),
     (Calls::Liveliness, Start::Any, 4),
     (Calls::Liveliness, Start::FullWriters, 2),
     (Calls::Liveliness, Start::NearlyFullLost, 2),
-    (Calls::Joined, Start::Fresh, 11),
+    (Calls::Joined, Start::Fresh, 8),
     (Calls::Joined, Start::FullSets, 2),
-    (Calls::All, Start::Fresh, 10),
-    (Calls::All, Start::Any, 8),
+    (Calls::Joined, Start::NearlyFullLost, 1),
+    (Calls::All, Start::Fresh, 5),
+    (Calls::All, Start::Any, 6),
     (Calls::All, Start::FullInstances, 1),
-    (Calls::All, Start::FullSets, 2),
+    (Calls::All, Start::FullSets, 1),
     (Calls::All, Start::NearlyFullLost, 2),
     (Calls::All, Start::LastHandles, 2),
 ];
+
+/// How often each clause is broken; most can be in two or three ways.
+const DAMAGES: usize = 3;
 
 /// Refused calls stand closer in the sample than in the long runs.
 const RATES: Rates = Rates { unknown_code: 60, odd_length: 50, damage: 60, hostile_field: 16 };
@@ -44,7 +49,8 @@ const RATES: Rates = Rates { unknown_code: 60, odd_length: 50, damage: 60, hosti
 /// Records the sample of a seed.
 pub fn make(seed: u64, witness: &mut dyn Witness) -> Result<Vec<u8>, String> {
     let mut recorder = Recorder::default();
-    for (name, sheets) in bench::lists() {
+    let hostile = ("hostile fields", hostile::sheets());
+    for (name, sheets) in bench::lists().into_iter().chain([hostile]) {
         let mut steps = sheets.into_iter().map(|sheet| Step::of(sheet.0));
         recorder.list(name, 0, &State::fresh(), |_, _| steps.next(), witness)?;
     }
@@ -94,7 +100,7 @@ fn wanted(generator: &mut Generator, state: &State, covered: &Coverage, draws: u
     generator.next(state)
 }
 
-/// A list that damages each clause once, from a state that has what each
+/// A list that damages each clause, from a state that has what each
 /// needs.
 fn damaged(recorder: &mut Recorder, seed: u64, witness: &mut dyn Witness) -> Result<(), String> {
     let (state, seed) = rich_state(seed);
@@ -102,10 +108,12 @@ fn damaged(recorder: &mut Recorder, seed: u64, witness: &mut dyn Witness) -> Res
     generator.rates =
         Rates { unknown_code: usize::MAX, odd_length: usize::MAX, damage: usize::MAX, ..RATES };
     let mut rng = Rng::new(seed);
-    let mut clauses = Clause::all().into_iter();
+    let mut clauses = (0..DAMAGES).flat_map(|_| Clause::all());
+    let mut codes = CODES.iter().cycle();
     let next = |state: &State, _: &Coverage| {
         let clause = clauses.next()?;
         let mut step = generator.next(state);
+        step.sheet[81] = *codes.next()?;
         damage::one(&mut rng, state, clause, &mut step);
         Some(step)
     };

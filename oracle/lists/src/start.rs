@@ -35,7 +35,7 @@ pub fn state(rng: &mut Rng, pools: &Pools, start: Start) -> State {
     }
     let few = rng.below(6);
     let (instances, writers, lost) = match start {
-        Start::FullInstances => (rng.pick(&[126, 128, 128]), few, rng.below(3)),
+        Start::FullInstances => (rng.pick(&[126, 127, 128, 128]), few, rng.below(3)),
         Start::FullWriters => (few, 126 + rng.below(3), rng.below(3)),
         Start::NearlyFullLost => (few, 4 + rng.below(6), 250 + rng.below(7)),
         Start::FullSets => (1 + few, rng.below(7), rng.below(4)),

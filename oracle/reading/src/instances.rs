@@ -1,60 +1,49 @@
-//! Codes 1 to 21: the instance calls of section 3.
+//! Codes 1 to 21: which instances a call reaches, its late refusals and its
+//! answer (sections 3 and 8).
 //!
-//! The calls are those of ZeroDDS's instance_tracker.rs; the rules are read
-//! from section 3, over section 2's records.
+//! The calls are those of ZeroDDS's instance_tracker.rs.
 
 use crate::Misreading;
 use crate::answer::Answer;
 use crate::bytes::{Guid, Key, prefix_of};
+use crate::effects;
 use crate::handles;
-use crate::layout::{Instance, Kind, LAST_NEXT_HANDLE, PLACES, SET_PLACES, Time};
+use crate::layout::{Instance, LAST_NEXT_HANDLE, PLACES, Time};
 use crate::sheet::Sheet;
 use crate::state::State;
 
-/// What an accepted call answers, or its refusal; with what Out lists.
+/// What an accepted call answers and Out lists, or its refusal.
 pub type Turn = Result<(Answer, Vec<u8>), u8>;
 
-/// Delay or deadline that stands for never.
-const NEVER: u64 = u64::MAX;
-
-fn answered(answer: Answer) -> Turn {
-    Ok((answer, Vec::new()))
-}
-
 pub fn call(state: &mut State, sheet: Sheet<'_>) -> Turn {
-    match sheet.code() {
-        1 => register(state, sheet),
-        2 => ensure_registered_limited(state, sheet),
-        3 => on_handle(state, sheet, dispose),
-        4 => on_handle(state, sheet, unregister),
-        5 => on_handle(state, sheet, unregister_writer),
-        6 => note_writer(state, sheet),
+    let guid = sheet.guid();
+    let answer = match sheet.code() {
+        1 => register(state, sheet)?,
+        2 => ensure_registered_limited(state, sheet)?,
+        3 => on_handle(state, sheet, effects::dispose),
+        4 => unregister(state, sheet),
+        5 => on_handle(state, sheet, effects::unregister_writer),
+        6 => note_writer(state, sheet)?,
         7 => {
-            let handles = drop_writer(state, &sheet.guid(), sheet.optional_time1());
-            Ok(listing(Answer::default(), &handles))
+            let handles = drop_writer(state, &guid, sheet.optional_time1());
+            return Ok(listing(Answer::default(), &handles));
         }
-        8 => observe_lifecycle(state, sheet),
-        9 => observe_admitted(state, sheet),
-        10 => note_admitted(state, sheet),
-        11 => record_delivery(state, sheet),
-        12 => on_handle(state, sheet, |i, s| {
-            i.view_new = false;
-            i.samples = i.samples.saturating_sub(s.n());
-        })
-        .map(|_| Default::default()),
-        13 => on_handle(state, sheet, |i, _| i.view_new = false).map(|_| Default::default()),
-        14 => mark_view_new(state, sheet),
-        15 => on_handle(state, sheet, |i, s| i.samples = i.samples.saturating_sub(s.n()))
-            .map(|_| Default::default()),
-        16 => answered(Answer::yes(accept(state, sheet))),
+        8 => observe_lifecycle(state, sheet)?,
+        9 => observe_admitted(state, sheet)?,
+        10 => note_admitted(state, sheet)?,
+        11 => unanswered(on_key(state, sheet, effects::record_delivery)),
+        12 => unanswered(on_handle(state, sheet, effects::note_taken)),
+        13 => unanswered(on_handle(state, sheet, effects::mark_view_seen)),
+        14 => on_key(state, sheet, |i, _| i.view_new = true),
+        15 => unanswered(on_handle(state, sheet, effects::drain_samples)),
+        16 => Answer::yes(accept(state, sheet)),
         17 => update_owner_strength(state, sheet),
-        18 => answered(Answer::count(clear_owner(state, |owner| *owner == sheet.guid()))),
-        19 => answered(Answer::count(clear_owner(state, |owner| {
-            prefix_of(owner) == sheet.prefix()
-        }))),
+        18 => Answer::count(clear_owner(state, |owner| *owner == guid)),
+        19 => Answer::count(clear_owner(state, |owner| prefix_of(owner) == sheet.prefix())),
         20 => release_owner_of(state, sheet),
         _ => autopurge(state, sheet),
-    }
+    };
+    Ok((answer, Vec::new()))
 }
 
 /// Handles as Out lists them, and their number.
@@ -63,18 +52,21 @@ pub fn listing(answer: Answer, handles: &[u64]) -> (Answer, Vec<u8>) {
     (Answer { listed: handles.len() as u32, ..answer }, out)
 }
 
+/// The answer of a call of the Rust that answers nothing.
+fn unanswered(_: Answer) -> Answer {
+    Answer::default()
+}
+
 /// Acts on the instance with the sheet's handle; says whether there is one.
-fn on_handle(state: &mut State, sheet: Sheet<'_>, act: impl Fn(&mut Instance, Sheet<'_>)) -> Turn {
-    let twisted = state.misreads(Misreading::UnregisterEmptiesWriters) && sheet.code() == 4;
+fn on_handle(state: &mut State, sheet: Sheet<'_>, act: impl Fn(&mut Instance, Sheet<'_>)) -> Answer {
     let found = state.by_handle(sheet.handle());
-    let yes = found.is_some();
-    if let Some(instance) = found {
-        act(instance, sheet);
-        if twisted {
-            instance.writers.clear();
-        }
-    }
-    answered(Answer::yes(yes))
+    Answer::yes(found.map(|i| act(i, sheet)).is_some())
+}
+
+/// Acts on the instance with the sheet's key; says whether there is one.
+fn on_key(state: &mut State, sheet: Sheet<'_>, act: impl Fn(&mut Instance, Sheet<'_>)) -> Answer {
+    let found = state.instance(&sheet.key());
+    Answer::yes(found.map(|i| act(i, sheet)).is_some())
 }
 
 /// Refusals 9 and 13, for a key that is not there.
@@ -90,16 +82,12 @@ pub fn no_room(state: &State, key: &Key) -> Option<u8> {
     }
 }
 
-/// Whether a key that is not there meets the sheet's limit.
+/// Whether a key that is not there meets the sheet's limit; a negative one is
+/// none.
 pub fn at_limit(state: &State, sheet: Sheet<'_>) -> bool {
     let limit = usize::try_from(sheet.limit());
     state.place(&sheet.key()).is_err()
         && limit.is_ok_and(|limit| state.instances.len() >= limit)
-}
-
-/// Refusal 10, for an instance and a writer.
-pub fn set_full(instance: &Instance, guid: &Guid) -> bool {
-    instance.writers.len() == SET_PLACES && instance.writers.binary_search(guid).is_err()
 }
 
 /// The instance of a key, started with the next handle where there is none.
@@ -119,146 +107,73 @@ fn start(state: &mut State, key: Key) -> Result<&mut Instance, u8> {
     Ok(&mut state.instances[place])
 }
 
-/// Alive again, with one more of the matching generation.
-fn revive(instance: &mut Instance) -> bool {
-    match instance.kind {
-        Kind::Alive => return false,
-        Kind::Disposed => {
-            instance.disposed_generations = instance.disposed_generations.saturating_add(1);
-        }
-        Kind::NoWriters => {
-            instance.no_writers_generations = instance.no_writers_generations.saturating_add(1);
-        }
-    }
-    instance.kind = Kind::Alive;
-    true
-}
-
-fn register(state: &mut State, sheet: Sheet<'_>) -> Turn {
-    let twisted = state.misreads(Misreading::RegisterSetsViewNew);
+fn register(state: &mut State, sheet: Sheet<'_>) -> Result<Answer, u8> {
+    let wrongly_new = state.misreads(Misreading::RegisterSetsViewNew);
     let instance = start(state, sheet.key())?;
-    let revived = revive(instance);
-    if twisted && revived {
-        instance.view_new = true;
-    }
-    instance.holder = Some(sheet.holder().to_vec());
-    instance.writer_count = instance.writer_count.saturating_add(1);
-    set(&mut instance.last_sample, sheet.optional_time1());
-    answered(Answer::handle(instance.handle))
+    let revived = effects::register(instance, sheet);
+    instance.view_new |= wrongly_new && revived;
+    Ok(Answer::handle(instance.handle))
 }
 
-fn ensure_registered_limited(state: &mut State, sheet: Sheet<'_>) -> Turn {
+fn ensure_registered_limited(state: &mut State, sheet: Sheet<'_>) -> Result<Answer, u8> {
     if at_limit(state, sheet) {
-        return answered(Answer::default());
+        return Ok(Answer::default());
     }
     let instance = start(state, sheet.key())?;
-    if revive(instance) {
-        instance.view_new = true;
+    effects::ensure_registered(instance);
+    Ok(Answer::handle(instance.handle))
+}
+
+fn unregister(state: &mut State, sheet: Sheet<'_>) -> Answer {
+    let wrongly_empty = state.misreads(Misreading::UnregisterEmptiesWriters);
+    on_handle(state, sheet, |i, sheet| {
+        effects::unregister(i, sheet);
+        if wrongly_empty {
+            i.writers.clear();
+        }
+    })
+}
+
+fn note_writer(state: &mut State, sheet: Sheet<'_>) -> Result<Answer, u8> {
+    let guid = sheet.guid();
+    match state.by_handle(sheet.handle()) {
+        Some(i) if effects::set_full(i, &guid) => return Err(10),
+        Some(i) => effects::note_writer(i, guid),
+        None => {}
     }
-    instance.writer_count = instance.writer_count.max(1);
-    answered(Answer::handle(instance.handle))
+    Ok(Answer::default())
 }
 
-/// A given time replaces the one there.
-fn set(field: &mut Option<Time>, given: Option<Time>) {
-    if given.is_some() {
-        *field = given;
+/// Takes a writer out of every set; the handles of the instances it turned.
+pub fn drop_writer(state: &mut State, guid: &Guid, time: Option<Time>) -> Vec<u64> {
+    let turned = |i: &mut Instance| effects::drop_writer(i, guid, time).then_some(i.handle);
+    state.instances.iter_mut().filter_map(turned).collect()
+}
+
+fn observe_lifecycle(state: &mut State, sheet: Sheet<'_>) -> Result<Answer, u8> {
+    let instance = start(state, sheet.key())?;
+    effects::observe_lifecycle(instance, sheet);
+    Ok(Answer::handle(instance.handle))
+}
+
+pub fn observe_admitted(state: &mut State, sheet: Sheet<'_>) -> Result<Answer, u8> {
+    if at_limit(state, sheet) {
+        return Ok(Answer::default());
     }
+    let instance = start(state, sheet.key())?;
+    effects::observe_admitted(instance, sheet);
+    Ok(Answer { samples: instance.samples, ..Answer::handle(instance.handle) })
 }
 
-fn dispose(instance: &mut Instance, sheet: Sheet<'_>) {
-    instance.kind = Kind::Disposed;
-    set(&mut instance.last_sample, sheet.optional_time1());
-    set(&mut instance.disposed_at, sheet.optional_time1());
-}
-
-fn unregister(instance: &mut Instance, sheet: Sheet<'_>) {
-    instance.writer_count = instance.writer_count.saturating_sub(1);
-    if instance.writer_count == 0 && instance.kind != Kind::Disposed {
-        instance.kind = Kind::NoWriters;
-        set(&mut instance.no_writers_at, sheet.optional_time1());
-    }
-    set(&mut instance.last_sample, sheet.optional_time1());
-}
-
-fn unregister_writer(instance: &mut Instance, sheet: Sheet<'_>) {
-    instance.writers.retain(|guid| *guid != sheet.guid());
-    if instance.writers.is_empty() && instance.kind == Kind::Alive {
-        instance.kind = Kind::NoWriters;
-        set(&mut instance.no_writers_at, sheet.optional_time1());
-    }
-    set(&mut instance.last_sample, sheet.optional_time1());
-}
-
-fn note_writer(state: &mut State, sheet: Sheet<'_>) -> Turn {
-    if let Some(instance) = state.by_handle(sheet.handle()) {
-        add_writer(instance, sheet.guid())?;
-    }
-    answered(Answer::default())
-}
-
-fn add_writer(instance: &mut Instance, guid: Guid) -> Result<(), u8> {
-    if set_full(instance, &guid) {
+pub fn note_admitted(state: &mut State, sheet: Sheet<'_>) -> Result<Answer, u8> {
+    let Some(instance) = state.instance(&sheet.key()) else {
+        return Ok(Answer::default());
+    };
+    if effects::set_full(instance, &sheet.guid()) {
         return Err(10);
     }
-    if let Err(place) = instance.writers.binary_search(&guid) {
-        instance.writers.insert(place, guid);
-    }
-    Ok(())
-}
-
-/// Takes a writer out of every set; the handles of the alive instances whose
-/// set that emptied.
-pub fn drop_writer(state: &mut State, guid: &Guid, time: Option<Time>) -> Vec<u64> {
-    let mut writerless = Vec::new();
-    for instance in &mut state.instances {
-        let Ok(place) = instance.writers.binary_search(guid) else { continue };
-        instance.writers.remove(place);
-        if instance.writers.is_empty() && instance.kind == Kind::Alive {
-            instance.kind = Kind::NoWriters;
-            set(&mut instance.no_writers_at, time);
-            set(&mut instance.last_sample, time);
-            writerless.push(instance.handle);
-        }
-    }
-    writerless
-}
-
-fn observe_lifecycle(state: &mut State, sheet: Sheet<'_>) -> Turn {
-    let instance = start(state, sheet.key())?;
-    if let Some(holder) = sheet.optional_holder() {
-        instance.holder = Some(holder.to_vec());
-    }
-    set(&mut instance.last_sample, sheet.optional_time1());
-    instance.samples = instance.samples.saturating_add(1);
-    answered(Answer::handle(instance.handle))
-}
-
-pub fn observe_admitted(state: &mut State, sheet: Sheet<'_>) -> Turn {
-    if at_limit(state, sheet) {
-        return answered(Answer::default());
-    }
-    let instance = start(state, sheet.key())?;
-    if revive(instance) {
-        instance.view_new = true;
-    }
-    // A holder that is there stays; the sheet's is for an instance without.
-    if instance.holder.is_none() {
-        instance.holder = Some(sheet.holder().to_vec());
-    }
-    instance.last_sample = Some(sheet.time1());
-    instance.samples = instance.samples.saturating_add(1);
-    answered(Answer { samples: instance.samples, ..Answer::handle(instance.handle) })
-}
-
-pub fn note_admitted(state: &mut State, sheet: Sheet<'_>) -> Turn {
-    let Some(instance) = state.instance(&sheet.key()) else {
-        return answered(Answer::default());
-    };
-    add_writer(instance, sheet.guid())?;
-    instance.last_delivered = Some(sheet.time1());
-    instance.last_filter = Some(sheet.time2());
-    answered(Answer {
+    effects::note_admitted(instance, sheet);
+    Ok(Answer {
         present: true,
         view_new: instance.view_new,
         kind: instance.kind as u8,
@@ -268,112 +183,31 @@ pub fn note_admitted(state: &mut State, sheet: Sheet<'_>) -> Turn {
     })
 }
 
-fn record_delivery(state: &mut State, sheet: Sheet<'_>) -> Turn {
-    if let Some(instance) = state.instance(&sheet.key()) {
-        instance.last_delivered = Some(sheet.time1());
-        instance.last_filter = Some(sheet.time1());
-    }
-    answered(Answer::default())
-}
-
-fn mark_view_new(state: &mut State, sheet: Sheet<'_>) -> Turn {
-    let found = state.instance(&sheet.key());
-    let yes = found.is_some();
-    if let Some(instance) = found {
-        instance.view_new = true;
-    }
-    answered(Answer::yes(yes))
-}
-
-/// Code 16: whether the writer may update the instance, which it then owns.
+/// Code 16; an unknown key says yes and stores nothing.
 pub fn accept(state: &mut State, sheet: Sheet<'_>) -> bool {
-    let twisted = state.misreads(Misreading::TieToHigherGuid);
-    let Some(instance) = state.instance(&sheet.key()) else { return true };
-    let yes = takes_over(instance, sheet, twisted);
-    if yes {
-        instance.owner = Some((sheet.guid(), sheet.strength()));
-        instance.owner_at = Some(sheet.time2());
-    }
-    yes
+    let tie_to_higher = state.misreads(Misreading::TieToHigherGuid);
+    let found = state.instance(&sheet.key());
+    found.is_none_or(|i| effects::accept(i, sheet, tie_to_higher))
 }
 
-fn takes_over(instance: &Instance, sheet: Sheet<'_>, tie_to_higher: bool) -> bool {
-    let Some((owner, strength)) = instance.owner else { return true };
-    let lower = if tie_to_higher { sheet.guid() > owner } else { sheet.guid() < owner };
-    owner == sheet.guid()
-        || missed_deadline(instance, sheet)
-        || sheet.strength() > strength
-        || sheet.strength() == strength && lower
+fn update_owner_strength(state: &mut State, sheet: Sheet<'_>) -> Answer {
+    state.instances.iter_mut().for_each(|i| effects::update_owner_strength(i, sheet));
+    Answer::default()
 }
 
-fn missed_deadline(instance: &Instance, sheet: Sheet<'_>) -> bool {
-    let (Some(deadline), Some(at)) = (sheet.optional_deadline(), instance.owner_at) else {
-        return false;
-    };
-    let gap = i128::from(sheet.time2().signed()) - i128::from(at.signed());
-    deadline != NEVER && gap >= i128::from(deadline)
-}
-
-fn update_owner_strength(state: &mut State, sheet: Sheet<'_>) -> Turn {
-    for (owner, strength) in state.instances.iter_mut().filter_map(|i| i.owner.as_mut()) {
-        if *owner == sheet.guid() {
-            *strength = sheet.strength();
-        }
-    }
-    answered(Answer::default())
-}
-
-/// Clears the owners that `which` names; owner_at stays.
+/// Clears the owners that `which` names, in every instance; their number.
 pub fn clear_owner(state: &mut State, which: impl Fn(&Guid) -> bool) -> u32 {
-    let mut cleared = 0;
-    for instance in &mut state.instances {
-        if instance.owner.is_some_and(|(owner, _)| which(&owner)) {
-            instance.owner = None;
-            cleared += 1;
-        }
-    }
-    cleared
+    state.instances.iter_mut().map(|i| u32::from(effects::clear_owner(i, &which))).sum()
 }
 
-fn release_owner_of(state: &mut State, sheet: Sheet<'_>) -> Turn {
-    let guid = sheet.guid();
-    let Some(instance) = state.instance(&sheet.key()) else {
-        return answered(Answer::yes(false));
-    };
-    let owned = instance.owner.is_some_and(|(owner, _)| owner == guid);
-    if owned {
-        instance.owner = None;
-    }
-    answered(Answer::yes(owned))
+fn release_owner_of(state: &mut State, sheet: Sheet<'_>) -> Answer {
+    let found = state.instance(&sheet.key());
+    Answer::yes(found.is_some_and(|i| effects::clear_owner(i, |owner| *owner == sheet.guid())))
 }
 
-fn autopurge(state: &mut State, sheet: Sheet<'_>) -> Turn {
+fn autopurge(state: &mut State, sheet: Sheet<'_>) -> Answer {
+    let only_later = state.misreads(Misreading::PurgeOnlyAfterDelay);
     let before = state.instances.len();
-    let strictly = state.misreads(Misreading::PurgeOnlyAfterDelay);
-    let due = |at: Option<Time>, delay: u64| {
-        at.is_some_and(|at| {
-            let gap = sheet.time2().floored().saturating_sub(at.floored());
-            delay != NEVER && gap >= delay && !(strictly && gap == delay)
-        })
-    };
-    state.instances.retain(|i| match i.kind {
-        Kind::Alive => true,
-        Kind::Disposed => !due(i.disposed_at, sheet.a()),
-        Kind::NoWriters => !due(i.no_writers_at, sheet.b()),
-    });
-    answered(Answer::count((before - state.instances.len()) as u32))
-}
-
-/// Time-based filter: earlier than the last is let through, else the gap must
-/// reach the separation.
-pub fn filter_admits(last: Option<Time>, time: Time, separation: u64) -> bool {
-    let Some(last) = last else { return true };
-    let (last, time) = (last.floored(), time.floored());
-    // 2^64-1 stands for a separation that no gap reaches.
-    time < last || time - last >= separation
-}
-
-/// Destination order: strictly later.
-pub fn order_admits(last: Option<Time>, time: Time, by_source: bool) -> bool {
-    !by_source || last.is_none_or(|last| time.floored() > last.floored())
+    state.instances.retain(|i| !effects::purges(i, sheet, only_later));
+    Answer::count((before - state.instances.len()) as u32)
 }

@@ -3,9 +3,10 @@
 use crate::Misreading;
 use crate::answer::Answer;
 use crate::bytes::Guid;
+use crate::effects::{filter_admits, order_admits, set_full};
 use crate::instances::{
-    Turn, accept, at_limit, clear_owner, drop_writer, filter_admits, listing, no_room,
-    note_admitted, observe_admitted, order_admits, set_full,
+    Turn, accept, at_limit, clear_owner, drop_writer, listing, no_room, note_admitted,
+    observe_admitted,
 };
 use crate::liveliness::{expire, lost_with_participant, unmatched};
 use crate::sheet::Sheet;
@@ -55,8 +56,8 @@ fn admit(state: &mut State, sheet: Sheet<'_>) -> Turn {
     if !accept(state, sheet) {
         return outcome(4);
     }
-    let (observed, _) = observe_admitted(state, sheet)?;
-    let (noted, _) = note_admitted(state, sheet)?;
+    let observed = observe_admitted(state, sheet)?;
+    let noted = note_admitted(state, sheet)?;
     let answer = Answer { handle: observed.handle, samples: observed.samples, ..noted };
     Ok((answer, Vec::new()))
 }

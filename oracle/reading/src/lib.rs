@@ -4,8 +4,10 @@
 //! the decoded state and lays it out again. It derives its calls from
 //! ZeroDDS's instance_tracker.rs and liveliness_tracker.rs as 01 states them.
 
+pub mod accounts;
 pub mod answer;
 pub mod bytes;
+pub mod effects;
 pub mod handles;
 pub mod head;
 pub mod instances;

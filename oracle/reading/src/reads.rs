@@ -3,7 +3,7 @@
 
 use crate::bytes::{Guid, Key, array_at};
 use crate::head::Head;
-use crate::instances::{filter_admits, order_admits};
+use crate::effects::{filter_admits, order_admits};
 use crate::layout::{
     GUID_BYTES, INSTANCE_BYTES, Instance, Kind, LAST_NEXT_HANDLE, LOST_BYTES, LOST_PLACES,
     OUT_BYTES, PENS_BYTES, PLACES, Time, WRITERS_BYTES,
