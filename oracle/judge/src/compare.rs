@@ -3,7 +3,7 @@
 use lists::damage::Clause;
 use lists::record::Witness;
 use lists::rng::Rng;
-use lists::{Image, Generator, Step};
+use lists::{Generator, Image, Step};
 use original::Original;
 use reading::accounts::{Accounts, Fed};
 use reading::layout::{LOST_BYTES, PENS_BYTES, WRITERS_BYTES};
@@ -93,42 +93,84 @@ fn one_list(
     scratch: &mut Image,
 ) -> Result<(), Disagreement> {
     let (mut generator, start) = Generator::new(seed);
-    let mut image = Image::of_state(&start);
-    let mut rust = Original::at(&start);
-    let mut state = start;
-    let mut rng = Rng::new(seed);
-    let mut accounts = (state == State::fresh()).then(Accounts::default);
+    let mut run = Run::of(start, seed);
     tally.lists += 1;
-    tally.from_fresh += u64::from(accounts.is_some());
+    tally.from_fresh += u64::from(run.accounts.is_some());
     for call in 0..generator.length() {
-        let step = generator.next(&state);
-        let disagree =
-            |what: String| Disagreement { seed, call, code: step.code(), what };
+        let step = generator.next(&run.state);
+        run.call(&step, misreading, tally, scratch)
+            .map_err(|what| Disagreement { seed, call, code: step.code(), what })?;
+    }
+    Ok(())
+}
+
+/// One list as it runs: the reading's image and state, the Rust where it is at
+/// hand, and the accounts where the list starts fresh.
+struct Run {
+    image: Image,
+    state: State,
+    rust: Option<Original>,
+    accounts: Option<Accounts>,
+    rng: Rng,
+}
+
+impl Run {
+    fn of(start: State, seed: u64) -> Self {
+        Self {
+            image: Image::of_state(&start),
+            rust: Original::at(&start),
+            accounts: (start == State::fresh()).then(Accounts::default),
+            state: start,
+            rng: Rng::new(seed),
+        }
+    }
+
+    fn call(
+        &mut self,
+        step: &Step,
+        misreading: Option<Misreading>,
+        tally: &mut Tally,
+        scratch: &mut Image,
+    ) -> Result<(), String> {
         let (answer, out) =
-            image.step(&step, |head, sheet, lent| call_as(head, sheet, lent, misreading));
+            self.image.step(step, |head, sheet, lent| call_as(head, sheet, lent, misreading));
         tally.calls += 1;
         tally.accepted += u64::from(answer.number == 0);
         if step.damages() && !matches!(answer.number, 1..=3) {
-            return Err(disagree(format!("damage {:?} met {}", step.damage, answer.number)));
+            return Err(format!("damage {:?} met {}", step.damage, answer.number));
         }
-        if let Some(rust) = &mut rust {
-            let told = judged(rust, &state, &step, &answer, &out);
-            told.and_then(|()| same_state(rust, &image, scratch)).map_err(disagree)?;
+        if let Some(rust) = &mut self.rust {
+            judged(rust, &self.state, step, &answer, &out)?;
+            same_state(rust, &self.image, scratch)?;
             tally.without_place += u64::from(answer.number >= 9);
         }
-        state = image.state().ok_or_else(|| disagree("not well formed after it".into()))?;
-        if let Some(accounts) = &mut accounts {
-            accounts.feed(&step.sheet, Fed::of(&answer));
-            same("accounts", &state, &accounts.state()).map_err(disagree)?;
-        }
-        if let (Some(rust), Some(sheet)) = (&rust, Sheet::of(&step.sheet)) {
-            if rng.one_in(READS_ONE_IN) {
-                same_reads(rust, &image, &state, sheet, &mut rng).map_err(disagree)?;
-                tally.read += 1;
-            }
+        self.state = self.image.state().ok_or("not well formed after it")?;
+        self.same_accounts(step, &answer)?;
+        self.same_reads(step, tally)
+    }
+
+    fn same_accounts(&mut self, step: &Step, answer: &Answer) -> Result<(), String> {
+        let Some(accounts) = &mut self.accounts else { return Ok(()) };
+        accounts.feed(&step.sheet, Fed::of(answer));
+        let told = accounts.state();
+        if told == self.state {
+            Ok(())
+        } else {
+            Err(format!("the accounts have {told:?}, the reading {:?}", self.state))
         }
     }
-    Ok(())
+
+    /// Now and then.
+    fn same_reads(&mut self, step: &Step, tally: &mut Tally) -> Result<(), String> {
+        let (Some(rust), Some(sheet)) = (&self.rust, Sheet::of(&step.sheet)) else {
+            return Ok(());
+        };
+        if !self.rng.one_in(READS_ONE_IN) {
+            return Ok(());
+        }
+        tally.read += 1;
+        same_reads(rust, &self.image, &self.state, sheet, &mut self.rng)
+    }
 }
 
 /// Runs the Rust for an accepted call and compares answer and Out; for one

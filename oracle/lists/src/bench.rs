@@ -2,7 +2,8 @@
 //! seldom comes about by chance.
 
 use reading::bytes::{Guid, Key};
-use reading::layout::{NANOSECONDS, Time};
+use reading::layout::{Instance, NANOSECONDS, Time};
+use reading::state::State;
 
 use crate::fill::{BY_SOURCE, DEADLINE_PRESENT, Filled, LEASE_PRESENT, TIME1_PRESENT};
 
@@ -181,6 +182,28 @@ fn lapses() -> Vec<Filled> {
     }
     list.extend([Filled::code(38), Filled::code(39)]);
     list
+}
+
+/// A full table whose next handle is the last, and the calls that would start
+/// an instance: at their limit, without one, and after a place came free.
+pub fn full_table() -> (State, Vec<Filled>) {
+    let mut state = State::fresh();
+    state.instances = (1..=128).map(|n| Instance::fresh([n; 16], u64::from(n))).collect();
+    state.head.instances = 128;
+    state.head.next_handle = 1 << 63;
+    let starting = |limit| [1, 2, 8, 9, 48].map(|code| Filled::code(code).limit(limit));
+    let mut list = Vec::new();
+    list.extend(starting(-1));
+    list.extend(starting(128));
+    list.extend(starting(129));
+    list.push(key(2).limit(0));
+    list.push(key(48).limit(0));
+    list.push(Filled::code(3).handle(5).bits(TIME1_PRESENT));
+    list.push(Filled::code(21));
+    list.extend(starting(-1));
+    list.extend(starting(127));
+    list.extend(starting(128));
+    (state, list)
 }
 
 /// Two writers lapse in one call; the lesser GUID holds the greater key, and

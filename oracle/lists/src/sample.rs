@@ -7,6 +7,7 @@ use crate::bench;
 use crate::image::{Image, Step};
 use crate::coverage::Coverage;
 use crate::damage::{self, Clause};
+use crate::fill::Filled;
 use crate::generate::{CODES, Calls, Generator, Rates};
 use crate::hostile;
 use crate::record::{Recorder, Witness};
@@ -49,10 +50,9 @@ const RATES: Rates = Rates { unknown_code: 60, odd_length: 50, damage: 60, hosti
 /// Records the sample of a seed.
 pub fn make(seed: u64, witness: &mut dyn Witness) -> Result<Vec<u8>, String> {
     let mut recorder = Recorder::default();
-    let hostile = ("hostile fields", hostile::sheets());
-    for (name, sheets) in bench::lists().into_iter().chain([hostile]) {
+    for (name, start, sheets) in written() {
         let mut steps = sheets.into_iter().map(|sheet| Step::of(sheet.0));
-        recorder.list(name, 0, &State::fresh(), |_, _| steps.next(), witness)?;
+        recorder.list(name, 0, &start, |_, _| steps.next(), witness)?;
     }
     damaged(&mut recorder, seed, witness)?;
     let mut rng = Rng::new(seed);
@@ -62,6 +62,18 @@ pub fn make(seed: u64, witness: &mut dyn Witness) -> Result<Vec<u8>, String> {
         }
     }
     Ok(recorder.bytes())
+}
+
+/// The lists that no seed makes, each with its start.
+fn written() -> Vec<(&'static str, State, Vec<Filled>)> {
+    let mut all: Vec<_> = bench::lists()
+        .into_iter()
+        .map(|(name, sheets)| (name, State::fresh(), sheets))
+        .collect();
+    let (start, sheets) = bench::full_table();
+    all.push(("full table", start, sheets));
+    all.push(("hostile fields", State::fresh(), hostile::sheets()));
+    all
 }
 
 fn generated(

@@ -138,6 +138,7 @@ fn number_instances(rng: &mut Rng, state: &mut State, start: Start) {
     let last = 1u64 << 63;
     let base = match start {
         Start::LastHandles => rng.pick(&[last, last, last - 1, last - 2]) - n,
+        Start::FullInstances if rng.one_in(4) => last - n,
         _ => rng.pick(&[1, 1, 2, 1000, last - 200 - n]),
     };
     let turn = rng.below(128) as u64;
@@ -146,7 +147,7 @@ fn number_instances(rng: &mut Rng, state: &mut State, start: Start) {
     }
     state.head.next_handle = base + n;
     if start != Start::LastHandles && rng.one_in(3) {
-        state.head.next_handle += rng.below(5) as u64;
+        state.head.next_handle = (base + n + rng.below(5) as u64).min(last);
     }
 }
 
