@@ -38,10 +38,7 @@ fn main() {
 
 fn source_directory() -> PathBuf {
     let here = PathBuf::from(env::var_os("CARGO_MANIFEST_DIR").unwrap_or_default());
-    env::var_os("ZERO_DDS_SRC").map_or_else(
-        || here.join("../../../shared/docs/src"),
-        PathBuf::from,
-    )
+    env::var_os("ZERO_DDS_SRC").map_or_else(|| here.join("../../../shared/docs/src"), PathBuf::from)
 }
 
 /// Each source with what is appended; none where one is missing.
@@ -63,7 +60,7 @@ fn write_modules(copies: &[(&str, String)]) {
         let path = out.join(format!("{name}.rs"));
         fs::write(&path, text).expect("the build directory can be written");
         modules += &format!(
-            "#[allow(dead_code, unused_imports)]\n#[path = {:?}]\npub mod {name};\n",
+            "#[allow(dead_code, unused_imports, clippy::all)]\n#[path = {:?}]\npub mod {name};\n",
             path.display().to_string()
         );
     }

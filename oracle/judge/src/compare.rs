@@ -98,8 +98,12 @@ fn one_list(
     tally.from_fresh += u64::from(run.accounts.is_some());
     for call in 0..generator.length() {
         let step = generator.next(&run.state);
-        run.call(&step, misreading, tally, scratch)
-            .map_err(|what| Disagreement { seed, call, code: step.code(), what })?;
+        run.call(&step, misreading, tally, scratch).map_err(|what| Disagreement {
+            seed,
+            call,
+            code: step.code(),
+            what,
+        })?;
     }
     Ok(())
 }
@@ -219,7 +223,8 @@ pub fn same_state(rust: &Original, image: &Image, scratch: &mut Image) -> Result
         &mut scratch.lost[..LOST_BYTES],
     );
     same("head", &scratch.head, &image.head)?;
-    if scratch.pens != image.pens || scratch.writers != image.writers || scratch.lost != image.lost {
+    if scratch.pens != image.pens || scratch.writers != image.writers || scratch.lost != image.lost
+    {
         let seen = image.state();
         return Err(format!("buffers: the Rust has {state:?}, the reading {seen:?}"));
     }

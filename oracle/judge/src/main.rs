@@ -19,9 +19,7 @@ fn main() -> ExitCode {
         ["make", seed, file] => number(seed).and_then(|seed| make(seed, file)),
         ["table", file] => read(file).and_then(|records| table(&records)),
         ["replay", file] => read(file).and_then(|records| replayed(&records)),
-        ["compare", seed, calls] => {
-            number(seed).and_then(|seed| compare(seed, number(calls)?))
-        }
+        ["compare", seed, calls] => number(seed).and_then(|seed| compare(seed, number(calls)?)),
         _ => Err(USAGE.into()),
     };
     match done {
@@ -45,7 +43,8 @@ fn read(file: &str) -> Result<Vec<Record>, String> {
 fn make(seed: u64, file: &str) -> Result<(), String> {
     let bytes = sample::make(seed, &mut RustBeside::default())?;
     fs::write(file, &bytes).map_err(|e| format!("{file}: {e}"))?;
-    let judged = if original::PRESENT { "compared with the Rust" } else { "NOT compared with the Rust" };
+    let judged =
+        if original::PRESENT { "compared with the Rust" } else { "NOT compared with the Rust" };
     println!("{} bytes, {judged}", bytes.len());
     Ok(())
 }

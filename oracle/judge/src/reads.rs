@@ -19,7 +19,11 @@ pub fn same_reads(
     let pens = &image.pens[..PENS_BYTES];
     let (key, time1, time2) = (sheet.key(), sheet.time1(), sheet.time2());
     let filter = reads::delivers_under_filter(pens, &key, time2, sheet.a());
-    same("filter", filter, time2.in_range().then(|| rust.delivers_under_filter(&key, time2, sheet.a())))?;
+    same(
+        "filter",
+        filter,
+        time2.in_range().then(|| rust.delivers_under_filter(&key, time2, sheet.a())),
+    )?;
     let order = reads::delivers_under_order(pens, &key, time1, sheet.by_source());
     let rust_order = || rust.delivers_under_order(&key, time1, sheet.by_source());
     same("order", order, time1.in_range().then(rust_order))?;

@@ -1,9 +1,9 @@
 //! The lists of docs/DIFFERENCES.md: what 01 refuses and the Rust takes, and
 //! rules of the Rust that a reader might not expect.
 
+use judge::compare::{judged, same_state};
 use lists::fill::{Filled, LEASE_PRESENT, TIME1_PRESENT};
 use lists::{Image, Step};
-use judge::compare::{judged, same_state};
 use original::Original;
 use reading::bytes::Guid;
 use reading::layout::{Instance, Standing, Time, Writer};

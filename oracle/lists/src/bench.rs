@@ -21,7 +21,10 @@ const fn at(seconds: i32, nanoseconds: u32) -> Time {
 /// The lists by name, each from the fresh state.
 pub fn lists() -> Vec<(&'static str, Vec<Filled>)> {
     vec![
-        ("bench a", vec![sample(), delivered(at(5, 0)), filter(at(5, 999_999_999)), filter(at(4, 0))]),
+        (
+            "bench a",
+            vec![sample(), delivered(at(5, 0)), filter(at(5, 999_999_999)), filter(at(4, 0))],
+        ),
         ("bench a later", vec![sample(), delivered(at(5, 0)), filter(at(6, 0))]),
         ("bench b", vec![sample(), delivered(at(5, 0)), order(at(5, 0)), order(at(5, 1))]),
         ("bench c", vec![sample(), delivered(at(-3, 7)), order(at(-9, 8))]),
@@ -115,24 +118,17 @@ fn bench_h(clock: u64) -> Vec<Filled> {
 
 /// Disposed at (0,10); then purges at a nanosecond with a delay.
 fn bench_i(purges: &[(u32, u64)]) -> Vec<Filled> {
-    let mut list = vec![
-        sample(),
-        Filled::code(3).handle(1).time1(at(0, 10)).bits(TIME1_PRESENT),
-    ];
-    list.extend(purges.iter().map(|(now, delay)| {
-        Filled::code(21).time2(at(0, *now)).a(*delay).b(u64::MAX)
-    }));
+    let mut list = vec![sample(), Filled::code(3).handle(1).time1(at(0, 10)).bits(TIME1_PRESENT)];
+    list.extend(
+        purges.iter().map(|(now, delay)| Filled::code(21).time2(at(0, *now)).a(*delay).b(u64::MAX)),
+    );
     list
 }
 
 /// An expired writer does not revive on its last assertion.
 fn trap_revives() -> Vec<Filled> {
     let mut list = expired_at_110();
-    list.extend([
-        writer(35).a(100),
-        Filled::code(36).guid(WRITER).a(100),
-        Filled::code(39),
-    ]);
+    list.extend([writer(35).a(100), Filled::code(36).guid(WRITER).a(100), Filled::code(39)]);
     list
 }
 

@@ -87,8 +87,7 @@ impl Coverage {
         let c = &self.codes[usize::from(code)];
         if number != 0 {
             let pair = refused_pairs().contains(&(code, number));
-            return self.refusals[number] < MET_LEAST
-                || pair && c.refusals[number] < PAIR_LEAST;
+            return self.refusals[number] < MET_LEAST || pair && c.refusals[number] < PAIR_LEAST;
         }
         let mut with = self.clone();
         with.call(Some(code), answer);

@@ -359,11 +359,14 @@ fn damaged_writers(rng: &mut Rng, state: &State, clause: Clause) -> Option<Vec<E
 
 fn damaged_unused(rng: &mut Rng, state: &State, clause: Clause) -> Option<Vec<Edit>> {
     let (buffer, used, whole) = match clause {
-        Clause::UnusedInstance => (Buffer::Pens, state.instances.len() * INSTANCE_BYTES, PENS_BYTES),
-        Clause::UnusedWriter => (Buffer::Writers, state.writers.len() * WRITER_BYTES, WRITERS_BYTES),
+        Clause::UnusedInstance => {
+            (Buffer::Pens, state.instances.len() * INSTANCE_BYTES, PENS_BYTES)
+        }
+        Clause::UnusedWriter => {
+            (Buffer::Writers, state.writers.len() * WRITER_BYTES, WRITERS_BYTES)
+        }
         Clause::UnusedLost => (Buffer::Lost, state.lost.len() * GUID_BYTES, LOST_BYTES),
         _ => return None,
     };
     if used == whole { None } else { stray(rng, buffer, used, whole) }
 }
-

@@ -4,13 +4,13 @@
 //! fields of fixed size, most significant byte first, so that a reader needs
 //! one buffer and no memory of its own.
 
+use reading::answer::ANSWER_BYTES;
 use reading::bytes::{array_at, fnv1a, put, u16_at, u32_at, u64_at};
 use reading::head::HEAD_BYTES;
-use reading::answer::ANSWER_BYTES;
 use reading::layout::{GUID_BYTES, INSTANCE_BYTES, WRITER_BYTES};
 use reading::{Answer, Head};
 
-use crate::image::{Image, Buffer, Edit, Lengths, Step};
+use crate::image::{Buffer, Edit, Image, Lengths, Step};
 
 pub const VERSION: u32 = 1;
 const RECORD_HEAD: usize = 8;

@@ -7,11 +7,9 @@ use reading::layout::{CLOCK_END, Instance, NANOSECONDS, Time};
 use reading::sheet::SHEET_BYTES;
 use reading::state::State;
 
-use crate::image::{
-    LOST_MOST, Lengths, OUT_MOST, PENS_MOST, SHEET_MOST, Step, WRITERS_MOST,
-};
 use crate::damage;
 use crate::fill::{self, Filled};
+use crate::image::{LOST_MOST, Lengths, OUT_MOST, PENS_MOST, SHEET_MOST, Step, WRITERS_MOST};
 use crate::pools::Pools;
 use crate::rng::Rng;
 use crate::start::{self, Start};
@@ -32,9 +30,8 @@ pub const CODES: [u8; 34] = [
     37, 38, 39, 40, 48, 49, 50, 51,
 ];
 /// Ownership and the loss of writers more often: they need more to be there.
-const INSTANCE_CODES: [u8; 26] = [
-    1, 2, 3, 4, 5, 6, 6, 7, 7, 8, 9, 10, 11, 12, 13, 14, 15, 16, 16, 16, 17, 18, 18, 19, 20, 21,
-];
+const INSTANCE_CODES: [u8; 26] =
+    [1, 2, 3, 4, 5, 6, 6, 7, 7, 8, 9, 10, 11, 12, 13, 14, 15, 16, 16, 16, 17, 18, 18, 19, 20, 21];
 /// Matches, assertions and expiries more often, so that there is what to lose.
 const LIVELINESS_CODES: [u8; 18] =
     [32, 32, 32, 32, 33, 33, 34, 35, 35, 35, 36, 36, 37, 37, 38, 39, 40, 40];
@@ -133,10 +130,10 @@ impl Generator {
         if self.rng.one_in(self.rates.unknown_code) {
             return self.rng.pick(&UNKNOWN_CODES);
         }
-        if self.rng.one_in(2) {
-            if let Some(code) = self.rng.pick_some(self.pressing()) {
-                return *code;
-            }
+        if self.rng.one_in(2)
+            && let Some(code) = self.rng.pick_some(self.pressing())
+        {
+            return *code;
         }
         match (self.calls, self.rng.below(10)) {
             (Calls::Instance, _) | (Calls::All, 0..4) => self.rng.pick(&INSTANCE_CODES),
@@ -167,7 +164,8 @@ impl Generator {
         let stated = Lengths::STATED;
         match self.rng.below(5) {
             0 => {
-                let length = self.rng.pick(&[0, 1, 81, 82, SHEET_BYTES - 1, SHEET_BYTES + 1, SHEET_MOST]);
+                let length =
+                    self.rng.pick(&[0, 1, 81, 82, SHEET_BYTES - 1, SHEET_BYTES + 1, SHEET_MOST]);
                 step.sheet.resize(length, 0x11);
             }
             1 => l.pens = self.rng.pick(&[0, 16_384, stated.pens - 1, stated.pens + 1, PENS_MOST]),
@@ -257,10 +255,10 @@ impl Generator {
 
     fn handle(&mut self, state: &State) -> u64 {
         let next = state.head.next_handle;
-        if !self.rng.one_in(6) {
-            if let Some(instance) = self.rng.pick_some(&state.instances) {
-                return instance.handle;
-            }
+        if !self.rng.one_in(6)
+            && let Some(instance) = self.rng.pick_some(&state.instances)
+        {
+            return instance.handle;
         }
         self.rng.pick(&[0, 1, next, next.wrapping_sub(1), u64::MAX])
     }
@@ -396,12 +394,7 @@ impl Generator {
     }
 
     /// The numbers at 72 and 76.
-    fn small_numbers(
-        &mut self,
-        state: &State,
-        found: Option<&Instance>,
-        code: u8,
-    ) -> (i32, i32) {
+    fn small_numbers(&mut self, state: &State, found: Option<&Instance>, code: u8) -> (i32, i32) {
         if code == 40 {
             let head = &state.head;
             let alive = self.acknowledged(head.alive, head.alive_change);
@@ -455,4 +448,3 @@ impl Generator {
 fn one_off(rng: &mut Rng, at: u64) -> u64 {
     rng.pick(&[at.saturating_sub(1), at, at, at + 1])
 }
-

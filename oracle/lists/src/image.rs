@@ -111,8 +111,7 @@ impl Image {
 
     /// Makes an edit; gives the one that undoes it.
     pub fn edit(&mut self, edit: &Edit) -> Edit {
-        let place =
-            &mut self.buffer(edit.buffer)[edit.offset..edit.offset + edit.bytes.len()];
+        let place = &mut self.buffer(edit.buffer)[edit.offset..edit.offset + edit.bytes.len()];
         let before = place.to_vec();
         place.copy_from_slice(&edit.bytes);
         Edit { bytes: before, ..edit.clone() }

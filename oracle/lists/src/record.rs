@@ -2,11 +2,11 @@
 
 use reading::{Answer, Head, State, sheet};
 
-use crate::image::{Image, Edit, Step};
 use crate::coverage::Coverage;
 use crate::format::{
     Digests, INSTANCE_CALLS, JOINED_CALLS, LIVELINESS_CALLS, Record, Recorded, Title, VERSION, used,
 };
+use crate::image::{Edit, Image, Step};
 
 /// The used records are recorded in full after so many calls, and at the end
 /// of each list.

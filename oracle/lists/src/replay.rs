@@ -2,8 +2,8 @@
 
 use reading::{Answer, Head, Lent};
 
-use crate::image::Image;
 use crate::format::{Digests, Record, Recorded};
+use crate::image::Image;
 
 /// Where a replay differs from what was recorded.
 #[derive(Debug, Clone, PartialEq, Eq)]

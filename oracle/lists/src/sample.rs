@@ -4,12 +4,12 @@
 use reading::state::State;
 
 use crate::bench;
-use crate::image::{Image, Step};
 use crate::coverage::Coverage;
 use crate::damage::{self, Clause};
 use crate::fill::Filled;
 use crate::generate::{CODES, Calls, Generator, Rates};
 use crate::hostile;
+use crate::image::{Image, Step};
 use crate::record::{Recorder, Witness};
 use crate::rng::Rng;
 use crate::start::Start;
@@ -58,7 +58,7 @@ pub fn make(seed: u64, witness: &mut dyn Witness) -> Result<Vec<u8>, String> {
     let mut rng = Rng::new(seed);
     for (calls, start, many) in PLAN {
         for _ in 0..many {
-            generated(&mut recorder, rng.next(), calls, start, witness)?;
+            generated(&mut recorder, rng.number(), calls, start, witness)?;
         }
     }
     Ok(recorder.bytes())
@@ -66,10 +66,8 @@ pub fn make(seed: u64, witness: &mut dyn Witness) -> Result<Vec<u8>, String> {
 
 /// The lists that no seed makes, each with its start.
 fn written() -> Vec<(&'static str, State, Vec<Filled>)> {
-    let mut all: Vec<_> = bench::lists()
-        .into_iter()
-        .map(|(name, sheets)| (name, State::fresh(), sheets))
-        .collect();
+    let mut all: Vec<_> =
+        bench::lists().into_iter().map(|(name, sheets)| (name, State::fresh(), sheets)).collect();
     let (start, sheets) = bench::full_table();
     all.push(("full table", start, sheets));
     all.push(("hostile fields", State::fresh(), hostile::sheets()));
@@ -94,7 +92,7 @@ fn generated(
     let mut left = LENGTH;
     let next = |state: &State, covered: &Coverage| {
         left = left.checked_sub(1)?;
-        Some(wanted(&mut generator, state, covered, if left % 2 == 0 { DRAWS } else { 1 }))
+        Some(wanted(&mut generator, state, covered, if left.is_multiple_of(2) { DRAWS } else { 1 }))
     };
     recorder.list(name, seed, &state, next, witness)
 }
@@ -138,9 +136,8 @@ fn rich_state(seed: u64) -> (State, u64) {
     loop {
         let (_, state) = Generator::of(seed, Calls::All, Start::Any);
         let mut rng = Rng::new(seed);
-        let breaks = |clause: &Clause| {
-            damage::one(&mut rng, &state, *clause, &mut Step::of(Vec::new()))
-        };
+        let breaks =
+            |clause: &Clause| damage::one(&mut rng, &state, *clause, &mut Step::of(Vec::new()));
         if Clause::all().iter().all(breaks) {
             return (state, seed);
         }

@@ -136,6 +136,8 @@ impl Original {
         self.liveliness.changes()
     }
 
+    // Calls of the Rust that answer nothing still stand in the match.
+    #[allow(clippy::unit_arg)]
     fn instance_call(&mut self, sheet: Sheet<'_>) -> (Answer, Vec<u8>) {
         let t = &self.instances;
         let handle = InstanceHandle::from_raw(sheet.handle());
@@ -209,6 +211,7 @@ impl Original {
         )
     }
 
+    #[allow(clippy::unit_arg)]
     fn liveliness_call(&mut self, sheet: Sheet<'_>) -> (Answer, Vec<u8>) {
         let (guid, clock) = (sheet.guid(), Duration::from_nanos(sheet.a()));
         let t = &mut self.liveliness;

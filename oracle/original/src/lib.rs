@@ -19,7 +19,8 @@ include!(concat!(env!("OUT_DIR"), "/modules.rs"));
 mod stand_ins;
 #[cfg(sources)]
 pub use stand_ins::{
-    LivelinessKind, sample_info, status, time, wire::Endianness, wire::Writer, wire::md5, wire_types,
+    LivelinessKind, sample_info, status, time, wire::Endianness, wire::Writer, wire::md5,
+    wire_types,
 };
 
 #[cfg(sources)]

@@ -30,7 +30,7 @@ impl Fed {
 }
 
 /// The accounts that are not absent, and what is counted over them.
-#[derive(Debug, Clone)]
+#[derive(Debug, Clone, Default)]
 pub struct Accounts {
     writers: BTreeMap<Guid, Writer>,
     instances: BTreeMap<Key, Instance>,
@@ -41,20 +41,6 @@ pub struct Accounts {
     changes: u64,
     /// Handles started so far.
     started: u64,
-}
-
-impl Default for Accounts {
-    fn default() -> Self {
-        Self {
-            writers: BTreeMap::new(),
-            instances: BTreeMap::new(),
-            lost: Vec::new(),
-            last_writer: None,
-            acknowledged: [0; 2],
-            changes: 0,
-            started: 0,
-        }
-    }
 }
 
 impl Accounts {

@@ -48,7 +48,6 @@ pub fn all_zero(b: &[u8]) -> bool {
 
 /// 64-bit FNV-1a.
 pub fn fnv1a(b: &[u8]) -> u64 {
-    b.iter().fold(0xcbf2_9ce4_8422_2325, |h, x| {
-        (h ^ u64::from(*x)).wrapping_mul(0x0000_0100_0000_01b3)
-    })
+    b.iter()
+        .fold(0xcbf2_9ce4_8422_2325, |h, x| (h ^ u64::from(*x)).wrapping_mul(0x0000_0100_0000_01b3))
 }

@@ -178,10 +178,10 @@ fn missed_deadline(i: &Instance, sheet: Sheet<'_>) -> bool {
 
 /// Code 17.
 pub fn update_owner_strength(i: &mut Instance, sheet: Sheet<'_>) {
-    if let Some((owner, strength)) = i.owner.as_mut() {
-        if *owner == sheet.guid() {
-            *strength = sheet.strength();
-        }
+    if let Some((owner, strength)) = i.owner.as_mut()
+        && *owner == sheet.guid()
+    {
+        *strength = sheet.strength();
     }
 }
 

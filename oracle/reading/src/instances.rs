@@ -58,7 +58,11 @@ fn unanswered(_: Answer) -> Answer {
 }
 
 /// Acts on the instance with the sheet's handle; says whether there is one.
-fn on_handle(state: &mut State, sheet: Sheet<'_>, act: impl Fn(&mut Instance, Sheet<'_>)) -> Answer {
+fn on_handle(
+    state: &mut State,
+    sheet: Sheet<'_>,
+    act: impl Fn(&mut Instance, Sheet<'_>),
+) -> Answer {
     let found = state.by_handle(sheet.handle());
     Answer::yes(found.map(|i| act(i, sheet)).is_some())
 }
@@ -86,8 +90,7 @@ pub fn no_room(state: &State, key: &Key) -> Option<u8> {
 /// none.
 pub fn at_limit(state: &State, sheet: Sheet<'_>) -> bool {
     let limit = usize::try_from(sheet.limit());
-    state.place(&sheet.key()).is_err()
-        && limit.is_ok_and(|limit| state.instances.len() >= limit)
+    state.place(&sheet.key()).is_err() && limit.is_ok_and(|limit| state.instances.len() >= limit)
 }
 
 /// The instance of a key, started with the next handle where there is none.

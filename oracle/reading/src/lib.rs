@@ -84,11 +84,7 @@ pub fn call_as(
 }
 
 /// Refusals 1 to 8, lowest first.
-fn accept<'a>(
-    head: &Head,
-    sheet: &'a [u8],
-    lent: &Lent<'_>,
-) -> Result<(Sheet<'a>, State), u8> {
+fn accept<'a>(head: &Head, sheet: &'a [u8], lent: &Lent<'_>) -> Result<(Sheet<'a>, State), u8> {
     let sheet = Sheet::of(sheet).ok_or(1)?;
     let lengths = [lent.pens.len(), lent.writers.len(), lent.lost.len(), lent.out.len()];
     if lengths != [PENS_BYTES, WRITERS_BYTES, LOST_BYTES, OUT_BYTES] {

@@ -163,8 +163,7 @@ pub fn expire(state: &mut State, clock: u64) -> Result<(Answer, Vec<Guid>), u8> 
     });
     state.lost.extend(&expired);
     let next = state.writers.iter().filter_map(Writer::due).min();
-    let answer =
-        Answer { next_due_present: next.is_some(), next_due: next.unwrap_or(0), ..answer };
+    let answer = Answer { next_due_present: next.is_some(), next_due: next.unwrap_or(0), ..answer };
     Ok((answer, expired))
 }
 

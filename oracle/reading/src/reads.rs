@@ -1,16 +1,16 @@
 //! Section 7's reads. Those of instances are lent the table and no head: its
 //! used records are the ones before the first whose handle is 0.
 
+use crate::Answer;
 use crate::bytes::{Guid, Key, array_at};
-use crate::head::Head;
 use crate::effects::{filter_admits, order_admits};
+use crate::head::Head;
 use crate::layout::{
     GUID_BYTES, INSTANCE_BYTES, Instance, Kind, LAST_NEXT_HANDLE, LOST_BYTES, LOST_PLACES,
     OUT_BYTES, PENS_BYTES, PLACES, Time, WRITERS_BYTES,
 };
 use crate::liveliness;
 use crate::state::{State, within_span};
-use crate::Answer;
 
 /// Bits of a mask of view states.
 pub const VIEW_NEW: u32 = 1;
@@ -67,7 +67,7 @@ pub fn last_delivered(pens: &[u8], key: &Key) -> Result<Option<Time>, u8> {
 
 /// The GUIDs of a list, or refusal 1.
 fn guids(list: &[u8]) -> Result<Vec<Guid>, u8> {
-    if list.len() % GUID_BYTES != 0 || list.len() > LOST_PLACES * GUID_BYTES {
+    if !list.len().is_multiple_of(GUID_BYTES) || list.len() > LOST_PLACES * GUID_BYTES {
         return Err(1);
     }
     Ok(list.chunks(GUID_BYTES).map(|guid| array_at(guid, 0)).collect())
@@ -89,12 +89,7 @@ fn writerless(pens: &[u8], list: &[u8], views: u32) -> Result<Vec<u64>, u8> {
 }
 
 /// Lists handles in Out; their number.
-pub fn left_writerless(
-    pens: &[u8],
-    list: &[u8],
-    views: u32,
-    out: &mut [u8],
-) -> Result<usize, u8> {
+pub fn left_writerless(pens: &[u8], list: &[u8], views: u32, out: &mut [u8]) -> Result<usize, u8> {
     if out.len() != OUT_BYTES {
         return Err(1);
     }

@@ -39,7 +39,13 @@ impl State {
         let state = Self {
             head: *head,
             instances: records(pens, INSTANCE_BYTES, head.instances, PLACES, Instance::of_record)?,
-            writers: records(writers, WRITER_BYTES, head.writer_records, PLACES, Writer::of_record)?,
+            writers: records(
+                writers,
+                WRITER_BYTES,
+                head.writer_records,
+                PLACES,
+                Writer::of_record,
+            )?,
             lost: records(lost, GUID_BYTES, head.lost, LOST_PLACES, |b| b.try_into().ok())?,
             misreading: None,
         };
