@@ -3,6 +3,7 @@
 use std::process::ExitCode;
 use std::{env, fs};
 
+use judge::short::{all_sheets, every_list};
 use judge::{RustBeside, against_the_rust};
 use lists::format::{Record, records};
 use lists::{Coverage, replay, sample};
@@ -10,7 +11,8 @@ use lists::{Coverage, replay, sample};
 const USAGE: &str = "judge make SEED FILE     record the sample of a seed
 judge table FILE         count what recorded lists cover
 judge replay FILE        replay recorded lists against the reading
-judge compare SEED CALLS compare that many calls with the Rust, from a seed on";
+judge compare SEED CALLS compare that many calls with the Rust, from a seed on
+judge short LENGTH       compare all lists of that length over a few sheets";
 
 fn main() -> ExitCode {
     let arguments: Vec<String> = env::args().skip(1).collect();
@@ -20,6 +22,7 @@ fn main() -> ExitCode {
         ["table", file] => read(file).and_then(|records| table(&records)),
         ["replay", file] => read(file).and_then(|records| replayed(&records)),
         ["compare", seed, calls] => number(seed).and_then(|seed| compare(seed, number(calls)?)),
+        ["short", length] => number(length).and_then(short),
         _ => Err(USAGE.into()),
     };
     match done {
@@ -68,6 +71,17 @@ fn replayed(records: &[Record]) -> Result<(), String> {
     }
     println!("{calls} calls, {} disagreements", differences.len());
     if differences.is_empty() { Ok(()) } else { Err("the replay differs".into()) }
+}
+
+fn short(length: u64) -> Result<(), String> {
+    if !original::PRESENT {
+        return Err(format!("no sources of ZeroDDS in {}", original::DIRECTORY));
+    }
+    for (what, sheets) in all_sheets() {
+        let calls = every_list(&sheets, length as usize)?;
+        println!("all lists of {length} {what} calls agree: {calls} calls");
+    }
+    Ok(())
 }
 
 fn compare(seed: u64, calls: u64) -> Result<(), String> {

@@ -25,8 +25,17 @@ fn at(nanoseconds: u32) -> Time {
     Time { seconds: 0, nanoseconds }
 }
 
+/// The three kinds of sheets by name.
+pub fn all_sheets() -> [(&'static str, Vec<Filled>); 3] {
+    [
+        ("instance", instance_sheets()),
+        ("liveliness", liveliness_sheets()),
+        ("joined", joined_sheets()),
+    ]
+}
+
 /// Sheets of instance calls on two keys, two handles and two writers.
-pub fn instance_sheets() -> Vec<Filled> {
+fn instance_sheets() -> Vec<Filled> {
     let f = Filled::code;
     let mut all = vec![f(12).handle(1).n(1), f(13).handle(1), f(15).handle(1).n(2)];
     for key in KEYS {
@@ -61,7 +70,7 @@ pub fn instance_sheets() -> Vec<Filled> {
 }
 
 /// Sheets of liveliness calls on three writers, two of one participant.
-pub fn liveliness_sheets() -> Vec<Filled> {
+fn liveliness_sheets() -> Vec<Filled> {
     let f = Filled::code;
     let mut all = vec![f(33), f(34), f(35).a(2), f(35).a(4)];
     all = all.into_iter().map(|sheet| sheet.guid(WRITERS[0])).collect();
@@ -88,7 +97,7 @@ pub fn liveliness_sheets() -> Vec<Filled> {
 }
 
 /// Sheets around the joined calls.
-pub fn joined_sheets() -> Vec<Filled> {
+fn joined_sheets() -> Vec<Filled> {
     let f = Filled::code;
     let mut all = Vec::new();
     for guid in &WRITERS[..2] {

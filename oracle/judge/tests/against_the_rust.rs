@@ -6,7 +6,7 @@ use std::process::ExitCode;
 use std::time::Instant;
 
 use judge::against_the_rust;
-use judge::short::{every_list, instance_sheets, joined_sheets, liveliness_sheets};
+use judge::short::{all_sheets, every_list};
 use reading::Misreading;
 
 const CALLS: u64 = 1_000_000;
@@ -21,11 +21,7 @@ fn main() -> ExitCode {
         );
         return ExitCode::SUCCESS;
     }
-    for (what, sheets) in [
-        ("instance", instance_sheets()),
-        ("liveliness", liveliness_sheets()),
-        ("joined", joined_sheets()),
-    ] {
+    for (what, sheets) in all_sheets() {
         match every_list(&sheets, SHORT) {
             Ok(calls) => println!("all lists of {SHORT} {what} calls agree: {calls} calls"),
             Err(what) => {

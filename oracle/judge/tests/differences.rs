@@ -73,7 +73,7 @@ fn writers(n: u8) -> State {
 #[test]
 fn what_the_sheet_is_refused_for() {
     let fresh = State::fresh;
-    assert_eq!(number(fresh(), vec![key(11).time1(at(0, 1_000_000_000))]), 4);
+    assert_eq!(number(fresh(), vec![key(9).time1(at(0, 1_000_000_000))]), 4);
     assert_eq!(number(fresh(), vec![Filled::code(32).a(1 << 62)]), 5);
     assert_eq!(number(fresh(), vec![key(1).holder(145, &[])]), 6);
     assert_eq!(number(fresh(), vec![Filled::code(40).limit(i32::MIN)]), 8);

@@ -10,7 +10,9 @@ use reading::head::HEAD_BYTES;
 use reading::layout::{GUID_BYTES, INSTANCE_BYTES, WRITER_BYTES};
 use reading::{Answer, Head};
 
-use crate::image::{Buffer, Edit, Image, Lengths, Step};
+use crate::image::{
+    Buffer, Edit, Image, LOST_MOST, Lengths, PENS_MOST, SHEET_MOST, Step, WRITERS_MOST,
+};
 
 pub const VERSION: u32 = 1;
 const RECORD_HEAD: usize = 8;
@@ -194,8 +196,11 @@ fn edit(b: &[u8]) -> Option<Edit> {
     if b.len() < 8 {
         return None;
     }
-    let buffer = *[Buffer::Pens, Buffer::Writers, Buffer::Lost].get(usize::from(b[0]))?;
-    Some(Edit { buffer, offset: u32_at(b, 4) as usize, bytes: b[8..].to_vec() })
+    let (buffer, most) =
+        *[(Buffer::Pens, PENS_MOST), (Buffer::Writers, WRITERS_MOST), (Buffer::Lost, LOST_MOST)]
+            .get(usize::from(b[0]))?;
+    let (offset, bytes) = (u32_at(b, 4) as usize, b[8..].to_vec());
+    (offset + bytes.len() <= most).then_some(Edit { buffer, offset, bytes })
 }
 
 fn call(b: &[u8]) -> Option<Recorded> {
@@ -203,17 +208,18 @@ fn call(b: &[u8]) -> Option<Recorded> {
         return None;
     }
     let (sheet, written) = (usize::from(u16_at(b, 0)), usize::from(u16_at(b, 14)));
-    if b.len() != CALL_FIELDS + sheet + written {
+    let lengths = Lengths {
+        out: usize::from(u16_at(b, 2)),
+        pens: u32_at(b, 4) as usize,
+        writers: usize::from(u16_at(b, 8)),
+        lost: usize::from(u16_at(b, 10)),
+    };
+    if b.len() != CALL_FIELDS + sheet + written || sheet > SHEET_MOST || !lengths.in_range() {
         return None;
     }
     Some(Recorded {
         sheet: b[CALL_FIELDS..CALL_FIELDS + sheet].to_vec(),
-        lengths: Lengths {
-            out: usize::from(u16_at(b, 2)),
-            pens: u32_at(b, 4) as usize,
-            writers: usize::from(u16_at(b, 8)),
-            lost: usize::from(u16_at(b, 10)),
-        },
+        lengths,
         fill: b[12],
         written: b[CALL_FIELDS + sheet..].to_vec(),
         digests: Digests {

@@ -48,6 +48,13 @@ pub struct Lengths {
 impl Lengths {
     pub const STATED: Self =
         Self { pens: PENS_BYTES, writers: WRITERS_BYTES, lost: LOST_BYTES, out: OUT_BYTES };
+
+    pub fn in_range(&self) -> bool {
+        self.pens <= PENS_MOST
+            && self.writers <= WRITERS_MOST
+            && self.lost <= LOST_MOST
+            && self.out <= OUT_MOST
+    }
 }
 
 /// A call of a list: what is lent, and what is damaged for this call alone.
