@@ -158,8 +158,8 @@ fn trap_empties_set() -> Vec<Filled> {
     ]
 }
 
-/// Writers that match, take an instance over in two samples and lapse; each
-/// third round one of two lapses, and the instance keeps the other.
+/// Writers that match, take an instance over in two samples and lapse; one
+/// instance gets a second writer, which stays when the first lapses.
 fn lapses() -> Vec<Filled> {
     let mut list = Vec::new();
     for round in 0..12u8 {

@@ -103,10 +103,6 @@ impl Generator {
         (Self { rng, pools, calls, start, rates: Rates::USUAL, clock }, state)
     }
 
-    pub fn calls(&self) -> Calls {
-        self.calls
-    }
-
     /// A length for the list.
     pub fn length(&mut self) -> usize {
         self.rng.pick(&[5, 20, 60, 150])

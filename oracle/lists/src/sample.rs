@@ -61,6 +61,8 @@ pub fn make(seed: u64, witness: &mut dyn Witness) -> Result<Vec<u8>, String> {
             generated(&mut recorder, rng.number(), calls, start, witness)?;
         }
     }
+    let mut steps = hostile::several_faults().into_iter();
+    recorder.list("several faults", 0, &State::fresh(), |_, _| steps.next(), witness)?;
     Ok(recorder.bytes())
 }
 
