@@ -1,0 +1,8 @@
+//! The Rust as the judge: runs generated lists through the reading of 01 and
+//! through the Rust, and compares every answer and the whole state.
+
+pub mod compare;
+pub mod reads;
+pub mod short;
+
+pub use compare::{RustBeside, Tally, against_the_rust, reading_alone};

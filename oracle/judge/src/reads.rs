@@ -1,0 +1,102 @@
+//! Section 7's reads, of the reading and of the Rust, on one state.
+
+use lists::fill::Filled;
+use lists::rng::Rng;
+use lists::{Image, Step};
+use original::Original;
+use reading::bytes::Guid;
+use reading::layout::{OUT_BYTES, PENS_BYTES};
+use reading::{Sheet, State, reads};
+
+/// Asks both for every read, with the fields of a sheet.
+pub fn same_reads(
+    rust: &Original,
+    image: &Image,
+    state: &State,
+    sheet: Sheet<'_>,
+    rng: &mut Rng,
+) -> Result<(), String> {
+    let pens = &image.pens[..PENS_BYTES];
+    let (key, time1, time2) = (sheet.key(), sheet.time1(), sheet.time2());
+    let filter = reads::delivers_under_filter(pens, &key, time2, sheet.a());
+    same(
+        "filter",
+        filter,
+        time2.in_range().then(|| rust.delivers_under_filter(&key, time2, sheet.a())),
+    )?;
+    let order = reads::delivers_under_order(pens, &key, time1, sheet.by_source());
+    let rust_order = || rust.delivers_under_order(&key, time1, sheet.by_source());
+    same("order", order, time1.in_range().then(rust_order))?;
+    same("last delivered", reads::last_delivered(pens, &key), Some(rust.last_delivered(&key)))?;
+    for handle in [0, sheet.handle()] {
+        let next = reads::next_handle_after(pens, handle);
+        same("next handle", next, Some(rust.next_handle_after(handle)))?;
+    }
+    let offered = sheet.key();
+    let holder = reads::holder_in_force(pens, &key, &offered);
+    same("holder", Ok(holder), Some(rust.holder(&key).unwrap_or(offered.to_vec())))?;
+    same("status", reads::status(&image.head), Some(rust.status()))?;
+    same("changes", reads::changes(&image.head), Some(rust.changes()))?;
+    same_writerless(rust, pens, state, sheet, rng)?;
+    same_ownership(state, sheet)
+}
+
+fn same<T: PartialEq + std::fmt::Debug>(
+    what: &str,
+    reading: Result<T, u8>,
+    rust: Option<T>,
+) -> Result<(), String> {
+    match (reading, rust) {
+        (Ok(reading), Some(rust)) if reading == rust => Ok(()),
+        (Err(4), None) => Ok(()),
+        (reading, rust) => Err(format!("{what}: the Rust has {rust:?}, the reading {reading:?}")),
+    }
+}
+
+/// The list is the sheet's GUID, some instance's set with or without one of
+/// its GUIDs, and some writers.
+fn same_writerless(
+    rust: &Original,
+    pens: &[u8],
+    state: &State,
+    sheet: Sheet<'_>,
+    rng: &mut Rng,
+) -> Result<(), String> {
+    let mut gone: Vec<Guid> = vec![sheet.guid()];
+    for _ in 0..rng.below(3) {
+        gone.extend(rng.pick_some(&state.instances).iter().flat_map(|i| &i.writers));
+        gone.extend(rng.pick_some(&state.writers).map(|w| w.guid));
+    }
+    if rng.one_in(3) {
+        gone.remove(rng.below(gone.len()));
+    }
+    let views = rng.pick(&[0, 1, 2, 3, 3, 4, u32::MAX]);
+    let list = gone.concat();
+    let would = reads::would_leave_writerless(pens, &list, views);
+    same("would leave writerless", would, Some(rust.would_leave_writerless(&gone, views)))?;
+    let mut out = [0xee; OUT_BYTES];
+    let listed = reads::left_writerless(pens, &list, views, &mut out);
+    let handles = rust.left_writerless(&gone, views);
+    same("left writerless", listed, Some(handles.len()))?;
+    let mut expected = [0xee; OUT_BYTES];
+    for (handle, place) in handles.iter().zip(expected.chunks_mut(8)) {
+        place.copy_from_slice(&handle.to_be_bytes());
+    }
+    same("Out of left writerless", Ok(out), Some(expected))
+}
+
+/// Ownership asked without a time is code 16 at (0,0) without a deadline.
+fn same_ownership(state: &State, sheet: Sheet<'_>) -> Result<(), String> {
+    let Some(rust) = Original::at(state) else { return Ok(()) };
+    let (key, guid, strength) = (sheet.key(), sheet.guid(), sheet.strength());
+    let yes = rust.accepts_sample(&key, guid, strength);
+    let asked = Filled::code(16).key(key).guid(guid).strength(strength);
+    let mut image = Image::of_state(state);
+    let (answer, _) = image.step(&Step::of(asked.0), reading::call);
+    same("ownership", Ok(answer.yes), Some(yes))?;
+    if image.state() == Some(rust.state()) {
+        Ok(())
+    } else {
+        Err("ownership: the states differ".into())
+    }
+}

@@ -1,0 +1,143 @@
+//! The lists of docs/DIFFERENCES.md: what 01 refuses and the Rust takes, and
+//! rules of the Rust that a reader might not expect.
+
+use judge::compare::{judged, same_state};
+use lists::fill::{Filled, LEASE_PRESENT, TIME1_PRESENT};
+use lists::{Image, Step};
+use original::Original;
+use reading::bytes::Guid;
+use reading::layout::{Instance, Standing, Time, Writer};
+use reading::{Answer, State};
+
+const KEY: [u8; 16] = [1; 16];
+
+fn guid(n: u8) -> Guid {
+    let mut guid = [0; 16];
+    guid[15] = n;
+    guid
+}
+
+fn at(seconds: i32, nanoseconds: u32) -> Time {
+    Time { seconds, nanoseconds }
+}
+
+fn key(code: u8) -> Filled {
+    Filled::code(code).key(KEY).limit(-1)
+}
+
+/// Runs a list through the reading, with the Rust beside it where it is at
+/// hand; the last answer and the state after it.
+fn run(start: State, sheets: Vec<Filled>) -> (Answer, State) {
+    let mut image = Image::of_state(&start);
+    let mut rust = Original::at(&start);
+    let mut last = Answer::default();
+    let mut state = start;
+    for sheet in sheets {
+        let step = Step::of(sheet.0);
+        let (answer, out) = image.step(&step, reading::call);
+        if let Some(rust) = &mut rust {
+            judged(rust, &state, &step, &answer, &out).expect("the Rust agrees");
+            same_state(rust, &image, &mut Image::fresh()).expect("the Rust agrees");
+        }
+        last = answer;
+        state = image.state().expect("well formed");
+    }
+    (last, state)
+}
+
+fn number(start: State, sheets: Vec<Filled>) -> u8 {
+    run(start, sheets).0.number
+}
+
+/// `n` instances, the first with a writer set of a size.
+fn instances(n: u8, set: u8) -> State {
+    let mut state = State::fresh();
+    for place in 0..n {
+        state.instances.push(Instance::fresh([place; 16], u64::from(place) + 1));
+    }
+    if let Some(first) = state.instances.first_mut() {
+        first.writers = (0..set).map(guid).collect();
+    }
+    state.head.next_handle = u64::from(n) + 1;
+    state.head.instances = u32::from(n);
+    state
+}
+
+fn writers(n: u8) -> State {
+    let mut state = State::fresh();
+    state.writers = (0..n).map(|n| Writer { guid: guid(n), ..Writer::default() }).collect();
+    state.head.writer_records = u32::from(n);
+    state
+}
+
+#[test]
+fn what_the_sheet_is_refused_for() {
+    let fresh = State::fresh;
+    assert_eq!(number(fresh(), vec![key(9).time1(at(0, 1_000_000_000))]), 4);
+    assert_eq!(number(fresh(), vec![Filled::code(32).a(1 << 62)]), 5);
+    assert_eq!(number(fresh(), vec![key(1).holder(145, &[])]), 6);
+    assert_eq!(number(fresh(), vec![Filled::code(40).limit(i32::MIN)]), 8);
+}
+
+#[test]
+fn what_there_is_no_place_for() {
+    let mut first_owned = instances(1, 16);
+    first_owned.instances[0].owner = Some((guid(0), 1));
+    let seventeenth = |code| Filled::code(code).handle(1).guid(guid(16)).limit(-1);
+    assert_eq!(number(instances(128, 0), vec![Filled::code(1).key([255; 16])]), 9);
+    assert_eq!(number(instances(1, 16), vec![seventeenth(6)]), 10);
+    assert_eq!(number(first_owned, vec![seventeenth(48)]), 10);
+    assert_eq!(number(writers(128), vec![Filled::code(32).guid(guid(200))]), 11);
+    let mut last_handle = State::fresh();
+    last_handle.head.next_handle = 1 << 63;
+    assert_eq!(number(last_handle, vec![key(1)]), 13);
+}
+
+#[test]
+fn no_place_in_lost() {
+    let mut state = writers(1);
+    state.writers[0].standing = Standing::Alive;
+    state.writers[0].lease = Some(1);
+    state.head.alive = 1;
+    state.lost = vec![guid(9); 256];
+    state.head.lost = 256;
+    assert_eq!(number(state, vec![Filled::code(37).a(1)]), 12);
+}
+
+#[test]
+fn a_departed_writer_stays_counted_when_unmatched() {
+    let (status, _) =
+        run(State::fresh(), vec![32, 34, 33, 39].into_iter().map(Filled::code).collect());
+    assert_eq!((status.alive, status.not_alive), (0, 1));
+}
+
+#[test]
+fn the_first_sample_makes_no_owner() {
+    let strong = key(48).guid(guid(1)).strength(5);
+    let (answer, _) = run(State::fresh(), vec![strong, key(48).guid(guid(2)).strength(1)]);
+    assert_eq!((answer.number, answer.outcome), (0, 0));
+}
+
+#[test]
+fn an_older_time_of_disposal_counts() {
+    let disposed = Filled::code(3).handle(1);
+    let timed = disposed.clone().time1(at(0, 10)).bits(TIME1_PRESENT);
+    let purge = Filled::code(21).time2(at(0, 15)).a(5);
+    let (answer, _) = run(State::fresh(), vec![key(9), timed, key(9), disposed, purge]);
+    assert_eq!(answer.count, 1);
+}
+
+#[test]
+fn unregister_stamps_again() {
+    let unregister = |s| Filled::code(4).handle(1).time1(at(s, 0)).bits(TIME1_PRESENT);
+    let (_, state) = run(State::fresh(), vec![key(9), unregister(1), unregister(2)]);
+    assert_eq!(state.instances[0].no_writers_at, Some(at(2, 0)));
+}
+
+#[test]
+fn a_match_revives_another_writer() {
+    let of = |code: u8, n| Filled::code(code).guid(guid(n));
+    let first = of(32, 2).b(10).bits(LEASE_PRESENT);
+    let (_, state) = run(State::fresh(), vec![first, Filled::code(37).a(10), of(32, 1).a(11)]);
+    assert_eq!((state.head.alive, state.head.last_writer), (2, Some(guid(2))));
+}

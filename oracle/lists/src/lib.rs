@@ -1,0 +1,21 @@
+//! Lists of calls: generated from a seed, or recorded in a file.
+
+pub mod bench;
+pub mod coverage;
+pub mod damage;
+pub mod fill;
+pub mod format;
+pub mod generate;
+pub mod hostile;
+pub mod image;
+pub mod pools;
+pub mod record;
+pub mod replay;
+pub mod rng;
+pub mod run;
+pub mod sample;
+pub mod start;
+
+pub use coverage::Coverage;
+pub use generate::Generator;
+pub use image::{Image, Step};

@@ -1,0 +1,148 @@
+//! The sample that the repository keeps: section 10's lists, one list that
+//! breaks each clause of well-formedness, and generated lists of every sort.
+
+use reading::state::State;
+
+use crate::bench;
+use crate::coverage::Coverage;
+use crate::damage::{self, Clause};
+use crate::fill::Filled;
+use crate::generate::{CODES, Calls, Generator, Rates};
+use crate::hostile;
+use crate::image::{Image, Step};
+use crate::record::{Recorder, Witness};
+use crate::rng::Rng;
+use crate::start::Start;
+
+/// Calls of a generated list.
+const LENGTH: usize = 44;
+/// Steps drawn, every other time, to find one that the sample is short of.
+const DRAWS: usize = 16;
+
+/// Generated lists: which calls, which start, and how many.
+const PLAN: [(Calls, Start, u64); 18] = [
+    (Calls::Instance, Start::Fresh, 8),
+    (Calls::Instance, Start::Any, 6),
+    (Calls::Instance, Start::FullInstances, 2),
+    (Calls::Instance, Start::FullSets, 3),
+    (Calls::Instance, Start::LastHandles, 2),
+    (Calls::Liveliness, Start::Fresh, 6),
+    (Calls::Liveliness, Start::Any, 4),
+    (Calls::Liveliness, Start::FullWriters, 2),
+    (Calls::Liveliness, Start::NearlyFullLost, 2),
+    (Calls::Joined, Start::Fresh, 8),
+    (Calls::Joined, Start::FullSets, 2),
+    (Calls::Joined, Start::NearlyFullLost, 1),
+    (Calls::All, Start::Fresh, 5),
+    (Calls::All, Start::Any, 6),
+    (Calls::All, Start::FullInstances, 1),
+    (Calls::All, Start::FullSets, 1),
+    (Calls::All, Start::NearlyFullLost, 2),
+    (Calls::All, Start::LastHandles, 2),
+];
+
+/// How often each clause is broken; most can be in two or three ways.
+const DAMAGES: usize = 3;
+
+/// Refused calls stand closer in the sample than in the long runs.
+const RATES: Rates = Rates { unknown_code: 60, odd_length: 50, damage: 60, hostile_field: 16 };
+
+/// Records the sample of a seed.
+pub fn make(seed: u64, witness: &mut dyn Witness) -> Result<Vec<u8>, String> {
+    let mut recorder = Recorder::default();
+    for (name, start, sheets) in written() {
+        let mut steps = sheets.into_iter().map(|sheet| Step::of(sheet.0));
+        recorder.list(name, 0, &start, |_, _| steps.next(), witness)?;
+    }
+    damaged(&mut recorder, seed, witness)?;
+    let mut rng = Rng::new(seed);
+    for (calls, start, many) in PLAN {
+        for _ in 0..many {
+            generated(&mut recorder, rng.number(), calls, start, witness)?;
+        }
+    }
+    let mut steps = hostile::several_faults().into_iter();
+    recorder.list("several faults", 0, &State::fresh(), |_, _| steps.next(), witness)?;
+    Ok(recorder.bytes())
+}
+
+/// The lists that no seed makes, each with its start.
+fn written() -> Vec<(&'static str, State, Vec<Filled>)> {
+    let mut all: Vec<_> =
+        bench::lists().into_iter().map(|(name, sheets)| (name, State::fresh(), sheets)).collect();
+    let (start, sheets) = bench::full_table();
+    all.push(("full table", start, sheets));
+    all.push(("hostile fields", State::fresh(), hostile::sheets()));
+    all
+}
+
+fn generated(
+    recorder: &mut Recorder,
+    seed: u64,
+    calls: Calls,
+    start: Start,
+    witness: &mut dyn Witness,
+) -> Result<(), String> {
+    let (mut generator, state) = Generator::of(seed, calls, start);
+    generator.rates = RATES;
+    let name = match calls {
+        Calls::Instance => "instance calls",
+        Calls::Liveliness => "liveliness calls",
+        Calls::Joined => "joined calls",
+        Calls::All => "all calls",
+    };
+    let mut left = LENGTH;
+    let next = |state: &State, covered: &Coverage| {
+        left = left.checked_sub(1)?;
+        Some(wanted(&mut generator, state, covered, if left.is_multiple_of(2) { DRAWS } else { 1 }))
+    };
+    recorder.list(name, seed, &state, next, witness)
+}
+
+/// The first of some steps that the sample is still short of, or the last.
+fn wanted(generator: &mut Generator, state: &State, covered: &Coverage, draws: usize) -> Step {
+    let image = Image::of_state(state);
+    for _ in 1..draws {
+        let step = generator.next(state);
+        let (answer, _) = image.clone().step(&step, reading::call);
+        if covered.wants(step.code(), &answer) {
+            return step;
+        }
+    }
+    generator.next(state)
+}
+
+/// A list that damages each clause, from a state that has what each
+/// needs.
+fn damaged(recorder: &mut Recorder, seed: u64, witness: &mut dyn Witness) -> Result<(), String> {
+    let (state, seed) = rich_state(seed);
+    let (mut generator, _) = Generator::of(seed, Calls::All, Start::Any);
+    generator.rates =
+        Rates { unknown_code: usize::MAX, odd_length: usize::MAX, damage: usize::MAX, ..RATES };
+    let mut rng = Rng::new(seed);
+    let mut clauses = (0..DAMAGES).flat_map(|_| Clause::all());
+    let mut codes = CODES.iter().cycle();
+    let next = |state: &State, _: &Coverage| {
+        let clause = clauses.next()?;
+        let mut step = generator.next(state);
+        step.sheet[81] = *codes.next()?;
+        damage::one(&mut rng, state, clause, &mut step);
+        Some(step)
+    };
+    recorder.list("damage", seed, &state, next, witness)
+}
+
+/// The first state, from a seed on, that every clause can be broken in.
+fn rich_state(seed: u64) -> (State, u64) {
+    let mut seed = seed;
+    loop {
+        let (_, state) = Generator::of(seed, Calls::All, Start::Any);
+        let mut rng = Rng::new(seed);
+        let breaks =
+            |clause: &Clause| damage::one(&mut rng, &state, *clause, &mut Step::of(Vec::new()));
+        if Clause::all().iter().all(breaks) {
+            return (state, seed);
+        }
+        seed = seed.wrapping_add(1);
+    }
+}

@@ -1,0 +1,165 @@
+//! States that a list starts from: fresh, or any well-formed one.
+
+use reading::bytes::{Guid, Key};
+use reading::layout::{Instance, Kind, Standing, Time, Writer, WriterKind};
+use reading::state::{Class, State, count};
+
+use crate::pools::Pools;
+use crate::rng::Rng;
+
+/// How a list starts.
+#[derive(Debug, Clone, Copy, PartialEq, Eq)]
+pub enum Start {
+    Fresh,
+    /// A few records, any fields.
+    Any,
+    /// 126 to 128 instances.
+    FullInstances,
+    /// Writer sets of 14 to 16 GUIDs.
+    FullSets,
+    /// 126 to 128 writer records.
+    FullWriters,
+    /// Lost with 250 to 256 GUIDs, and writers about to expire.
+    NearlyFullLost,
+    /// The next handle at its end.
+    LastHandles,
+}
+
+const CHANGE_ENDS: [i64; 6] = [-(1 << 30), 1 - (1 << 30), -1, 0, (1 << 30) - 1, 1 << 30];
+
+/// A well-formed state of the wanted sort.
+pub fn state(rng: &mut Rng, pools: &Pools, start: Start) -> State {
+    let mut state = State::fresh();
+    if start == Start::Fresh {
+        return state;
+    }
+    let few = rng.below(6);
+    let (instances, writers, lost) = match start {
+        Start::FullInstances => (rng.pick(&[126, 127, 128, 128]), few, rng.below(3)),
+        Start::FullWriters => (few, 126 + rng.below(3), rng.below(3)),
+        Start::NearlyFullLost => (few, 4 + rng.below(6), 250 + rng.below(7)),
+        Start::FullSets => (1 + few, rng.below(7), rng.below(4)),
+        _ => (few, rng.below(7), rng.below(4)),
+    };
+    let wide = start == Start::FullInstances;
+    for key in distinct(rng, instances, |rng| pools.key(rng, wide)) {
+        let instance = instance(rng, pools, key, start);
+        state.instances.push(instance);
+    }
+    for guid in distinct(rng, writers, |rng| pools.guid(rng, start == Start::FullWriters)) {
+        state.writers.push(writer(rng, pools, guid));
+    }
+    state.lost = (0..lost).map(|_| pools.guid(rng, false)).collect();
+    number_instances(rng, &mut state, start);
+    settle_head(rng, pools, &mut state);
+    debug_assert!(state.well_formed());
+    state
+}
+
+/// `n` different values, rising; fewer where the pool has no more.
+fn distinct(rng: &mut Rng, n: usize, draw: impl Fn(&mut Rng) -> [u8; 16]) -> Vec<[u8; 16]> {
+    let mut all = std::collections::BTreeSet::new();
+    for _ in 0..8 * n {
+        if all.len() < n {
+            all.insert(draw(rng));
+        }
+    }
+    all.into_iter().collect()
+}
+
+fn instance(rng: &mut Rng, pools: &Pools, key: Key, start: Start) -> Instance {
+    let mut i = Instance::fresh(key, 0);
+    i.kind = rng.pick(&[Kind::Alive, Kind::Alive, Kind::Disposed, Kind::NoWriters]);
+    i.view_new = rng.one_in(2);
+    i.disposed_generations = generation(rng);
+    i.no_writers_generations = generation(rng);
+    i.writer_count = counter(rng);
+    i.samples = counter(rng);
+    i.last_sample = optional_time(rng, pools);
+    i.last_delivered = optional_time(rng, pools);
+    i.last_filter = optional_time(rng, pools);
+    i.disposed_at = optional_time(rng, pools);
+    i.no_writers_at = optional_time(rng, pools);
+    i.owner_at = optional_time(rng, pools);
+    i.owner = rng.one_in(2).then(|| (pools.guid(rng, false), pools.strength(rng)));
+    // A full table stays lean, so that a recorded one is short.
+    if start != Start::FullInstances || rng.one_in(16) {
+        i.holder = rng.one_in(2).then(|| pools.holder(rng));
+        i.writers = set(rng, pools, start == Start::FullSets);
+    }
+    i
+}
+
+fn set(rng: &mut Rng, pools: &Pools, full: bool) -> Vec<Guid> {
+    let n = match rng.below(4) {
+        _ if full => 15 + rng.below(2),
+        0 => 14 + rng.below(3),
+        1 => 0,
+        _ => rng.below(4),
+    };
+    distinct(rng, n, |rng| pools.guid(rng, false))
+}
+
+fn generation(rng: &mut Rng) -> i32 {
+    rng.pick(&[0, 0, 1, 7, i32::MAX - 1, i32::MAX])
+}
+
+fn counter(rng: &mut Rng) -> u32 {
+    rng.pick(&[0, 0, 1, 2, 3, u32::MAX - 1, u32::MAX])
+}
+
+fn optional_time(rng: &mut Rng, pools: &Pools) -> Option<Time> {
+    rng.one_in(2).then(|| pools.time(rng))
+}
+
+fn writer(rng: &mut Rng, pools: &Pools, guid: Guid) -> Writer {
+    let standing = rng.pick(&[
+        Standing::Unasserted,
+        Standing::Alive,
+        Standing::Alive,
+        Standing::NotAlive,
+        Standing::Departed,
+    ]);
+    if standing == Standing::Departed {
+        return Writer::departed(guid);
+    }
+    Writer {
+        guid,
+        kind: rng.pick(&[WriterKind::Automatic, WriterKind::ByParticipant, WriterKind::ByTopic]),
+        standing,
+        lease: (!rng.one_in(4)).then(|| pools.lease(rng)),
+        last_assertion: pools.clock(rng),
+    }
+}
+
+/// Gives distinct handles, in no order of keys, and a next handle above them.
+fn number_instances(rng: &mut Rng, state: &mut State, start: Start) {
+    let n = state.instances.len() as u64;
+    let last = 1u64 << 63;
+    let base = match start {
+        Start::LastHandles => rng.pick(&[last, last, last - 1, last - 2]) - n,
+        Start::FullInstances if rng.one_in(4) => last - n,
+        _ => rng.pick(&[1, 1, 2, 1000, last - 200 - n]),
+    };
+    let turn = rng.below(128) as u64;
+    for (place, instance) in state.instances.iter_mut().enumerate() {
+        instance.handle = base + (place as u64 + turn) % n;
+    }
+    state.head.next_handle = base + n;
+    if start != Start::LastHandles && rng.one_in(3) {
+        state.head.next_handle = (base + n + rng.below(5) as u64).min(last);
+    }
+}
+
+fn settle_head(rng: &mut Rng, pools: &Pools, state: &mut State) {
+    let head = &mut state.head;
+    head.instances = state.instances.len() as u32;
+    head.writer_records = state.writers.len() as u32;
+    head.lost = state.lost.len() as u32;
+    head.alive = count(&state.writers, Class::Alive);
+    head.not_alive = count(&state.writers, Class::NotAlive);
+    head.alive_change = (i64::from(head.alive) - rng.pick(&CHANGE_ENDS)) as i32;
+    head.not_alive_change = (i64::from(head.not_alive) - rng.pick(&CHANGE_ENDS)) as i32;
+    head.last_writer = rng.one_in(2).then(|| pools.guid(rng, false));
+    head.changes = rng.pick(&[0, 5, u64::MAX - 1, u64::MAX]);
+}

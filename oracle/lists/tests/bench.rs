@@ -1,0 +1,88 @@
+//! Section 10's lines and traps say what section 10 says.
+
+use lists::bench;
+use lists::{Image, Step};
+use reading::{Answer, State};
+
+/// The answers of a list and the state after it.
+fn run(name: &str) -> (Vec<Answer>, State) {
+    let lists = bench::lists();
+    let (_, sheets) = lists.into_iter().find(|(n, _)| *n == name).expect("a list of that name");
+    let mut image = Image::fresh();
+    let answers = sheets
+        .into_iter()
+        .map(|sheet| image.step(&Step::of(sheet.0), reading::call).0)
+        .inspect(|answer| assert_eq!(answer.number, 0))
+        .collect();
+    (answers, image.state().expect("well formed"))
+}
+
+/// One field of the last answers of a list.
+fn last<T, const N: usize>(name: &str, field: impl Fn(&Answer) -> T) -> [T; N] {
+    let (answers, _) = run(name);
+    let from = answers.len() - N;
+    std::array::from_fn(|n| field(&answers[from + n]))
+}
+
+#[test]
+fn filters_and_order() {
+    assert_eq!(last("bench a", |a| a.outcome), [2, 0]);
+    assert_eq!(last("bench a later", |a| a.outcome), [0]);
+    assert_eq!(last("bench b", |a| a.outcome), [1, 0]);
+    assert_eq!(last("bench c", |a| a.outcome), [0]);
+}
+
+#[test]
+fn a_missed_deadline() {
+    assert_eq!(last("bench d", |a| a.yes), [true, true, true]);
+}
+
+#[test]
+fn limits() {
+    let present = last::<_, 11>("bench f", |a| a.present);
+    let (new, known) = ([false; 3], [true; 4]);
+    let other = [false, false, false, true];
+    assert_eq!(present.to_vec(), [&new[..], &known, &other].concat());
+    assert_eq!(last::<_, 11>("bench f", |a| a.outcome), [0, 0, 3, 0, 0, 0, 0, 0, 0, 3, 0]);
+}
+
+#[test]
+fn expiry() {
+    let (answers, _) = run("bench g");
+    assert_eq!((answers[2].yes, answers[2].next_due), (false, 110));
+    assert_eq!((answers[3].yes, answers[3].next_due_present), (true, false));
+    assert_eq!((answers[4].yes, answers[5].alive), (false, 0));
+    assert_eq!((answers[6].yes, answers[7].alive), (true, 1));
+}
+
+#[test]
+fn a_departed_writer_that_matches() {
+    let at = |name| last::<_, 2>(name, |a| (a.yes, a.alive, a.not_alive));
+    assert_eq!(at("bench h clock 0"), [(false, 0, 0), (false, 0, 1)]);
+    assert_eq!(at("bench h clock 1"), [(true, 0, 0), (false, 1, 0)]);
+}
+
+#[test]
+fn purges() {
+    assert_eq!(last("bench i", |a| a.count), [0, 1]);
+    assert_eq!(last("bench i delay 0", |a| a.count), [1]);
+}
+
+#[test]
+fn traps() {
+    assert_eq!(last("trap revives", |a| (a.yes, a.alive)), [(false, 0); 3]);
+    let view = last::<_, 4>("trap view new", |a| (a.present, a.view_new));
+    assert_eq!((view[0], view[3]), ((true, false), (true, true)));
+    let (answers, _) = run("trap empties set");
+    assert_eq!(answers.last().map(|a| a.listed), Some(1));
+}
+
+#[test]
+fn lapses_and_their_order() {
+    let (answers, state) = run("lapses");
+    // Nine of twelve, as one instance keeps the other writer; then code 38.
+    assert_eq!(answers.iter().filter(|a| a.listed > 0).count(), 9 + 1);
+    assert_eq!(answers.iter().filter(|a| a.next_due_present).count(), 12);
+    assert!(state.lost.is_empty());
+    assert_eq!(last("lapse order", |a| (a.yes, a.listed)), [(true, 2)]);
+}

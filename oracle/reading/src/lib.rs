@@ -1,0 +1,113 @@
+//! 01's calls over 01's byte layouts, as one reads them there.
+//!
+//! The reading is plain on purpose: a call decodes head and buffers, acts on
+//! the decoded state and lays it out again. It derives its calls from
+//! ZeroDDS's instance_tracker.rs and liveliness_tracker.rs as 01 states them.
+
+pub mod accounts;
+pub mod answer;
+pub mod bytes;
+pub mod effects;
+pub mod handles;
+pub mod head;
+pub mod instances;
+pub mod joined;
+pub mod layout;
+pub mod liveliness;
+pub mod reads;
+pub mod sheet;
+pub mod state;
+
+pub use answer::Answer;
+pub use head::Head;
+pub use sheet::Sheet;
+pub use state::State;
+
+use instances::Turn;
+use layout::{LOST_BYTES, OUT_BYTES, PENS_BYTES, WRITERS_BYTES};
+
+/// Readings that are wrong in one place; the comparison must catch each.
+#[derive(Debug, Clone, Copy, PartialEq, Eq)]
+pub enum Misreading {
+    RevivesOnLastAssertion,
+    RegisterSetsViewNew,
+    UnregisterEmptiesWriters,
+    TieToHigherGuid,
+    PurgeOnlyAfterDelay,
+    LapseDropsAllLost,
+}
+
+impl Misreading {
+    pub const ALL: [Self; 6] = [
+        Self::RevivesOnLastAssertion,
+        Self::RegisterSetsViewNew,
+        Self::UnregisterEmptiesWriters,
+        Self::TieToHigherGuid,
+        Self::PurgeOnlyAfterDelay,
+        Self::LapseDropsAllLost,
+    ];
+}
+
+/// The buffers lent with a call.
+pub struct Lent<'a> {
+    pub pens: &'a mut [u8],
+    pub writers: &'a mut [u8],
+    pub lost: &'a mut [u8],
+    pub out: &'a mut [u8],
+}
+
+/// One call. A refused one writes nothing.
+pub fn call(head: &mut Head, sheet: &[u8], lent: Lent<'_>) -> Answer {
+    call_as(head, sheet, lent, None)
+}
+
+/// One call as a misreading has it.
+pub fn call_as(
+    head: &mut Head,
+    sheet: &[u8],
+    lent: Lent<'_>,
+    misreading: Option<Misreading>,
+) -> Answer {
+    let (sheet, mut state) = match accept(head, sheet, &lent) {
+        Ok(accepted) => accepted,
+        Err(number) => return Answer::refused(number),
+    };
+    state.misreading = misreading;
+    match act(&mut state, sheet) {
+        Ok((answer, listed)) => {
+            state.write(head, lent.pens, lent.writers, lent.lost);
+            lent.out[..listed.len()].copy_from_slice(&listed);
+            answer
+        }
+        Err(number) => Answer::refused(number),
+    }
+}
+
+/// Refusals 1 to 8, lowest first.
+fn accept<'a>(head: &Head, sheet: &'a [u8], lent: &Lent<'_>) -> Result<(Sheet<'a>, State), u8> {
+    let sheet = Sheet::of(sheet).ok_or(1)?;
+    let lengths = [lent.pens.len(), lent.writers.len(), lent.lost.len(), lent.out.len()];
+    if lengths != [PENS_BYTES, WRITERS_BYTES, LOST_BYTES, OUT_BYTES] {
+        return Err(1);
+    }
+    if !sheet::known_code(sheet.code()) {
+        return Err(2);
+    }
+    let state = State::read(head, lent.pens, lent.writers, lent.lost).ok_or(3)?;
+    if let Some(number) = sheet.refusal() {
+        return Err(number);
+    }
+    if sheet.code() == 40 && liveliness::acknowledges_too_much(&state, sheet) {
+        return Err(8);
+    }
+    Ok((sheet, state))
+}
+
+/// The call itself, with refusals 9 to 13.
+fn act(state: &mut State, sheet: Sheet<'_>) -> Turn {
+    match sheet.code() {
+        1..=21 => instances::call(state, sheet),
+        32..=40 => liveliness::call(state, sheet),
+        _ => joined::call(state, sheet),
+    }
+}
