@@ -20,7 +20,8 @@ pub struct Tally {
     pub lists: u64,
     pub calls: u64,
     pub accepted: u64,
-    /// Refusals 9 to 13 that the Rust's own result confirmed.
+    /// Refusals 9 to 13. The Rust's own result had no place either, but for
+    /// code 48, where the driver looks ahead as section 5 says.
     pub without_place: u64,
     /// States on which section 7's reads were compared.
     pub read: u64,

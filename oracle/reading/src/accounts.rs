@@ -139,7 +139,7 @@ fn class_of(account: Option<Writer>) -> Class {
     account.map_or(Class::Neither, |w| class(&w))
 }
 
-/// Writers see the joined calls on writers as the calls they begin with.
+/// The liveliness call that a joined call begins with.
 fn tracker_code(sheet: Sheet<'_>) -> u8 {
     match sheet.code() {
         49 => 37,
@@ -179,7 +179,7 @@ fn writer_step(
     }
 }
 
-/// Takes kind and lease.
+/// Kind and lease become the sheet's, whatever the account was.
 fn matched(guid: Guid, account: Option<Writer>, sheet: Sheet<'_>) -> Writer {
     let kind = WriterKind::from_bits(sheet.kind_bits()).unwrap_or_default();
     let (standing, last_assertion) = match account {

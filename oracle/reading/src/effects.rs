@@ -207,15 +207,15 @@ pub fn purges(i: &Instance, sheet: Sheet<'_>, only_later: bool) -> bool {
     delay != NEVER && gap >= delay && !(only_later && gap == delay)
 }
 
-/// Time-based filter: earlier than the last is let through, else the gap must
-/// reach the separation. No gap reaches 2^64-1.
+/// Time-based filter: a sample from before the last passes, a later one by its
+/// distance. No distance is 2^64-1.
 pub fn filter_admits(last: Option<Time>, time: Time, separation: u64) -> bool {
     let Some(last) = last else { return true };
     let (last, time) = (last.floored(), time.floored());
     time < last || time - last >= separation
 }
 
-/// Destination order: strictly later.
+/// Destination order, asked only by source time: after the last one.
 pub fn order_admits(last: Option<Time>, time: Time, by_source: bool) -> bool {
     !by_source || last.is_none_or(|last| time.floored() > last.floored())
 }

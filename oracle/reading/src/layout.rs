@@ -105,7 +105,7 @@ const OWNER_BIT: u16 = 7;
 const HOLDER_BIT: u16 = 5;
 
 impl Instance {
-    /// A new instance: alive and view-new, all else zero or absent.
+    /// A new instance, alive and not seen yet.
     pub fn fresh(key: Key, handle: u64) -> Self {
         Self { key, handle, view_new: true, ..Self::default() }
     }

@@ -119,7 +119,7 @@ fn lay_out<T>(buffer: &mut [u8], size: usize, all: &[T], put: impl Fn(&T, &mut [
     unused.fill(0);
 }
 
-/// Handles are distinct and from 1 to below the next one.
+/// No two handles alike, none nil, and all below the next one.
 fn handles_fit(instances: &[Instance], next: u64) -> bool {
     let mut handles: Vec<u64> = instances.iter().map(|i| i.handle).collect();
     handles.sort_unstable();
