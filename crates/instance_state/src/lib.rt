@@ -522,7 +522,7 @@ pub fn drained(n: u32, x: InstanceState) -> InstanceState
 // ---- codes 16 to 20: OWNERSHIP and OWNERSHIP_STRENGTH (DDS 1.4, 2.2.3.9, 2.2.3.10)
 
 // Whether o is the writer's ownership.
-fn owns(g: Guid, o: MaybeOwner) -> bool
+pub fn owns(g: Guid, o: MaybeOwner) -> bool
     ensures { λ r. ⌜ r ≡ owns g o ⌝ }
 {
     let og = o.guid;
@@ -533,7 +533,7 @@ fn owns(g: Guid, o: MaybeOwner) -> bool
 }
 
 // Whether o is the ownership of one of the participant's writers.
-fn owns_prefix(g: Guid, o: MaybeOwner) -> bool
+pub fn owns_prefix(g: Guid, o: MaybeOwner) -> bool
     ensures { λ r. ⌜ r ≡ ownsPrefix g o ⌝ }
 {
     let og = o.guid;
