@@ -1,0 +1,173 @@
+-- From what a call on the instance table leaves to what the call on head and buffers leaves.
+--     told-accepts        an answer of an accepted call has number 0
+--     instance-outcome, admit-outcome     a call is accepted, or refused with nothing changed
+--     graft-left          what such a call on the table leaves is, in head and buffers, what model says
+-- Assumes nothing.
+use Prim.Native.Nat.{ℕ, zero, suc}
+use mathlib.Core.Bool.{Bool, true, false, not, _&&_, cond}
+use mathlib.Core.Option.{Option, none, some}
+use mathlib.Core.Path.{_≡_, refl, sym, ap, _∙_}
+use mathlib.Core.List.{List}
+use lib.Dec.{eqb, eqb·suc-zero}
+use lib.ListN.{length}
+use Rattle.model.specs.declared.Head.{Head}
+use Rattle.model.specs.declared.Instance.{Instance}
+use Rattle.model.specs.declared.InstanceCall.{InstanceCall}
+use Rattle.model.specs.declared.InstanceCall.the-variants.{Register, EnsureRegisteredLimited, Dispose, Unregister, UnregisterWriter, NoteWriter, DropWriter, ObserveLifecycle, ObserveAdmitted, NoteAdmitted, RecordDelivery, NoteTaken, MarkViewSeen, MarkViewNew, DrainSamples, AcceptUnderExclusiveOwnership, UpdateOwnerStrength, ClearOwnerForWriter, ClearOwnerForWriterPrefix, ReleaseOwnerOf, Autopurge}
+use Rattle.model.specs.declared.InstanceHandle.{InstanceHandle}
+use Rattle.model.specs.declared.Sheet.{Sheet}
+use Rattle.model.specs.Answers.{refusedWith, silent, stopping}
+use Rattle.model.specs.Call.{Left, lentOf, settle, listIn}
+use Rattle.model.specs.Handles.{handle}
+use Rattle.model.specs.InstanceCalls.{Turned, refused, unchanged, withInstances, atLimit, lateRefusal, handleAnswer, samplesAnswer, infoAnswer, reached, told, instanceTurn, instanceCall, known, full, spent, crowds, accepted}
+use Rattle.model.specs.Instances.{rule, limitedBy, hasKey}
+use Rattle.model.specs.Joined.{inOrder, passesFilter, admitted, admitWith, admitCall}
+use Rattle.model.specs.State.{Lent, State, stateOf, layOut, headOf, pensOf}
+use Rattle.model.specs.Tables.{find}
+use Rattle.model.proofs.StateLaws.{Buffers, Formed, lay-back}
+use Rattle.dcps.proofs.Graft.{tableOf, graft}
+
+-- ---- numbers of answers
+
+handle-accepts : (x : Option Instance) → handleAnswer x .number ≡ 0
+handle-accepts none = refl
+handle-accepts (some x) = refl
+
+samples-accepts : (x : Option Instance) → samplesAnswer x .number ≡ 0
+samples-accepts none = refl
+samples-accepts (some x) = refl
+
+info-accepts : (x : Option Instance) → infoAnswer x .number ≡ 0
+info-accepts none = refl
+info-accepts (some x) = refl
+
+pub told-accepts : (c : InstanceCall) (s : Sheet) (before after : List Instance) → told c s before after .number ≡ 0
+told-accepts Register s b a = handle-accepts (reached Register s b)
+told-accepts EnsureRegisteredLimited s b a = handle-accepts (reached EnsureRegisteredLimited s b)
+told-accepts Dispose s b a = refl
+told-accepts Unregister s b a = refl
+told-accepts UnregisterWriter s b a = refl
+told-accepts NoteWriter s b a = refl
+told-accepts DropWriter s b a = refl
+told-accepts ObserveLifecycle s b a = handle-accepts (reached ObserveLifecycle s b)
+told-accepts ObserveAdmitted s b a = samples-accepts (reached ObserveAdmitted s a)
+told-accepts NoteAdmitted s b a = info-accepts (reached NoteAdmitted s a)
+told-accepts RecordDelivery s b a = refl
+told-accepts NoteTaken s b a = refl
+told-accepts MarkViewSeen s b a = refl
+told-accepts MarkViewNew s b a = refl
+told-accepts DrainSamples s b a = refl
+told-accepts AcceptUnderExclusiveOwnership s b a = refl
+told-accepts UpdateOwnerStrength s b a = refl
+told-accepts ClearOwnerForWriter s b a = refl
+told-accepts ClearOwnerForWriterPrefix s b a = refl
+told-accepts ReleaseOwnerOf s b a = refl
+told-accepts Autopurge s b a = refl
+
+-- ---- accepted, or refused with nothing changed
+
+picked : {A : Type 0} (n : ℕ) (x y : A) → n ≡ 0 → cond (eqb n 0) x y ≡ x
+picked n x y e = rw e
+
+unpicked : {A : Type 0} (n : ℕ) (x y : A) → cond (eqb (suc n) 0) x y ≡ y
+unpicked n x y = rw (eqb·suc-zero n)
+
+pub data Outcome (st : State) (t : Turned) : Type 0 where
+  accepts : t .answer .number ≡ 0 → Outcome st t
+  refuses : (n : ℕ) → t ≡ refused (suc n) st → Outcome st t
+
+pub instance-outcome : (places : ℕ) (c : InstanceCall) (s : Sheet) (st : State) → Outcome st (instanceCall places c s st)
+unfolding instanceCall instanceTurn
+instance-outcome places c s st = each (limitedBy (rule c .reach) && atLimit s st) (lateRefusal places c s st)
+  where
+    each : (a : Bool) (n : ℕ) → Outcome st (cond a (unchanged silent st) (cond (eqb n 0) (instanceTurn c s st) (refused n st)))
+    each true n = accepts refl
+    each false zero = accepts (told-accepts c s _ _)
+    each false (suc n) = refuses n (unpicked n (instanceTurn c s st) (refused (suc n) st))
+
+pub admit-outcome : (places : ℕ) (s : Sheet) (st : State) → Outcome st (admitCall places s st)
+unfolding admitWith admitted
+admit-outcome places s st =
+    each (not (inOrder s x)) (not (passesFilter s x)) (atLimit s st) (not (known s st) && full places st) (not (known s st) && spent st) (crowds s x)
+    (not (accepted s x))
+  where
+    x : Option Instance
+    x = find (hasKey (s .key)) (st .instances)
+
+    each : (a b c d e f g : Bool) →
+        Outcome st
+        (cond a (unchanged (stopping 1) st) (cond b (unchanged (stopping 2) st) (cond c (unchanged (stopping 3) st) (cond d (refused 9 st) (cond e (refused 13 st)
+        (cond f (refused 10 st) (cond g (unchanged (stopping 4) st) (admitted s st))))))))
+    each true b c d e f g = accepts refl
+    each false true c d e f g = accepts refl
+    each false false true d e f g = accepts refl
+    each false false false true e f g = refuses 8 refl
+    each false false false false true f g = refuses 12 refl
+    each false false false false false true g = refuses 9 refl
+    each false false false false false false true = accepts refl
+    each false false false false false false false = accepts refl
+
+-- ---- head and buffers
+
+-- a head with another instance count and next handle
+abbrev pub headWith : Head → ℕ → InstanceHandle → Head
+headWith h count next =
+    record {
+      «instance_count» = count;
+      «next_handle» = next;
+      «writer_count» = h .«writer_count»;
+      «lost_count» = h .«lost_count»;
+      alive = h .alive;
+      «not_alive» = h .«not_alive»;
+      «alive_change» = h .«alive_change»;
+      «not_alive_change» = h .«not_alive_change»;
+      «last_writer» = h .«last_writer»;
+      changes = h .changes;
+    }
+
+-- what the call on the table left, in head and buffers
+abbrev pub leftIn : ℕ → Lent → Turned → Left
+leftIn places l t =
+    record {
+      answer = t .answer;
+      lent = lentOf (headWith (l .head) (length (t .state .instances)) (handle (t .state .nextHandle))) (pensOf places (t .state .instances)) (l .writers) (l .lost)
+          (listIn (t .list) (l .out));
+    }
+
+module _ (places : ℕ) (l : Lent) (b : Buffers places l) (f : Formed places l) where
+  laid : layOut places (stateOf l) (l .out) ≡ l
+  laid = lay-back places l b f
+
+  head-laid : headOf (stateOf l) ≡ l .head
+  unfolding layOut
+  head-laid = ap (λ (x : Lent). x .head) laid
+
+  -- the state with another table, laid out
+  laid-with : (xs : List Instance) (next : ℕ) (out : List ℕ) →
+      layOut places (withInstances xs next (stateOf l)) out
+      ≡ lentOf (headWith (l .head) (length xs) (handle next)) (pensOf places xs) (l .writers) (l .lost) out
+  unfolding layOut headOf
+  laid-with xs next out =
+      let w = ap (λ (x : Lent). x .writers) laid in
+      let o = ap (λ (x : Lent). x .lost) laid in
+      rw (w, o) (ap (λ (x : Head). lentOf (headWith x (length xs) (handle next)) (pensOf places xs) (l .writers) (l .lost) out) head-laid)
+
+  -- an accepted call
+  settled : (t : Turned) → t .answer .number ≡ 0 → settle places (graft (stateOf l) t) l ≡ leftIn places l t
+  unfolding settle
+  settled t e =
+      picked (t .answer .number) _ _ e
+      ∙ ap (λ (x : Lent). record { answer = t .answer; lent = x }) (laid-with (t .state .instances) (t .state .nextHandle) (listIn (t .list) (l .out)))
+
+  -- the state with its own table is the state
+  own : lentOf (headWith (l .head) (length (stateOf l .instances)) (handle (stateOf l .nextHandle))) (pensOf places (stateOf l .instances)) (l .writers) (l .lost) (l .out) ≡ l
+  own = sym (laid-with (stateOf l .instances) (stateOf l .nextHandle) (l .out)) ∙ laid
+
+  -- a refused one
+  unsettled : (n : ℕ) → settle places (graft (stateOf l) (refused (suc n) (tableOf (stateOf l)))) l ≡ leftIn places l (refused (suc n) (tableOf (stateOf l)))
+  unfolding settle
+  unsettled n = unpicked n _ _ ∙ ap (λ (x : Lent). record { answer = refusedWith (suc n); lent = x }) (sym own)
+
+  pub graft-left : (t : Turned) → Outcome (tableOf (stateOf l)) t → settle places (graft (stateOf l) t) l ≡ leftIn places l t
+  graft-left t (accepts e) = settled t e
+  graft-left t (refuses n e) = rw e (unsettled n)

@@ -1,0 +1,5 @@
+-- Laws over plain variables.
+pub mod Graft
+pub mod InstanceRange
+pub mod Chain
+pub mod Admit

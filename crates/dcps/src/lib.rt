@@ -1,0 +1,1 @@
+// The calls on lent head and buffers, range by range.
