@@ -1,4 +1,5 @@
 -- Laws over plain variables.
+pub mod Codes
 pub mod Graft
 pub mod InstanceRange
 pub mod Chain

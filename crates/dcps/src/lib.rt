@@ -1,1 +1,60 @@
 // The calls on lent head and buffers, range by range.
+// Rests on model and the crates of the two trackers.
+//
+// Derives from instance_tracker.rs and liveliness_tracker.rs of ZeroDDS.
+// Copyright 2026 ZeroDDS Contributors. SPDX-License-Identifier: Apache-2.0. Changed: written anew in Rattle, with the state
+// lent as head and buffers.
+use model::InstanceCall;
+use model::TrackerCall;
+ghost use mathlib.Core.Option.{some};
+ghost use mathlib.Core.Path.{_≡_};
+ghost use Prim.Native.Nat.{_≤_};
+ghost use Rattle.model.specs.Calls.{instances, tracker, callOfCode};
+
+// The call on instances of a code from 1 to 21.
+pub fn instance_call(code: u8) -> InstanceCall
+    requires { ⌜ (1 ≤ code) × (code ≤ 21) ⌝ }
+    ensures { λ r. ⌜ callOfCode code ≡ some (instances r) ⌝ }
+{
+    match code {
+        1 => InstanceCall::Register,
+        2 => InstanceCall::EnsureRegisteredLimited,
+        3 => InstanceCall::Dispose,
+        4 => InstanceCall::Unregister,
+        5 => InstanceCall::UnregisterWriter,
+        6 => InstanceCall::NoteWriter,
+        7 => InstanceCall::DropWriter,
+        8 => InstanceCall::ObserveLifecycle,
+        9 => InstanceCall::ObserveAdmitted,
+        10 => InstanceCall::NoteAdmitted,
+        11 => InstanceCall::RecordDelivery,
+        12 => InstanceCall::NoteTaken,
+        13 => InstanceCall::MarkViewSeen,
+        14 => InstanceCall::MarkViewNew,
+        15 => InstanceCall::DrainSamples,
+        16 => InstanceCall::AcceptUnderExclusiveOwnership,
+        17 => InstanceCall::UpdateOwnerStrength,
+        18 => InstanceCall::ClearOwnerForWriter,
+        19 => InstanceCall::ClearOwnerForWriterPrefix,
+        20 => InstanceCall::ReleaseOwnerOf,
+        _ => InstanceCall::Autopurge,
+    }
+}
+
+// The call on writers of a code from 32 to 40.
+pub fn tracker_call(code: u8) -> TrackerCall
+    requires { ⌜ (32 ≤ code) × (code ≤ 40) ⌝ }
+    ensures { λ r. ⌜ callOfCode code ≡ some (tracker r) ⌝ }
+{
+    match code {
+        32 => TrackerCall::Matched,
+        33 => TrackerCall::Unmatched,
+        34 => TrackerCall::LostWithParticipant,
+        35 => TrackerCall::WriterAsserted,
+        36 => TrackerCall::ParticipantAsserted,
+        37 => TrackerCall::Expire,
+        38 => TrackerCall::TakeLost,
+        39 => TrackerCall::TakeStatus,
+        _ => TrackerCall::Acknowledge,
+    }
+}
