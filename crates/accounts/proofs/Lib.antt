@@ -3,3 +3,4 @@ pub mod Basics
 pub mod TurnLaws
 pub mod RangeLaws
 pub mod WriterTurns
+pub mod InstanceTurns
