@@ -111,15 +111,15 @@ start-below : (c : InstanceCall) (s : Sheet) (st : State) → FitsGuid (s .key) 
 unfolding startOf started
 start-below c s st f = split (begins c s st) (λ e. rw e (num-below (s .key) f)) (λ e. rw e tt)
 
-known-is : (s : Sheet) (st : State) → known s st ≡ isSome (lookup instanceKey (num (s .key)) (st .instances))
+pub known-is : (s : Sheet) (st : State) → known s st ≡ isSome (lookup instanceKey (num (s .key)) (st .instances))
 known-is s st = any-lookup instanceKey (num (s .key)) (st .instances)
 
-unknown-none : {A : Type 0} (o : Option A) → isSome o ≡ false → o ≡ none
+pub unknown-none : {A : Type 0} (o : Option A) → isSome o ≡ false → o ≡ none
 unknown-none none e = refl
 unknown-none (some x) e = never e
 
 -- a call that starts an instance finds none at its key
-begins-absent : (c : InstanceCall) (s : Sheet) (st : State) → begins c s st ≡ true →
+pub begins-absent : (c : InstanceCall) (s : Sheet) (st : State) → begins c s st ≡ true →
     (startsBy (rule c .reach) ≡ true) × (lookup instanceKey (num (s .key)) (st .instances) ≡ none)
 begins-absent c s st e =
     let p = both-true (startsBy (rule c .reach)) (not (known s st)) e in

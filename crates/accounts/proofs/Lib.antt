@@ -4,3 +4,4 @@ pub mod TurnLaws
 pub mod RangeLaws
 pub mod WriterTurns
 pub mod InstanceTurns
+pub mod Steps

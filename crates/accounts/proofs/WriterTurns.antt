@@ -365,9 +365,31 @@ pub record WriterSim (st : State) (acc : WriterAccounts) : Type 0 where
   pub last : st .lastWriter ≡ acc .last
   pub changes : st .changes ≡ sumOver 0 bound (acc .moves) % 2 ^ 64
 
-guids-fit : (ws : List Writer) → All FitsWriter ws → All FitsGuid (map guidIn ws)
+-- a writer's GUID fits
+abbrev pub FitGuid : Writer → Type 0
+FitGuid w = FitsGuid (w .guid)
+
+guids-fit : (ws : List Writer) → All FitGuid ws → All FitsGuid (map guidIn ws)
 guids-fit [] f = tt
-guids-fit (w ∷ ws) f = (f .0 .guid, guids-fit ws (f .1))
+guids-fit (w ∷ ws) f = (f .0, guids-fit ws (f .1))
+
+begun-fit : (c : TrackerCall) (s : Sheet) (ws : List Writer) → FitsGuid (s .guid) → All FitGuid ws → All FitGuid (writersBegun c s ws)
+begun-fit matched s ws g f =
+    all-put writerKey FitGuid (matchedWriter s (find (hasGuid (s .guid)) ws)) ws (rw (matched-guid s (find (hasGuid (s .guid)) ws)) g) f
+begun-fit unmatched s ws g f = f
+begun-fit lostWithParticipant s ws g f = f
+begun-fit writerAsserted s ws g f = f
+begun-fit participantAsserted s ws g f = f
+begun-fit expire s ws g f = f
+begun-fit takeLost s ws g f = f
+begun-fit takeStatus s ws g f = f
+begun-fit acknowledge s ws g f = f
+
+pub movers-fit : (c : TrackerCall) (s : Sheet) (ws : List Writer) → FitsGuid (s .guid) → All FitGuid ws → All FitsGuid (movers c s ws)
+unfolding movers
+movers-fit c s ws g f =
+    guids-fit (pick (moves (writerStep c s ws)) (writersBegun c s ws))
+    (all-pick FitGuid (moves (writerStep c s ws)) (writersBegun c s ws) (begun-fit c s ws g f))
 
 module _ (c : TrackerCall) (s : Sheet) (ws : List Writer) (acc : Writers) (fits : FitsGuid (s .guid)) (rises : Within writerKey 0 bound ws) (agree : (j : ℕ) → lookup writerKey j ws ≡ acc j) where
   pub after-rises : Within writerKey 0 bound (M.writersAfter c s ws)
