@@ -1,8 +1,8 @@
 -- Small laws that the others share.
 --     split                a claim by the two cases of a test
---     both-true            both parts of a test hold
---     map-same             a map that changes nothing
---     all-map, all-each    what holds of every record
+--     either               a claim on one of two values, by a test
+--     and-true, and-assoc, contrary, never, some-none      tests and constructors
+--     all-from, all-to, all-weaken      what holds of every record
 -- Assumes nothing.
 use mathlib.Core.Bool.{Bool, true, false, not, _&&_, _||_, cond}
 use mathlib.Core.List.{List, [], _∷_, _++_, map}
@@ -18,6 +18,11 @@ use Rattle.model.specs.Tables.{all}
 pub split {ℓ} : {P : Type ℓ} (b : Bool) → (b ≡ true → P) → (b ≡ false → P) → P
 split true y n = y refl
 split false y n = n refl
+
+-- what holds of the one where the test holds, and of the other where not
+pub either : {A : Type 0} (P : A → Type 0) (b : Bool) (x y : A) → (b ≡ true → P x) → (b ≡ false → P y) → P (cond b x y)
+either P true x y p q = p refl
+either P false x y p q = q refl
 
 pub and-true : (a b : Bool) → a ≡ true → b ≡ true → (a && b) ≡ true
 and-true a b p q = rw (p, q)

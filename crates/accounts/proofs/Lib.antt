@@ -5,3 +5,6 @@ pub mod RangeLaws
 pub mod WriterTurns
 pub mod InstanceTurns
 pub mod Steps
+pub mod Sound
+pub mod SheetLaws
+pub mod EffectLaws

@@ -50,7 +50,7 @@ module _ {A : Type 0} (key : A → ℕ) where
   abbrev pub Keeps : (A → Option A) → Type 0
   Keeps f = (x y : A) → f x ≡ some y → key y ≡ key x
 
-  within-weaken : (lo low hi : ℕ) (xs : List A) → low ≤ lo → Within lo hi xs → Within low hi xs
+  pub within-weaken : (lo low hi : ℕ) (xs : List A) → low ≤ lo → Within lo hi xs → Within low hi xs
   within-weaken lo low hi [] h w = tt
   within-weaken lo low hi (x ∷ xs) h w = (omega arith, w .1, w .2)
 
