@@ -107,7 +107,7 @@ pub begun-is : (c : InstanceCall) (s : Sheet) (st : State) → begun c s st ≡ 
 unfolding begun startOf
 begun-is c s st = split (begins c s st) (λ e. rw e) (λ e. rw e)
 
-start-below : (c : InstanceCall) (s : Sheet) (st : State) → FitsGuid (s .key) → Below instanceKey bound (startOf c s st)
+pub start-below : (c : InstanceCall) (s : Sheet) (st : State) → FitsGuid (s .key) → Below instanceKey bound (startOf c s st)
 unfolding startOf started
 start-below c s st f = split (begins c s st) (λ e. rw e (num-below (s .key) f)) (λ e. rw e tt)
 
@@ -185,10 +185,10 @@ told-handle releaseOwnerOf s before w = refl
 told-handle autopurge s before w = refl
 
 -- a call that may start an instance, at its own key or not
-abbrev eventBy : Sheet → ℕ → ℕ → Event
+abbrev pub eventBy : Sheet → ℕ → ℕ → Event
 eventBy s h outcome = record { sheet = s; number = 0; handle = h; outcome = outcome }
 
-not-nil : (n : ℕ) → 1 ≤ n → notNil n ≡ n
+pub not-nil : (n : ℕ) → 1 ≤ n → notNil n ≡ n
 not-nil n l = rw (ne-eqb n 0 (λ q. omega arith))
 
 module _ (c : InstanceCall) (s : Sheet) (st : State) (fits : FitsGuid (s .key)) (rises : Within instanceKey 0 bound (st .instances)) (one : 1 ≤ st .nextHandle) where
@@ -363,7 +363,7 @@ stopped-heard st acc s outcome gone e m =
 -- ---- an instance call that acts
 
 -- the counter moves on by one where an instance is started
-next-is : (c : InstanceCall) (s : Sheet) (st : State) → 1 ≤ st .nextHandle → (begins c s st ≡ true → st .nextHandle < 2 ^ 63) →
+pub next-is : (c : InstanceCall) (s : Sheet) (st : State) → 1 ≤ st .nextHandle → (begins c s st ≡ true → st .nextHandle < 2 ^ 63) →
     nextAfter c s st ≡ st .nextHandle + bit (begins c s st)
 unfolding nextAfter allocated
 next-is c s st one room =
@@ -452,17 +452,17 @@ same-accounts st acc acc′ e d m =
       next = rw (← d) (m .next);
     }
 
-abbrev tried : Sheet → State → State
+abbrev pub tried : Sheet → State → State
 tried s st = instanceTurn acceptUnderExclusiveOwnership s st .state
 
-abbrev observed : Sheet → State → State
+abbrev pub observed : Sheet → State → State
 observed s st = instanceTurn observeAdmitted s (tried s st) .state
 
-tried-next : (s : Sheet) (st : State) → tried s st .nextHandle ≡ st .nextHandle
+pub tried-next : (s : Sheet) (st : State) → tried s st .nextHandle ≡ st .nextHandle
 unfolding instanceTurn nextAfter
 tried-next s st = refl
 
-tried-silent : (s : Sheet) (st : State) → instanceTurn acceptUnderExclusiveOwnership s st .answer .handle .0 ≡ 0
+pub tried-silent : (s : Sheet) (st : State) → instanceTurn acceptUnderExclusiveOwnership s st .answer .handle .0 ≡ 0
 unfolding instanceTurn
 tried-silent s st = refl
 

@@ -8,3 +8,5 @@ pub mod Steps
 pub mod Sound
 pub mod SheetLaws
 pub mod EffectLaws
+pub mod WriterSound
+pub mod InstanceSound

@@ -152,7 +152,7 @@ begun-is takeLost s ws = refl
 begun-is takeStatus s ws = refl
 begun-is acknowledge s ws = refl
 
-matched-guid : (s : Sheet) (o : Option Writer) → matchedWriter s o .guid ≡ s .guid
+pub matched-guid : (s : Sheet) (o : Option Writer) → matchedWriter s o .guid ≡ s .guid
 matched-guid s none = refl
 matched-guid s (some w) = go (w .liveliness .state)
   where
