@@ -37,7 +37,7 @@ use Rattle.accounts.specs.InstanceAccounts.{isKeyed, onInstance}
 use Rattle.accounts.specs.Ranges.{bound}
 use Rattle.accounts.proofs.Basics.{split, either, never, all-weaken}
 use Rattle.accounts.proofs.EffectLaws.{Room, SoundAfter, Used, effect-sound, lost-sound, started-sound}
-use Rattle.accounts.proofs.InstanceTurns.{acts-stay, startOf, begun-is, start-below, begins-absent, next-is, not-nil, answered, turned-at, turned-rises, eventBy, tried, observed, tried-next, tried-silent}
+use Rattle.accounts.proofs.InstanceTurns.{acts-stay, startOf, begun-is, start-below, begins-absent, next-is, not-nil, answered, turned-at, turned-rises, eventBy, tried, observed, tried-next, tried-none, tried-silent}
 use Rattle.accounts.proofs.SheetLaws.{SheetFits}
 use Rattle.accounts.proofs.Sound.{SoundTime, SoundState}
 use Rattle.accounts.proofs.TurnLaws.{lookup, Within, keyed, all-put, all-sift, length-put, length-sift}
@@ -362,3 +362,99 @@ observed-crowds s j h none n =
     started-crowds : Room (s .guid) (admittedObserved s (started (s .key) h .state))
     started-crowds = unfold started in rw (observed-writers s startedState) (started-room (s .guid))
 observed-crowds s j h (some x) n = split (isKeyed s j) (λ k. rw (k, observed-writers s (x .state)) n) (λ k. rw k n)
+
+tried-few : (s : Sheet) (st : State) → length (tried s st .instances) ≤ length (st .instances)
+unfolding instanceTurn instancesAfter begun
+tried-few s st = length-sift (acts acceptUnderExclusiveOwnership s) (st .instances)
+
+turned-instances : (c : InstanceCall) (s : Sheet) (st : State) → instanceTurn c s st .state .instances ≡ instancesAfter c s st
+unfolding instanceTurn
+turned-instances c s st = refl
+
+-- what an accepted admit with outcome 0 has on its sheet and finds in the state
+pub record Admission (places : ℕ) (s : Sheet) (st : State) : Type 0 where
+  pub fits : SheetFits s
+  pub time1 : nanosecondsOk (s .«time_1») ≡ true
+  pub time2 : nanosecondsOk (s .«time_2») ≡ true
+  pub holder : s .holder .len ≤ 144
+  pub place : lookup instanceKey (num (s .key)) (st .instances) ≡ none → length (st .instances) < places
+  pub handle : lookup instanceKey (num (s .key)) (st .instances) ≡ none → st .nextHandle < 2 ^ 63
+  pub crowd : crowds s (lookup instanceKey (num (s .key)) (st .instances)) ≡ false
+
+one-time : (t : MaybeTime) → nanosecondsOk t ≡ true → all nanosecondsOk (t ∷ []) ≡ true
+unfolding all
+one-time t e = rw e
+
+two-times : (t u : MaybeTime) → nanosecondsOk t ≡ true → nanosecondsOk u ≡ true → all nanosecondsOk (t ∷ u ∷ []) ≡ true
+unfolding all
+two-times t u e d = rw (e, d)
+
+module _ (places : ℕ) (s : Sheet) (st : State) (ad : Admission places s st) (w : Within instanceKey 0 bound (st .instances)) (m : SoundInstances places st) where
+  tried-rises : Within instanceKey 0 bound (tried s st .instances)
+  tried-rises =
+      rw (turned-instances acceptUnderExclusiveOwnership s st) (turned-rises acceptUnderExclusiveOwnership s st (ad .fits .key) w (m .low))
+
+  tried-sound : SoundInstances places (tried s st)
+  tried-sound =
+      instance-sound places acceptUnderExclusiveOwnership s st
+      record {
+        fits = ad .fits;
+        place = λ e. never (sym e);
+        handle = λ e. never (sym e);
+        crowd = λ e. never (sym e);
+        times = one-time (s .«time_2») (ad .time2);
+        holder = λ e. never (sym e);
+      } w m
+
+  tried-at : lookup instanceKey (num (s .key)) (tried s st .instances)
+      ≡ onInstance (instances acceptUnderExclusiveOwnership) (eventBy s (answered acceptUnderExclusiveOwnership s st (ad .fits .key) w (m .low)) 0) [] (num (s .key))
+      (lookup instanceKey (num (s .key)) (st .instances))
+  tried-at =
+      ap (lookup instanceKey (num (s .key))) (turned-instances acceptUnderExclusiveOwnership s st)
+      ∙ turned-at acceptUnderExclusiveOwnership s st (ad .fits .key) w (m .low) (num (s .key)) [] 0
+
+  answered-zero : answered acceptUnderExclusiveOwnership s st (ad .fits .key) w (m .low) ≡ 0
+  answered-zero = unfold answered in tried-silent s st
+
+  still-absent : begins observeAdmitted s (tried s st) ≡ true → lookup instanceKey (num (s .key)) (st .instances) ≡ none
+  still-absent e =
+      tried-none s (num (s .key)) _ (lookup instanceKey (num (s .key)) (st .instances)) answered-zero
+      (sym tried-at ∙ begins-absent observeAdmitted s (tried s st) e .1)
+
+  observed-sound : SoundInstances places (observed s st)
+  observed-sound =
+      instance-sound places observeAdmitted s (tried s st)
+      record {
+        fits = ad .fits;
+        place = λ e. omega (arith, tried-few s st, ad .place (still-absent e));
+        handle = λ e. rw (tried-next s st) (ad .handle (still-absent e));
+        crowd = λ e. never (sym e);
+        times = one-time (s .«time_1») (ad .time1);
+        holder = λ e. ad .holder;
+      } tried-rises tried-sound
+
+  observed-rises : Within instanceKey 0 bound (observed s st .instances)
+  observed-rises =
+      rw (turned-instances observeAdmitted s (tried s st)) (turned-rises observeAdmitted s (tried s st) (ad .fits .key) tried-rises (tried-sound .low))
+
+  observed-room : crowds s (lookup instanceKey (num (s .key)) (observed s st .instances)) ≡ false
+  observed-room =
+      ap (λ (xs : List Instance). crowds s (lookup instanceKey (num (s .key)) xs)) (turned-instances observeAdmitted s (tried s st))
+      ∙ ap (crowds s) (turned-at observeAdmitted s (tried s st) (ad .fits .key) tried-rises (tried-sound .low) (num (s .key)) [] 0)
+      ∙ observed-crowds s (num (s .key)) _ (lookup instanceKey (num (s .key)) (tried s st .instances))
+      (ap (crowds s) tried-at
+      ∙ tried-crowds s (num (s .key)) _ (lookup instanceKey (num (s .key)) (st .instances)) answered-zero
+      ∙ ad .crowd)
+
+  pub admit-sound : SoundInstances places (admitted s st .state)
+  unfolding admitted
+  admit-sound =
+      instance-sound places noteAdmitted s (observed s st)
+      record {
+        fits = ad .fits;
+        place = λ e. never (sym e);
+        handle = λ e. never (sym e);
+        crowd = λ e. observed-room;
+        times = two-times (s .«time_1») (s .«time_2») (ad .time1) (ad .time2);
+        holder = λ e. never (sym e);
+      } observed-rises observed-sound

@@ -95,7 +95,7 @@ acts-stay c s x y e =
     (λ d. kept-key x y (effect c s (x .state)) (rw d at e))
     (λ d. let q : some x ≡ some y = rw d at e in let p : x ≡ y = cc in (sym (ap (λ (i : Instance). i .key) p), sym (ap (λ (i : Instance). i .handle) p)))
 
-acts-keeps : (c : InstanceCall) (s : Sheet) → Keeps instanceKey (acts c s)
+pub acts-keeps : (c : InstanceCall) (s : Sheet) → Keeps instanceKey (acts c s)
 acts-keeps c s x y e = ap num (acts-stay c s x y e .0)
 
 -- ---- the turn
@@ -192,7 +192,7 @@ pub not-nil : (n : ℕ) → 1 ≤ n → notNil n ≡ n
 not-nil n l = rw (ne-eqb n 0 (λ q. omega arith))
 
 module _ (c : InstanceCall) (s : Sheet) (st : State) (fits : FitsGuid (s .key)) (rises : Within instanceKey 0 bound (st .instances)) (one : 1 ≤ st .nextHandle) where
-  pub answered : ℕ
+  unfoldable pub answered : ℕ
   answered = instanceTurn c s st .answer .handle .0
 
   begun-rises : Within instanceKey 0 bound (begun c s st)
@@ -423,7 +423,7 @@ admit-steps s gone j h before after none e d =
 admit-steps s gone j h before after (some x) e d = split (isKeyed s j) (λ k. rw (k, k, k)) (λ k. rw (k, k, k))
 
 -- code 16 neither starts nor purges
-tried-none : (s : Sheet) (j h : ℕ) (o : Option Instance) → h ≡ 0 →
+pub tried-none : (s : Sheet) (j h : ℕ) (o : Option Instance) → h ≡ 0 →
     onInstance (instances acceptUnderExclusiveOwnership) (eventBy s h 0) [] j o ≡ none → o ≡ none
 tried-none s j h none e n = refl
 tried-none s j h (some x) e n =

@@ -10,3 +10,4 @@ pub mod SheetLaws
 pub mod EffectLaws
 pub mod WriterSound
 pub mod InstanceSound
+pub mod Held
