@@ -11,3 +11,4 @@ pub mod EffectLaws
 pub mod WriterSound
 pub mod InstanceSound
 pub mod Held
+pub mod Demand3
