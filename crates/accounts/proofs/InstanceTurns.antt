@@ -89,6 +89,10 @@ kept-key x y (some z) e =
     let p : record { key = x .key; handle = x .handle; state = z } ≡ y = cc in
     (sym (ap (λ (i : Instance). i .key) p), sym (ap (λ (i : Instance). i .handle) p))
 
+leaving-is : (x : Instance) (o : Option InstanceState) → kept x o ≡ S.leaving x o
+leaving-is x none = refl
+leaving-is x (some y) = refl
+
 pub acts-stay : (c : InstanceCall) (s : Sheet) (x y : Instance) → acts c s x ≡ some y → (y .key ≡ x .key) × (y .handle ≡ x .handle)
 acts-stay c s x y e =
     split (reaches c s x)
@@ -238,7 +242,7 @@ module _ (c : InstanceCall) (s : Sheet) (st : State) (fits : FitsGuid (s .key)) 
           unfold startOf started allocated in
           rw (answered-new e, e, eqb-sym (num (s .key)) j, ne-eqb (st .nextHandle) 0 (λ q. omega arith))
           (split (eqb j (num (s .key)))
-          (λ d. rw (d, starting-reach (rule c .reach) s (started (s .key) (st .nextHandle)) (begins-absent c s st e .0), eq-eqb (num (s .key)) (num (s .key)) refl))
+          (λ d. rw (d, starting-reach (rule c .reach) s (started (s .key) (st .nextHandle)) (begins-absent c s st e .0), eq-eqb (num (s .key)) (num (s .key)) refl) (leaving-is (started (s .key) (st .nextHandle)) (effect c s (started (s .key) (st .nextHandle) .state))))
           (λ d. rw d))
 
       other-at : begins c s st ≡ false →
@@ -252,7 +256,7 @@ module _ (c : InstanceCall) (s : Sheet) (st : State) (fits : FitsGuid (s .key)) 
   present-at : (j : ℕ) (gone : List Guid) (outcome : ℕ) (x : Instance) → lookup instanceKey j (st .instances) ≡ some x →
       bind (acts c s) (begunAt instanceKey (startOf c s st) j (some x)) ≡ onPresent (instances c) (eventBy s answered outcome) gone j x
   present-at j gone outcome x n =
-      ap (bind (acts c s)) same-there ∙ rw (reach-is c s x, lookup-key instanceKey j (st .instances) x n)
+      ap (bind (acts c s)) same-there ∙ rw (reach-is c s x, lookup-key instanceKey j (st .instances) x n, leaving-is x (effect c s (x .state)))
     where
       same-there : begunAt instanceKey (startOf c s st) j (some x) ≡ some x
       same-there =

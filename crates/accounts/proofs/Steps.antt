@@ -29,11 +29,11 @@ use Rattle.model.specs.Writers.{movers, trackerTold, trackerLate, trackerState,
 use Rattle.model.proofs.Fits.{FitsGuid}
 use Rattle.accounts.specs.Accounts.{seenAs, goneBy, Accounts, advanceBy}
 use Rattle.accounts.specs.InstanceAccounts.{Event, onPresent, losing, InstanceAccounts, reach}
-use Rattle.accounts.specs.WriterAccounts.{WriterAccounts, hear, heardBy, writersAfter, movedIn}
+use Rattle.accounts.specs.WriterAccounts.{WriterAccounts, hear, heardBy, writersAfter, expiredIn}
 use Rattle.accounts.proofs.Basics.{split, never, contrary}
 use Rattle.accounts.proofs.InstanceTurns.{InstanceSim, one-next, tracker-heard, limit-heard, stopped-heard, instance-heard, admit-heard, loss-heard, begins-absent}
 use Rattle.accounts.proofs.TurnLaws.{lookup, any-lookup}
-use Rattle.accounts.proofs.WriterTurns.{WriterSim, FitGuid, movers-fit, movers-are, writer-heard}
+use Rattle.accounts.proofs.WriterTurns.{WriterSim, FitGuid, movers-fit, expired-are, writer-heard}
 
 pub record Sim (st : State) (acc : Accounts) : Type 0 where
   pub writers : WriterSim st (acc .writers)
@@ -190,7 +190,7 @@ admit-turned places s st acc x f m ok =
 -- a tracker call, then codes 7 and 18 for each writer gone
 loss-turned : (c : TrackerCall) (d : JoinedCall) (s : Sheet) (st : State) (acc : Accounts) (gs : List Guid) → FitsGuid (s .guid) →
     All FitGuid (st .writers) → Sim st acc → seenAs (joined d) ≡ some c →
-    gs ≡ goneBy (joined d) s (movedIn (acc .writers .at) (writersAfter c s (acc .writers .at))) →
+    gs ≡ goneBy (joined d) s (expiredIn (acc .writers .at) (writersAfter c s (acc .writers .at))) →
     ((e : Event) (gone : List Guid) (j : ℕ) (x : Instance) → onPresent (joined d) e gone j x ≡ losing gone (e .sheet) x) →
     eqb (lossCall c gs s st .answer .number) 0 ≡ true →
     Sim (lossCall c gs s st .state) (advanced (joined d) s (lossCall c gs s st .answer) acc)
@@ -211,7 +211,7 @@ joined-turned : (places : ℕ) (c : JoinedCall) (s : Sheet) (st : State) (acc : 
 joined-turned places admit s st acc k g f m ok = admit-turned places s st acc (find (hasKey (s .key)) (st .instances)) k m ok
 joined-turned places lapse s st acc k g f m ok =
     loss-turned expire lapse s st acc (movers expire s (st .writers)) g f m refl
-    (movers-are expire s (st .writers) (acc .writers .at) g (m .writers .rising) (m .writers .agree) (movers-fit expire s (st .writers) g f))
+    (expired-are s (st .writers) (acc .writers .at) g (m .writers .rising) (m .writers .agree) (movers-fit expire s (st .writers) g f))
     (λ e gone j x. refl) ok
 joined-turned places part s st acc k g f m ok = loss-turned unmatched part s st acc (s .guid ∷ []) g f m refl refl (λ e gone j x. refl) ok
 joined-turned places depart s st acc k g f m ok =

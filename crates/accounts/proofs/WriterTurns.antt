@@ -1,13 +1,14 @@
 -- The writers' half of demand 3: a tracker call turns the table of writers as section 6 moves each account.
 --     writers-at        what is found at a GUID after a call is the account's step of what was found there
---     movers-are        the movers of a call are the GUIDs that changed class
+--     movers-count      the movers of a call are the GUIDs that changed class, and as many
+--     expired-are       those of an expire are the GUIDs that it expired
 --     alive-are, not-alive-are      both counts
 --     writer-heard      a call that the writers see keeps table and accounts in step
 -- Assumes nothing.
 use mathlib.Core.Bool.{Bool, true, false, not, _&&_, _||_, cond}
 use mathlib.Core.List.{List, [], _∷_, _++_, map, map-map}
 use mathlib.Core.Option.{Option, none, some}
-use mathlib.Core.Path.{_≡_, refl, sym, ap, _∙_}
+use mathlib.Core.Path.{_≡_, refl, sym, ap, _∙_, subst}
 use Prim.Native.Nat.{ℕ, _+_, _%_, _^_, _≤_}
 use native.Mathlib.Nat.{zero-add, mod-add-mod}
 use native.Mathlib.Omega.{arith}
@@ -36,7 +37,7 @@ use Rattle.model.specs.Writers.{hasGuid, isTracked, covers, coversKind, renews,
 use Rattle.model.proofs.Fits.{FitsGuid, FitsWriter}
 use Rattle.accounts.specs.Ranges.{bound, guidNumbered, between, sumOver, greatest}
 use Rattle.accounts.specs.WriterAccounts as S
-use Rattle.accounts.specs.WriterAccounts.{trackedIn, became, matches, takingFrom, covered, automatic, byParticipant, timely, runOut, asserts, lapses, leaves, leavesFrom, departs, departsFrom, isNamed, isNear, matchedAt, onWriter, Writers, writersAfter, Standing, standingIn, standing, isAlive, isNotAlive, differ, moved, movedAt, movedIn, standsAlive, standsNotAlive, aliveAmong, notAliveAmong, WriterAccounts, lastIn, lastOr, lostBy, acknowledgedBy, changeOf, heardBy}
+use Rattle.accounts.specs.WriterAccounts.{trackedIn, became, matches, takingFrom, covered, automatic, byParticipant, timely, runOut, asserts, lapses, leaves, leavesFrom, departs, departsFrom, isNamed, isNear, matchedAt, onWriter, Writers, writersAfter, Standing, standingIn, standing, isAlive, isNotAlive, differ, moved, movedAt, expiredAt, expiredIn, standsAlive, standsNotAlive, aliveAmong, notAliveAmong, WriterAccounts, lastIn, lastOr, lostBy, acknowledgedBy, changeOf, heardBy}
 use Rattle.accounts.proofs.Basics.{split, and-assoc, eqb-sym}
 use Rattle.accounts.proofs.RangeLaws.{sum-ext, sum-add, length-between, length-map, last-greatest, num-below, renumbered}
 use Rattle.accounts.proofs.TurnLaws.{bind, test, lookup, Within, Keeps, lookup-key, begin, begunAt, Below, lookup-begin, within-begin, lookup-sift, turn-within, turn-at, between-ext, pick-between, all-put, all-pick}
@@ -423,8 +424,7 @@ module _ (c : TrackerCall) (s : Sheet) (ws : List Writer) (acc : Writers) (fits 
       ∙ between-ext writerKey 0 bound (λ j. test (moves (writerStep c s ws)) (lookup writerKey j (writersBegun c s ws)))
       (movedAt acc (writersAfter c s acc)) (λ j l. begun-moves j)
 
-  pub movers-are : All FitsGuid (movers c s ws) → movers c s ws ≡ movedIn acc (writersAfter c s acc)
-  unfolding movedIn
+  movers-are : All FitsGuid (movers c s ws) → movers c s ws ≡ map guidNumbered (between 0 bound (movedAt acc (writersAfter c s acc)))
   movers-are f = sym (renumbered (movers c s ws) f) ∙ ap (map guidNumbered) movers-numbered
 
   pub movers-count : length (movers c s ws) ≡ sumOver 0 bound (λ j. bit (movedAt acc (writersAfter c s acc) j))
@@ -432,8 +432,39 @@ module _ (c : TrackerCall) (s : Sheet) (ws : List Writer) (acc : Writers) (fits 
       sym (length-map num (movers c s ws)) ∙ ap length movers-numbered ∙ length-between 0 bound (movedAt acc (writersAfter c s acc))
 
   pub last-are : All FitsGuid (movers c s ws) → (last : _) → lastAfter (movers c s ws) last ≡ lastIn acc (writersAfter c s acc) last
-  unfolding lastIn movedIn
+  unfolding lastIn
   last-are f last = ap (λ (l : List Guid). lastAfter l last) (movers-are f) ∙ last-greatest bound (movedAt acc (writersAfter c s acc)) last
+
+-- in code 37 those that change class are those that were alive and are not alive
+lapsed-is : (clock : ℕ) (o : Option Writer) → moved o (lapses clock o) ≡ (isAlive (standing o) && isNotAlive (standing (lapses clock o)))
+unfolding lapses
+lapsed-is clock none = refl
+lapsed-is clock (some w) =
+    split (runOut clock w) (λ e. rw e (alive-now (w .liveliness .state) (left-true _ _ e))) (λ e. rw e (unmoved (standingIn (w .liveliness .state))))
+  where
+    left-true : (a b : Bool) → (a && b) ≡ true → a ≡ true
+    left-true true b e = refl
+    left-true false b e = e
+
+    alive-now : (st : WriterState) → S.aliveIn st ≡ true → differ (standingIn st) S.notAlive ≡ (isAlive (standingIn st) && true)
+    alive-now Unasserted e = sym e
+    alive-now Alive e = refl
+    alive-now NotAlive e = refl
+    alive-now Departed e = refl
+
+    unmoved : (a : Standing) → differ a a ≡ (isAlive a && isNotAlive a)
+    unmoved S.alive = refl
+    unmoved S.notAlive = refl
+    unmoved S.neither = refl
+
+pub expired-are : (s : Sheet) (ws : List Writer) (acc : Writers) → FitsGuid (s .guid) → Within writerKey 0 bound ws →
+    ((j : ℕ) → lookup writerKey j ws ≡ acc j) → All FitsGuid (movers expire s ws) →
+    movers expire s ws ≡ expiredIn acc (writersAfter expire s acc)
+unfolding expiredIn writersAfter
+expired-are s ws acc f rises agree g =
+    movers-are expire s ws acc f rises agree g
+    ∙ ap (map guidNumbered)
+    (between-ext writerKey 0 bound (movedAt acc (writersAfter expire s acc)) (expiredAt acc (writersAfter expire s acc)) (λ j l. lapsed-is (s .a) (acc j)))
 
 -- ---- both counts
 
@@ -493,14 +524,14 @@ acknowledged-are takeLost n m part y z e d = d
 acknowledged-are takeStatus n m part y z e d = ap pos e ∙ whole m z
 acknowledged-are acknowledge n m part y z e d = ap (λ (x : ℤ). x +ℤ toZ w32 part) d
 
-lost-are : (c : TrackerCall) (gone gone′ lost lost′ : List Guid) → gone ≡ gone′ → lost ≡ lost′ →
+lost-are : (c : TrackerCall) (gone gone′ lost lost′ : List Guid) → (c ≡ expire → gone ≡ gone′) → lost ≡ lost′ →
     lostAfter c gone lost ≡ lostBy c gone′ lost′
 lost-are matched gone gone′ lost lost′ e d = d
 lost-are unmatched gone gone′ lost lost′ e d = d
 lost-are lostWithParticipant gone gone′ lost lost′ e d = d
 lost-are writerAsserted gone gone′ lost lost′ e d = d
 lost-are participantAsserted gone gone′ lost lost′ e d = d
-lost-are expire gone gone′ lost lost′ e d = rw (e, d)
+lost-are expire gone gone′ lost lost′ e d = rw (e refl, d)
 lost-are takeLost gone gone′ lost lost′ e d = refl
 lost-are takeStatus gone gone′ lost lost′ e d = d
 lost-are acknowledge gone gone′ lost lost′ e d = d
@@ -513,7 +544,7 @@ writer-heard c s st acc f g m =
     record {
       rising = after-rises c s (st .writers) (acc .at) f (m .rising) (m .agree);
       agree = after-agrees c s (st .writers) (acc .at) f (m .rising) (m .agree);
-      lost = lost-are c _ _ _ _ (movers-are c s (st .writers) (acc .at) f (m .rising) (m .agree) g) (m .lost);
+      lost = lost-are c _ _ _ _ lapsed (m .lost);
       acknowledgedAlive =
           acknowledged-are c _ _ (s .first) _ _ (alive-are (st .writers) (acc .at) (m .rising) (m .agree)) (m .acknowledgedAlive);
       acknowledgedNotAlive =
@@ -527,3 +558,9 @@ writer-heard c s st acc f g m =
           ∙ ap (λ (n : ℕ). n % 2 ^ 64)
           (sym (sum-add 0 bound (acc .moves) (λ g. bit (movedAt (acc .at) (writersAfter c s (acc .at)) g)))));
     }
+  where
+    lapsed : c ≡ expire → movers c s (st .writers) ≡ expiredIn (acc .at) (writersAfter c s (acc .at))
+    lapsed e =
+        subst (λ (d : TrackerCall). movers d s (st .writers) ≡ expiredIn (acc .at) (writersAfter d s (acc .at))) (sym e)
+        (expired-are s (st .writers) (acc .at) f (m .rising) (m .agree)
+        (subst (λ (d : TrackerCall). All FitsGuid (movers d s (st .writers))) e g))

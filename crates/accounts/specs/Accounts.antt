@@ -20,7 +20,7 @@ use Rattle.model.specs.Sheets.{sheetOf}
 use Rattle.model.specs.State.{Lent, State, pensOf, writersOf, lostOf}
 use Rattle.accounts.specs.InstanceAccounts.{Event, InstanceAccounts, noInstances, reach}
 use Rattle.accounts.specs.Ranges.{bound, sumOver, present, upFrom}
-use Rattle.accounts.specs.WriterAccounts.{Writers, WriterAccounts, noWriters, hear, movedIn, aliveAmong, notAliveAmong, changeOf}
+use Rattle.accounts.specs.WriterAccounts.{Writers, WriterAccounts, noWriters, hear, expiredIn, aliveAmong, notAliveAmong, changeOf}
 
 -- ---- what the accounts are fed
 
@@ -72,7 +72,7 @@ absent = record { writers = noWriters; instances = noInstances }
 
 abbrev pub advanceBy : Option Call → Event → Accounts → WriterAccounts → Accounts
 advanceBy c e acc after =
-    record { writers = after; instances = reach c e (gone c (e .sheet) (movedIn (acc .writers .at) (after .at))) (acc .instances) }
+    record { writers = after; instances = reach c e (gone c (e .sheet) (expiredIn (acc .writers .at) (after .at))) (acc .instances) }
 
 unfoldable pub advance : Event → Accounts → Accounts
 advance e acc = advanceBy (accepted e) e acc (hear (seen (accepted e)) (e .sheet) (acc .writers))

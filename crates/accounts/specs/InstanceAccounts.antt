@@ -10,7 +10,6 @@ use Rattle.model.specs.declared.InstanceState.{InstanceState}
 use Rattle.model.specs.declared.Sheet.{Sheet}
 use Rattle.model.specs.Calls.{Call, instances, tracker, joined, InstanceCall, register, ensureRegisteredLimited, dispose, unregister, unregisterWriter, noteWriter, dropWriter, observeLifecycle, observeAdmitted, noteAdmitted, recordDelivery, noteTaken, markViewSeen, markViewNew, drainSamples, acceptUnderExclusiveOwnership, updateOwnerStrength, clearOwnerForWriter, clearOwnerForWriterPrefix, releaseOwnerOf, autopurge, admit, lapse, part, depart}
 use Rattle.model.specs.Guids.{num}
-use Rattle.model.specs.InstanceCalls.{kept}
 use Rattle.model.specs.Instances.{effect, started, ownershipTried, admittedObserved, admittedNoted}
 use Rattle.model.specs.Joined.{leftWithoutAll}
 use Rattle.model.specs.Times.{ifPresent}
@@ -62,21 +61,26 @@ pub record Event : Type 0 where
 
 -- ---- a call that reaches it acts as in sections 3 and 5, on its own fields and the sheet; a purge makes it absent
 
+-- what the call leaves of it: key and handle stay, and nothing where it is purged
+abbrev pub leaving : Instance → Option InstanceState → Option Instance
+leaving x none = none
+leaving x (some y) = some record { key = x .key; handle = x .handle; state = y }
+
 -- codes 16, 9 and 10
 abbrev pub admitting : Sheet → InstanceState → InstanceState
 admitting s x = admittedNoted s (admittedObserved s (ownershipTried s x))
 
 -- codes 7 and 18 for each writer gone
 abbrev pub losing : List Guid → Sheet → Instance → Option Instance
-losing gone s x = kept x (some (leftWithoutAll gone (ifPresent (s .«time_1»)) (x .state)))
+losing gone s x = leaving x (some (leftWithoutAll gone (ifPresent (s .«time_1»)) (x .state)))
 
 -- `gone` are the writers of codes 49 to 51. Outcomes 1 to 4 of code 48 change nothing
 abbrev pub onPresent : Call → Event → List Guid → ℕ → Instance → Option Instance
 onPresent (instances c) e gone k x =
-    cond (reachedBy (wayOf c) (e .sheet) k x) (kept x (effect c (e .sheet) (x .state))) (some x)
+    cond (reachedBy (wayOf c) (e .sheet) k x) (leaving x (effect c (e .sheet) (x .state))) (some x)
 onPresent (tracker c) e gone k x = some x
 onPresent (joined admit) e gone k x =
-    cond (isKeyed (e .sheet) k && eqb (e .outcome) 0) (kept x (some (admitting (e .sheet) (x .state)))) (some x)
+    cond (isKeyed (e .sheet) k && eqb (e .outcome) 0) (leaving x (some (admitting (e .sheet) (x .state)))) (some x)
 onPresent (joined lapse) e gone k x = losing gone (e .sheet) x
 onPresent (joined part) e gone k x = losing gone (e .sheet) x
 onPresent (joined depart) e gone k x = losing gone (e .sheet) x
@@ -85,9 +89,9 @@ onPresent (joined depart) e gone k x = losing gone (e .sheet) x
 -- other call alters an absent one
 
 abbrev pub onStarted : Call → Sheet → Instance → Option Instance
-onStarted (instances c) s x = kept x (effect c s (x .state))
+onStarted (instances c) s x = leaving x (effect c s (x .state))
 onStarted (tracker c) s x = some x
-onStarted (joined admit) s x = kept x (some (admittedNoted s (admittedObserved s (x .state))))
+onStarted (joined admit) s x = leaving x (some (admittedNoted s (admittedObserved s (x .state))))
 onStarted (joined lapse) s x = some x
 onStarted (joined part) s x = some x
 onStarted (joined depart) s x = some x

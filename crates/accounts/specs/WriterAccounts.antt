@@ -233,9 +233,13 @@ moved before after = differ (standing before) (standing after)
 abbrev pub movedAt : Writers → Writers → ℕ → Bool
 movedAt before after g = moved (before g) (after g)
 
--- the GUIDs that changed class in a call, rising
-unfoldable pub movedIn : Writers → Writers → List Guid
-movedIn before after = map guidNumbered (between 0 bound (movedAt before after))
+-- it was alive before a call and is not alive after it: in code 37, the call expired it
+abbrev pub expiredAt : Writers → Writers → ℕ → Bool
+expiredAt before after g = isAlive (standing (before g)) && isNotAlive (standing (after g))
+
+-- these GUIDs, rising
+unfoldable pub expiredIn : Writers → Writers → List Guid
+expiredIn before after = map guidNumbered (between 0 bound (expiredAt before after))
 
 -- how many GUIDs are in a class
 abbrev pub standsAlive : Writers → ℕ → Bool
@@ -314,7 +318,7 @@ heardBy c s acc after =
       at = after;
       moves = λ g. acc .moves g + bit (movedAt (acc .at) after g);
       last = lastIn (acc .at) after (acc .last);
-      lost = lostBy c (movedIn (acc .at) after) (acc .lost);
+      lost = lostBy c (expiredIn (acc .at) after) (acc .lost);
       acknowledgedAlive =
           acknowledgedBy c (toZ w32 (s .first)) (changeOf (aliveAmong (acc .at)) (acc .acknowledgedAlive)) (acc .acknowledgedAlive);
       acknowledgedNotAlive =
