@@ -97,7 +97,7 @@ judged-next places sheet c st out acc b n q m =
     (λ e. rw e (settled-next places sheet c st out acc b n q e m))
     (λ e. rw e (refused-next places (sheetRefusal c (sheetOf sheet) st) sheet st out acc e m)))
 
-formed : (places : ℕ) (st : State) (out : List ℕ) (acc : Accounts) → Held places st acc → wellFormed places (layOut places st out) ≡ true
+pub formed : (places : ℕ) (st : State) (out : List ℕ) (acc : Accounts) → Held places st acc → wellFormed places (layOut places st out) ≡ true
 formed places st out acc m = laid-valid places st out (held-fits places st acc m) ∙ held-valid places st acc m
 
 coded-next : (places : ℕ) (sheet : List ℕ) (o : Option Call) (st : State) (out : List ℕ) (acc : Accounts) → Bytes sheet → length sheet ≡ 256 →
@@ -118,7 +118,7 @@ call-next places sheet st out acc b m =
 
 -- ---- a list of calls
 
-out-replaced : (places : ℕ) (st : State) (out new : List ℕ) → withOut new (layOut places st out) ≡ layOut places st new
+pub out-replaced : (places : ℕ) (st : State) (out new : List ℕ) → withOut new (layOut places st out) ≡ layOut places st new
 unfolding layOut
 out-replaced places st out new = refl
 
@@ -158,45 +158,46 @@ after-fresh places is out b =
 
 -- ---- the claim
 
+-- the tables are the accounts not absent
+pub instances-are : (places : ℕ) (st : State) (acc : Accounts) → Held places st acc → st .instances ≡ instancesIn acc
+unfolding instancesIn
+instances-are places st acc m =
+    within-present instanceKey 0 bound (st .instances) (rw (zero-add bound) (m .sim .instances .rising))
+    ∙ present-ext instanceKey 0 bound (λ j. lookup instanceKey j (st .instances)) (acc .instances .at) (λ j l. m .sim .instances .agree j)
+
+pub writers-are : (places : ℕ) (st : State) (acc : Accounts) → Held places st acc → st .writers ≡ writersIn acc
+unfolding writersIn
+writers-are places st acc m =
+    within-present writerKey 0 bound (st .writers) (rw (zero-add bound) (m .sim .writers .rising))
+    ∙ present-ext writerKey 0 bound (λ j. lookup writerKey j (st .writers)) (acc .writers .at) (λ j l. m .sim .writers .agree j)
+
+told-laid : (places : ℕ) (st : State) (out : List ℕ) (acc : Accounts) → Held places st acc → Told places (layOut places st out) acc
+unfolding layOut headOf
+told-laid places st out acc m =
+    let xs : st .instances ≡ instancesIn acc = instances-are places st acc m in
+    let ws : st .writers ≡ writersIn acc = writers-are places st acc m in
+    let v = m .sim .writers in
+    let alive = alive-are (st .writers) (acc .writers .at) (v .rising) (v .agree) in
+    let notAlive = not-alive-are (st .writers) (acc .writers .at) (v .rising) (v .agree) in
+    record {
+      pens = ap (pensOf places) xs;
+      writers = ap writersOf ws;
+      lost = ap lostOf (v .lost);
+      instanceCount = ap length xs;
+      writerCount = ap length ws;
+      lostCount = ap length (v .lost);
+      alive = alive;
+      notAlive = notAlive;
+      aliveChange = rw (alive, v .acknowledgedAlive);
+      notAliveChange = rw (notAlive, v .acknowledgedNotAlive);
+      lastWriter = v .last;
+      changes = v .changes;
+      startedHandles = m .sim .instances .handles;
+      nextHandle = ap handle (m .sim .instances .next);
+    }
+
 told-after : (places : ℕ) (l : Lent) (acc : Accounts) → After places l acc → Told places l acc
-told-after places l acc m = subst (λ (k : Lent). Told places k acc) (sym (m .laid)) laid
-  where
-    st : State
-    st = m .state
-
-    instances-are : st .instances ≡ instancesIn acc
-    instances-are =
-        unfold instancesIn in
-        within-present instanceKey 0 bound (st .instances) (rw (zero-add bound) (m .held .sim .instances .rising))
-        ∙ present-ext instanceKey 0 bound (λ j. lookup instanceKey j (st .instances)) (acc .instances .at) (λ j l. m .held .sim .instances .agree j)
-
-    writers-are : st .writers ≡ writersIn acc
-    writers-are =
-        unfold writersIn in
-        within-present writerKey 0 bound (st .writers) (rw (zero-add bound) (m .held .sim .writers .rising))
-        ∙ present-ext writerKey 0 bound (λ j. lookup writerKey j (st .writers)) (acc .writers .at) (λ j l. m .held .sim .writers .agree j)
-
-    laid : Told places (layOut places st (l .out)) acc
-    laid =
-        unfold layOut headOf in
-        record {
-          pens = ap (pensOf places) instances-are;
-          writers = ap writersOf writers-are;
-          lost = ap lostOf (m .held .sim .writers .lost);
-          instanceCount = ap length instances-are;
-          writerCount = ap length writers-are;
-          lostCount = ap length (m .held .sim .writers .lost);
-          alive = alive-are (st .writers) (acc .writers .at) (m .held .sim .writers .rising) (m .held .sim .writers .agree);
-          notAlive = not-alive-are (st .writers) (acc .writers .at) (m .held .sim .writers .rising) (m .held .sim .writers .agree);
-          aliveChange =
-              rw (alive-are (st .writers) (acc .writers .at) (m .held .sim .writers .rising) (m .held .sim .writers .agree), m .held .sim .writers .acknowledgedAlive);
-          notAliveChange =
-              rw (not-alive-are (st .writers) (acc .writers .at) (m .held .sim .writers .rising) (m .held .sim .writers .agree), m .held .sim .writers .acknowledgedNotAlive);
-          lastWriter = m .held .sim .writers .last;
-          changes = m .held .sim .writers .changes;
-          startedHandles = m .held .sim .instances .handles;
-          nextHandle = ap handle (m .held .sim .instances .next);
-        }
+told-after places l acc m = subst (λ (k : Lent). Told places k acc) (sym (m .laid)) (told-laid places (m .state) (l .out) acc (m .held))
 
 pub demand3 : (places : ℕ) (is : List Lending) (out : List ℕ) → All SheetBytes is →
     Told places (final (callIn places) is (fresh places out)) (accountsOf (history (callIn places) is (fresh places out)))

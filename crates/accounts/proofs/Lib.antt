@@ -12,3 +12,4 @@ pub mod WriterSound
 pub mod InstanceSound
 pub mod Held
 pub mod Demand3
+pub mod Refusals

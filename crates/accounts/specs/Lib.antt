@@ -3,3 +3,4 @@ pub mod Ranges
 pub mod WriterAccounts
 pub mod InstanceAccounts
 pub mod Accounts
+pub mod Busy
