@@ -8,30 +8,27 @@ use mathlib.Core.Bool.{Bool, true, false, cond}
 use mathlib.Core.List.{List, [], _∷_}
 use mathlib.Core.Option.{Option, none, some}
 use mathlib.Core.Path.{_≡_, refl, sym, ap, _∙_, subst}
-use Prim.Native.Nat.{ℕ, _+_, _*_, _^_, _%_}
+use Prim.Native.Nat.{ℕ}
 use native.Mathlib.Nat.{zero-add}
-use native.Mathlib.Omega.{arith}
 use borrow.Author.Tests.{eqb-true}
 use lib.Dec.{eqb}
-use lib.IntN.{pos, _-ℤ_}
 use lib.ListN.{length}
 use Rattle.octets.specs.Bounds.{Bytes}
 use Rattle.octets.specs.Lay.{All}
 use Rattle.model.specs.declared.Answer.{Answer}
-use Rattle.model.specs.declared.Sheet.{Sheet}
 use Rattle.model.specs.Answers.{refusedWith}
-use Rattle.model.specs.Call.{Left, refuse, turn, listIn, settle, judged, coded, callIn, callOf, lentOf}
+use Rattle.model.specs.Call.{Left, refuse, turn, listIn, settle, judged, coded, callIn, callOf}
 use Rattle.model.specs.Calls.{Call, callOfCode}
 use Rattle.model.specs.Handles.{handle}
 use Rattle.model.specs.InstanceCalls.{Turned}
 use Rattle.model.specs.Refusals.{lengthsOk, sheetRefusal}
 use Rattle.model.specs.Sheets.{sheetOf}
-use Rattle.model.specs.State.{Lent, State, headOf, layOut, stateOf, pensOf, writersOf, lostOf, fresh, freshState, instanceKey, writerKey}
+use Rattle.model.specs.State.{Lent, State, headOf, layOut, pensOf, writersOf, lostOf, fresh, freshState, instanceKey, writerKey}
 use Rattle.model.specs.WellFormed.{wellFormed}
 use Rattle.model.proofs.RowLaws.{both}
 use Rattle.model.proofs.StateLaws.{read-back, laid-valid, fresh-laid}
 use Rattle.accounts.specs.Accounts.{Accounts, absent, accepted, advance, accountsFrom, accountsOf, Lending, withOut, eventOf, next, final, history, SheetBytes, instancesIn, writersIn, Told}
-use Rattle.accounts.specs.Ranges.{bound, present}
+use Rattle.accounts.specs.Ranges.{bound}
 use Rattle.accounts.proofs.Basics.{split}
 use Rattle.accounts.proofs.Held.{Held, held-turn, held-valid, held-fits, held-fresh}
 use Rattle.accounts.proofs.SheetLaws.{sheet-fits}
@@ -42,9 +39,12 @@ use Rattle.accounts.proofs.WriterTurns.{alive-are, not-alive-are}
 -- ---- the accounts of an answer
 
 -- refused calls are skipped
+refused-unheard : (sheet : List ℕ) (n : ℕ) → eqb n 0 ≡ false → accepted (eventOf sheet (refusedWith n)) ≡ none
+refused-unheard sheet n e = ap (λ (b : Bool). cond b (callOfCode (sheetOf sheet .code)) none) e
+
 skipped : (sheet : List ℕ) (n : ℕ) (acc : Accounts) → eqb n 0 ≡ false → advance (eventOf sheet (refusedWith n)) acc ≡ acc
 unfolding advance
-skipped sheet n acc e = rw e
+skipped sheet n acc e = rw (refused-unheard sheet n e)
 
 heard : (sheet : List ℕ) (a : Answer) (c : Call) (acc : Accounts) → a .number ≡ 0 → callOfCode (sheetOf sheet .code) ≡ some c →
     advance (eventOf sheet a) acc ≡ advanced c (sheetOf sheet) a acc

@@ -3,17 +3,15 @@
 --     lost-sound         codes 7 and 18 for each writer gone
 --     started-sound      a started instance
 -- Assumes nothing.
-use mathlib.Core.Bool.{Bool, true, false, not, _&&_, _||_, cond}
+use mathlib.Core.Bool.{Bool, true, false, not, _&&_, cond}
 use mathlib.Core.List.{List, [], _∷_}
 use mathlib.Core.Option.{Option, none, some}
-use mathlib.Core.Path.{_≡_, refl, sym, ap, _∙_}
-use Prim.Native.Nat.{ℕ, zero, suc, _+_, _-_, _^_, _≤_, _<_, min, max}
+use mathlib.Core.Path.{_≡_, refl}
+use Prim.Native.Nat.{ℕ, zero, suc, _-_, _^_, _≤_, _<_}
 use native.Mathlib.Omega.{arith}
-use borrow.Author.Tests.{leb-true}
 use lib.Dec.{eqb, leb}
 use lib.ListN.{length, replicate, length-replicate}
 use Rattle.octets.specs.Bounds.{Bytes}
-use Rattle.octets.specs.Lay.{All}
 use Rattle.model.specs.declared.Guid.{Guid}
 use Rattle.model.specs.declared.Holder.{Holder}
 use Rattle.model.specs.declared.InstanceState.{InstanceState}
@@ -25,16 +23,16 @@ use Rattle.model.specs.declared.MaybeTime.{MaybeTime}
 use Rattle.model.specs.declared.Sheet.{Sheet}
 use Rattle.model.specs.declared.Times.{Times}
 use Rattle.model.specs.declared.WriterSet.{WriterSet}
-use Rattle.model.specs.Calls.{instances, InstanceCall, register, ensureRegisteredLimited, dispose, unregister, unregisterWriter, noteWriter, dropWriter, observeLifecycle, observeAdmitted, noteAdmitted, recordDelivery, noteTaken, markViewSeen, markViewNew, drainSamples, acceptUnderExclusiveOwnership, updateOwnerStrength, clearOwnerForWriter, clearOwnerForWriterPrefix, releaseOwnerOf, autopurge}
+use Rattle.model.specs.Calls.{InstanceCall, register, ensureRegisteredLimited, dispose, unregister, unregisterWriter, noteWriter, dropWriter, observeLifecycle, observeAdmitted, noteAdmitted, recordDelivery, noteTaken, markViewSeen, markViewNew, drainSamples, acceptUnderExclusiveOwnership, updateOwnerStrength, clearOwnerForWriter, clearOwnerForWriterPrefix, releaseOwnerOf, autopurge}
 use Rattle.model.specs.Guids.{num}
 use Rattle.model.specs.Instances.{withLife, withTimes, withOwner, withHolder, withWriters, revivedFrom, revived, revivedNew, sampledAt, writerless, stored, counted, writersIn, registered, ensured, disposed, countedDown, unregistered, without, writerUnregistered, writerNoted, leftBy, writerDropped, lifecycleObserved, admittedObserved, admittedNoted, deliveryRecorded, viewed, drained, noOwner, owns, takesOver, ownershipTried, strengthUpdated, ownerCleared, ownsPrefix, prefixCleared, purged, effect, rule, startedState, isAlive, isDisposed}
 use Rattle.model.specs.Joined.{leftWithoutAll}
-use Rattle.model.specs.Refusals.{nanosecondsOk, timesUsedBy, holderUsedBy, optional}
-use Rattle.model.specs.Sets.{setOf, emptySet, members, has, remove, isEmpty}
+use Rattle.model.specs.Refusals.{nanosecondsOk, timesUsedBy, holderUsedBy}
+use Rattle.model.specs.Sets.{setOf, emptySet, has, remove, isEmpty}
 use Rattle.model.specs.Tables.{all}
-use Rattle.model.specs.Times.{noTime, always, ifPresent, given}
-use Rattle.model.specs.WellFormed.{timeOk, ownerOk, holderOk, allZero}
-use Rattle.model.proofs.Fits.{FitsGuid, FitsTime}
+use Rattle.model.specs.Times.{always, ifPresent}
+use Rattle.model.specs.WellFormed.{ownerOk, holderOk}
+use Rattle.model.proofs.Fits.{FitsGuid}
 use Rattle.model.proofs.RowLaws.{both, all-zeros}
 use Rattle.accounts.proofs.Basics.{split, either}
 use Rattle.accounts.proofs.SheetLaws.{SheetFits, absent-time, taken-time, used-time, given-time, taken-holder, used-holder}

@@ -4,15 +4,14 @@
 --     held-fits, held-valid      so the state fits its bytes and is well formed
 --     held-fresh         the fresh state
 -- Assumes nothing.
-use mathlib.Core.Bool.{Bool, true, false, not, _&&_, _||_, cond}
+use mathlib.Core.Bool.{Bool, true, false, not, _&&_, _||_}
 use mathlib.Core.List.{List, [], _∷_}
-use mathlib.Core.Option.{Option, none, some}
+use mathlib.Core.Option.{Option, none}
 use mathlib.Core.Path.{_≡_, refl, sym, ap, _∙_}
-use Prim.Native.Nat.{ℕ, _+_, _%_, _^_, _≤_, _<_}
+use Prim.Native.Nat.{ℕ, _^_, _≤_}
 use native.Mathlib.Omega.{arith}
-use borrow.Author.Tests.{eqb-true, ne-eqb, le-leb, lt-ltb, leb-true, leb-false}
-use lib.Dec.{eqb, leb, ltb}
-use lib.IntN.{pos}
+use borrow.Author.Tests.{ne-eqb, le-leb, lt-ltb, leb-true, leb-false}
+use lib.Dec.{eqb, leb}
 use lib.ListN.{length}
 use Rattle.octets.specs.Lay.{All}
 use Rattle.model.specs.declared.Guid.{Guid}
@@ -21,28 +20,28 @@ use Rattle.model.specs.declared.Sheet.{Sheet}
 use Rattle.model.specs.Call.{turn}
 use Rattle.model.specs.Calls.{Call, instances, tracker, joined, InstanceCall, TrackerCall, unmatched, lostWithParticipant, expire, JoinedCall, admit, lapse, part, depart}
 use Rattle.model.specs.Guids.{num}
-use Rattle.model.specs.InstanceCalls.{withInstances, known, full, spent, crowds, accepted, atLimit, begins, lateRefusal, instanceTurn, instanceCall, instancesAfter, nextAfter}
+use Rattle.model.specs.InstanceCalls.{withInstances, known, full, spent, crowds, accepted, atLimit, lateRefusal, instanceTurn, instanceCall, instancesAfter, nextAfter}
 use Rattle.model.specs.Instances.{rule, limitedBy, hasKey}
-use Rattle.model.specs.Joined.{inOrder, passesFilter, admitted, admitWith, loses, afterLoss, lossCall}
+use Rattle.model.specs.Joined.{inOrder, passesFilter, admitted, admitWith, afterLoss, lossCall}
 use Rattle.model.specs.Refusals.{timesUsed, clocksUsed, clocksUsedBy, holderUsed, holderFits, kindOk, acknowledgeOk, nanosecondsOk, optional, sheetRefusal}
 use Rattle.model.specs.State.{State, freshState, instanceKey, writerKey}
-use Rattle.model.specs.Tables.{all, isSome, find, sift, rising}
+use Rattle.model.specs.Tables.{all, isSome, find, rising}
 use Rattle.model.specs.Times.{ifPresent}
 use Rattle.model.specs.WellFormed.{clockOk, instanceOk, otherHandle, handlesDistinct, handleBelow, instancesOk, writerOk, writersOk, within, valid}
 use Rattle.model.specs.Writers.{movers, trackerLate, trackerState, trackerTurn, trackerCall, acknowledgeable}
-use Rattle.model.proofs.Fits.{FitsGuid, FitsInstance, FitsWriter}
+use Rattle.model.proofs.Fits.{FitsInstance, FitsWriter}
 use Rattle.model.proofs.StateLaws.{Fitting}
 use Rattle.accounts.specs.Accounts.{Accounts, absent}
-use Rattle.accounts.specs.Ranges.{bound, upFrom, sumOver}
+use Rattle.accounts.specs.Ranges.{bound, upFrom}
 use Rattle.accounts.proofs.Basics.{split, never, contrary, all-from, all-weaken}
 use Rattle.accounts.proofs.EffectLaws.{two-times}
-use Rattle.accounts.proofs.InstanceSound.{SoundInstance, Handled, Other, Distinct, SoundInstances, Entry, instance-sound, losses-sound, stays-sound, Admission, admit-sound}
+use Rattle.accounts.proofs.InstanceSound.{SoundInstance, Handled, Other, Distinct, SoundInstances, instance-sound, losses-sound, stays-sound, admit-sound}
 use Rattle.accounts.proofs.RangeLaws.{sum-zero}
 use Rattle.accounts.proofs.SheetLaws.{SheetFits, used-time}
 use Rattle.accounts.proofs.Sound.{ok-state, fits-state}
 use Rattle.accounts.proofs.Steps.{Sim, advanced, passed, roomy, turned}
 use Rattle.accounts.proofs.TurnLaws.{lookup, Within, within-rises, any-lookup}
-use Rattle.accounts.proofs.WriterSound.{SoundWriter, ok-writer, fits-writer, ClockFits, SoundWriters, guids-sound, tracker-sound}
+use Rattle.accounts.proofs.WriterSound.{SoundWriter, ok-writer, fits-writer, SoundWriters, guids-sound, tracker-sound}
 
 pub record Held (places : ℕ) (st : State) (acc : Accounts) : Type 0 where
   pub sim : Sim st acc

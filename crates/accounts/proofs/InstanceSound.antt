@@ -3,15 +3,15 @@
 --     admit-sound        admit with outcome 0
 --     losses-sound       codes 49 to 51
 -- Assumes nothing.
-use mathlib.Core.Bool.{Bool, true, false, not, _&&_, _||_, cond}
+use mathlib.Core.Bool.{Bool, true, false}
 use mathlib.Core.List.{List, [], _∷_}
 use mathlib.Core.Logic.{_≢_}
 use mathlib.Core.Option.{Option, none, some}
 use mathlib.Core.Path.{_≡_, refl, sym, ap, _∙_, subst}
 use Prim.Native.Nat.{ℕ, suc, _+_, _^_, _≤_, _<_}
 use native.Mathlib.Omega.{arith}
-use borrow.Author.Tests.{eqb-true, eqb-false, eq-eqb, ne-eqb, ltb-true, ltb-false, leb-false}
-use lib.Dec.{eqb, ltb, leb}
+use borrow.Author.Tests.{eqb-true, ne-eqb}
+use lib.Dec.{eqb, ltb}
 use lib.ListN.{length}
 use Rattle.octets.specs.Lay.{All}
 use Rattle.model.specs.declared.Guid.{Guid}
@@ -25,19 +25,19 @@ use Rattle.model.specs.Guids.{num}
 use Rattle.model.specs.Handles.{allocated}
 use Rattle.model.specs.InstanceCalls.{begins, begun, nextAfter, kept, acts, instancesAfter, crowds, reached, instanceTurn}
 use Rattle.model.specs.InstanceRecord.{bit}
-use Rattle.model.specs.Instances.{effect, rule, hasHandle, reaches, started, startedState, writersIn, ownershipTried, admittedObserved, takesOver}
+use Rattle.model.specs.Instances.{effect, rule, reaches, started, startedState, writersIn, ownershipTried, admittedObserved, takesOver}
 use Rattle.model.specs.Joined.{admitted, leftWithoutAll, loses}
 use Rattle.model.specs.Refusals.{nanosecondsOk, timesUsedBy, holderUsedBy}
 use Rattle.model.specs.Sets.{has}
 use Rattle.model.specs.State.{State, instanceKey}
-use Rattle.model.specs.Tables.{all, isSome, find, sift, put}
+use Rattle.model.specs.Tables.{all, find, sift, put}
 use Rattle.model.specs.Tables as T
 use Rattle.model.proofs.Fits.{FitsGuid}
 use Rattle.accounts.specs.InstanceAccounts.{isKeyed, onInstance}
 use Rattle.accounts.specs.Ranges.{bound}
 use Rattle.accounts.proofs.Basics.{split, either, never, all-weaken}
-use Rattle.accounts.proofs.EffectLaws.{Room, SoundAfter, Used, effect-sound, lost-sound, started-sound}
-use Rattle.accounts.proofs.InstanceTurns.{acts-stay, startOf, begun-is, start-below, begins-absent, next-is, not-nil, answered, turned-at, turned-rises, eventBy, tried, observed, tried-next, tried-none, tried-silent}
+use Rattle.accounts.proofs.EffectLaws.{Room, SoundAfter, effect-sound, lost-sound, started-sound}
+use Rattle.accounts.proofs.InstanceTurns.{acts-stay, begins-absent, next-is, not-nil, answered, turned-at, turned-rises, eventBy, tried, observed, tried-next, tried-none, tried-silent}
 use Rattle.accounts.proofs.SheetLaws.{SheetFits}
 use Rattle.accounts.proofs.Sound.{SoundTime, SoundState}
 use Rattle.accounts.proofs.TurnLaws.{lookup, Within, keyed, all-put, all-sift, length-put, length-sift}

@@ -7,39 +7,38 @@
 --     loss-heard         so do codes 49 to 51
 --     tracker-heard      a tracker call leaves the instances' accounts as they are
 -- Assumes nothing.
-use mathlib.Core.Bool.{Bool, true, false, not, _&&_, _||_, cond}
+use mathlib.Core.Bool.{Bool, true, false, not, _&&_, cond}
 use mathlib.Core.List.{List, [], _∷_, _++_, append-nil}
 use mathlib.Core.Option.{Option, none, some}
 use mathlib.Core.Path.{_≡_, refl, sym, ap, _∙_}
-use Prim.Native.Nat.{ℕ, suc, _+_, _%_, _^_, _≤_, _<_}
+use Prim.Native.Nat.{ℕ, suc, _+_, _^_, _≤_, _<_}
 use native.Mathlib.Nat.{add-zero, mod-eq-of-lt}
 use native.Mathlib.Omega.{arith}
-use borrow.Author.Tests.{eqb-true, eqb-false, eq-eqb, ne-eqb, leb-false}
-use lib.Dec.{eqb, leb}
+use borrow.Author.Tests.{eqb-true, eq-eqb, ne-eqb}
+use lib.Dec.{eqb}
 use lib.ListN.{length, length-append}
 use Rattle.model.specs.declared.Guid.{Guid}
 use Rattle.model.specs.declared.Instance.{Instance}
 use Rattle.model.specs.declared.InstanceState.{InstanceState}
 use Rattle.model.specs.declared.MaybeTime.{MaybeTime}
 use Rattle.model.specs.declared.Sheet.{Sheet}
-use Rattle.model.specs.Answers.{handed, handedSamples}
-use Rattle.model.specs.Calls.{Call, instances, tracker, joined, InstanceCall, register, ensureRegisteredLimited, dispose, unregister, unregisterWriter, noteWriter, dropWriter, observeLifecycle, observeAdmitted, noteAdmitted, recordDelivery, noteTaken, markViewSeen, markViewNew, drainSamples, acceptUnderExclusiveOwnership, updateOwnerStrength, clearOwnerForWriter, clearOwnerForWriterPrefix, releaseOwnerOf, autopurge, TrackerCall, JoinedCall, admit, lapse, part, depart}
+use Rattle.model.specs.Calls.{Call, instances, tracker, joined, InstanceCall, register, ensureRegisteredLimited, dispose, unregister, unregisterWriter, noteWriter, dropWriter, observeLifecycle, observeAdmitted, noteAdmitted, recordDelivery, noteTaken, markViewSeen, markViewNew, drainSamples, acceptUnderExclusiveOwnership, updateOwnerStrength, clearOwnerForWriter, clearOwnerForWriterPrefix, releaseOwnerOf, autopurge, TrackerCall, JoinedCall, admit}
 use Rattle.model.specs.Guids.{num}
 use Rattle.model.specs.Handles.{handle, notNil, allocated}
-use Rattle.model.specs.InstanceCalls.{withInstances, known, begins, begun, nextAfter, kept, acts, instancesAfter, handleAnswer, samplesAnswer, infoAnswer, told, instanceTurn}
+use Rattle.model.specs.InstanceCalls.{known, begins, begun, nextAfter, kept, acts, instancesAfter, handleAnswer, samplesAnswer, infoAnswer, told, instanceTurn}
 use Rattle.model.specs.InstanceRecord.{bit}
 use Rattle.model.specs.Instances.{effect, Reach, byKey, startingByKey, startingWithin, byHandle, every, rule, hasKey, reachesBy, reaches, startsBy, limitedBy, started}
 use Rattle.model.specs.Joined.{admitted, leftWithoutAll, loses}
 use Rattle.model.specs.State.{State, instanceKey}
-use Rattle.model.specs.Tables.{isSome, find, any, put, sift}
+use Rattle.model.specs.Tables.{isSome, sift}
 use Rattle.model.specs.Times.{ifPresent}
 use Rattle.model.proofs.Fits.{FitsGuid}
 use Rattle.accounts.specs.InstanceAccounts as S
-use Rattle.accounts.specs.InstanceAccounts.{Way, wayOf, reachedBy, isKeyed, Event, onPresent, onStarted, answersHandle, onAbsent, onInstance, InstanceAccounts, startsAt}
+use Rattle.accounts.specs.InstanceAccounts.{wayOf, reachedBy, isKeyed, Event, onPresent, onAbsent, onInstance, InstanceAccounts, startsAt}
 use Rattle.accounts.specs.Ranges.{bound, upFrom}
-use Rattle.accounts.proofs.Basics.{split, eqb-sym, contrary, never}
+use Rattle.accounts.proofs.Basics.{split, eqb-sym, never}
 use Rattle.accounts.proofs.RangeLaws.{num-below, up-more}
-use Rattle.accounts.proofs.TurnLaws.{bind, lookup, Within, Keeps, lookup-key, any-lookup, begin, begunAt, Below, lookup-begin, within-begin, lookup-sift, within-sift, turn-within, turn-at}
+use Rattle.accounts.proofs.TurnLaws.{bind, lookup, Within, Keeps, lookup-key, any-lookup, begin, begunAt, Below, lookup-begin, within-begin, lookup-sift, within-sift, turn-at}
 
 -- ---- how a call reaches
 
@@ -358,11 +357,20 @@ limit-heard st acc c s gone limited unknown m = instances-stay st st acc (instan
         (λ d. rw (r, d))
 
 -- outcomes 1 to 4 of admit
+cond-off : {A : Type 0} (b : Bool) (x y : A) → cond (b && false) x y ≡ y
+cond-off true x y = refl
+cond-off false x y = refl
+
+stopped-stays : (s : Sheet) (outcome : ℕ) (gone : List Guid) (j : ℕ) (x : Instance) → eqb outcome 0 ≡ false →
+    onPresent (joined admit) (eventBy s 0 outcome) gone j x ≡ some x
+stopped-stays s outcome gone j x e =
+    ap (λ (b : Bool). cond (isKeyed s j && b) (S.leaving x (some (S.admitting s (x .state)))) (some x)) e
+    ∙ cond-off (isKeyed s j) (S.leaving x (some (S.admitting s (x .state)))) (some x)
+
 pub stopped-heard : (st : State) (acc : InstanceAccounts) (s : Sheet) (outcome : ℕ) (gone : List Guid) → eqb outcome 0 ≡ false → InstanceSim st acc →
     InstanceSim st (S.reach (some (joined admit)) (eventBy s 0 outcome) gone acc)
 stopped-heard st acc s outcome gone e m =
-    instances-stay st st acc (joined admit) (eventBy s 0 outcome) gone refl refl refl
-    (λ j x n. split (isKeyed s j) (λ d. rw (d, e)) (λ d. rw d)) m
+    instances-stay st st acc (joined admit) (eventBy s 0 outcome) gone refl refl refl (λ j x n. stopped-stays s outcome gone j x e) m
 
 -- ---- an instance call that acts
 

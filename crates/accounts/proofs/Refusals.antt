@@ -4,12 +4,12 @@
 --     only-busy          the number of a call of a list, whose sheet is in order
 --     never-3            no call of a list is refused by 3
 -- Assumes nothing.
-use mathlib.Core.Bool.{Bool, true, false, not, _&&_, _||_, cond}
+use mathlib.Core.Bool.{Bool, true, false, not, _&&_, cond}
 use mathlib.Core.List.{List, [], _∷_}
 use mathlib.Core.Logic.{_≢_}
 use mathlib.Core.Option.{Option, none, some}
 use mathlib.Core.Path.{_≡_, refl, sym, ap, _∙_, subst}
-use Prim.Native.Nat.{ℕ, _+_, _*_, _^_, _≤_}
+use Prim.Native.Nat.{ℕ, _+_, _*_}
 use native.Mathlib.Nat.{mul-le-mul-right}
 use native.Mathlib.Omega.{arith}
 use borrow.Author.Tests.{eqb-true, eqb-false, eq-eqb}
@@ -23,16 +23,16 @@ use Rattle.octets.specs.Lay.{All, length-lay}
 use Rattle.model.specs.declared.Guid.{Guid}
 use Rattle.model.specs.declared.Instance.{Instance}
 use Rattle.model.specs.declared.Sheet.{Sheet}
-use Rattle.model.specs.Call.{Left, turn, settle, judged, coded, callIn}
+use Rattle.model.specs.Call.{turn, settle, judged, coded, callIn}
 use Rattle.model.specs.Calls.{Call, instances, tracker, joined, callOfCode, InstanceCall, register, ensureRegisteredLimited, dispose, unregister, unregisterWriter, noteWriter, dropWriter, observeLifecycle, observeAdmitted, noteAdmitted, recordDelivery, noteTaken, markViewSeen, markViewNew, drainSamples, acceptUnderExclusiveOwnership, updateOwnerStrength, clearOwnerForWriter, clearOwnerForWriterPrefix, releaseOwnerOf, autopurge, TrackerCall, matched, unmatched, lostWithParticipant, writerAsserted, participantAsserted, expire, takeLost, takeStatus, acknowledge, JoinedCall, admit, lapse, part, depart}
 use Rattle.model.specs.Guids.{num, guidBytes}
 use Rattle.model.specs.InstanceCalls.{Turned, known, begins, full, spent, crowds, accepted, atLimit, reached, lateRefusal, instanceTurn, instanceCall, told, handleAnswer, samplesAnswer, infoAnswer}
 use Rattle.model.specs.InstanceRecord.{instanceBytes}
-use Rattle.model.specs.Instances.{rule, startsBy, limitedBy, hasKey}
+use Rattle.model.specs.Instances.{rule, limitedBy, hasKey}
 use Rattle.model.specs.Joined.{inOrder, passesFilter, admitted, admitWith, afterLoss, lossCall}
 use Rattle.model.specs.Refusals.{lengthsOk, timesUsed, clocksUsed, holderFits, kindOk, acknowledgeOk, nanosecondsOk, sheetRefusal}
 use Rattle.model.specs.Sheets.{sheetOf}
-use Rattle.model.specs.State.{Lent, State, fresh, instanceKey, writerKey, layOut}
+use Rattle.model.specs.State.{Lent, State, fresh, instanceKey, layOut}
 use Rattle.model.specs.Tables.{all, isSome, find}
 use Rattle.model.specs.WellFormed.{clockOk, within}
 use Rattle.model.specs.WriterRecord.{writerBytes}
@@ -42,14 +42,13 @@ use Rattle.model.proofs.GuidLaws.{length-guid}
 use Rattle.model.proofs.InstanceLaws.{length-instance}
 use Rattle.model.proofs.StateLaws.{Fitting, read-back}
 use Rattle.model.proofs.WriterLaws.{length-writer}
-use Rattle.accounts.specs.Accounts.{Accounts, accountsOf, Lending, withOut, next, final, history, SheetBytes, instancesIn, writersIn}
-use Rattle.accounts.specs.Busy.{Ordered, isNew, limitMet, placesTaken, handlesSpent, busyInstance, busyTracker, busyMatch, busyExpire, busyAdmit, busyJoined, busy}
-use Rattle.accounts.specs.WriterAccounts.{expiredIn, writersAfter}
+use Rattle.accounts.specs.Accounts.{Accounts, accountsOf, Lending, withOut, next, final, history, SheetBytes}
+use Rattle.accounts.specs.Busy.{Ordered, busyInstance, busyTracker, busyMatch, busyExpire, busyAdmit, busyJoined, busy}
 use Rattle.accounts.proofs.Basics.{split, either}
-use Rattle.accounts.proofs.Demand3.{formed, out-replaced, After, after-fresh, instances-are, writers-are}
+use Rattle.accounts.proofs.Demand3.{formed, out-replaced, after-fresh, instances-are, writers-are}
 use Rattle.accounts.proofs.Held.{Held, held-fits}
 use Rattle.accounts.proofs.SheetLaws.{SheetFits, sheet-fits}
-use Rattle.accounts.proofs.TurnLaws.{lookup, any-lookup}
+use Rattle.accounts.proofs.TurnLaws.{any-lookup}
 use Rattle.accounts.proofs.WriterSound.{guids-sound}
 use Rattle.accounts.proofs.WriterTurns.{movers-fit, expired-are}
 

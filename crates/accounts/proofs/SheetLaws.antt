@@ -2,24 +2,22 @@
 --     sheet-fits             every field fits
 --     given-time, taken-time, used-time     times that go to a record
 -- Assumes nothing.
-use mathlib.Core.Bool.{Bool, true, false, not, _&&_, _||_, cond}
+use mathlib.Core.Bool.{true}
 use mathlib.Core.List.{List, [], _∷_, _++_}
-use mathlib.Core.Path.{_≡_, refl, sym, ap, _∙_}
-use Prim.Native.Nat.{ℕ, zero, suc, _+_, _-_, _^_, _≤_, _<_, min}
+use mathlib.Core.Path.{_≡_, refl, ap, _∙_}
+use Prim.Native.Nat.{ℕ, zero, suc, _-_, _^_, _≤_, _<_, min}
 use native.Mathlib.Omega.{arith}
-use borrow.Author.Tests.{lt-ltb, ltb-true, le-leb}
-use lib.Dec.{eqb, leb, ltb}
-use lib.ListN.{length, take, drop, replicate, length-append, length-replicate, length-take, length-drop}
+use borrow.Author.Tests.{le-leb}
+use lib.ListN.{length, take, drop, replicate, length-append, length-replicate, length-drop}
 use lib.Seq.{drop-at, length-take-le}
 use Rattle.octets.specs.Bounds.{Bytes, be-lt}
 use Rattle.octets.specs.Octets.{be}
-use Rattle.model.specs.declared.Holder.{Holder}
 use Rattle.model.specs.declared.MaybeTime.{MaybeTime}
 use Rattle.model.specs.declared.Sheet.{Sheet}
 use Rattle.model.specs.Refusals.{optional, nanosecondsOk}
-use Rattle.model.specs.Sheets.{padded, sheetBy, sheetOf}
+use Rattle.model.specs.Sheets.{padded, sheetOf}
 use Rattle.model.specs.Tables.{all}
-use Rattle.model.specs.Times.{billion, noTime, always, ifPresent, given}
+use Rattle.model.specs.Times.{noTime, always, ifPresent, given}
 use Rattle.model.specs.WellFormed.{allZero, timeOk, holderOk}
 use Rattle.model.proofs.Fits.{FitsGuid, FitsTime}
 use Rattle.model.proofs.GuidLaws.{bytes-take, bytes-drop}

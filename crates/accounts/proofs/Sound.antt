@@ -2,22 +2,19 @@
 --     ok-*, fits-*       a sound value passes section 2's test and fits
 --     set-*              sets of writers
 -- Assumes nothing.
-use mathlib.Core.Bool.{Bool, true, false, not, _&&_, _||_, cond}
-use mathlib.Core.List.{List, [], _∷_, _++_}
-use mathlib.Core.Logic.{_≢_}
-use mathlib.Core.Option.{Option, none, some}
+use mathlib.Core.Bool.{Bool, true, false, not, _&&_}
+use mathlib.Core.List.{List, [], _∷_}
 use mathlib.Core.Path.{_≡_, refl, sym, ap, _∙_, subst}
 use Prim.Native.Nat.{ℕ, zero, suc, _+_, _-_, _^_, _≤_, _<_}
 use native.Mathlib.Omega.{arith}
-use borrow.Author.Tests.{eqb-true, ltb-true, leb-true, eq-eqb, lt-ltb, le-leb, leb-false}
+use borrow.Author.Tests.{eqb-true, lt-ltb, le-leb, leb-false}
 use lib.Dec.{eqb, leb, ltb}
-use lib.ListN.{length, take, drop, replicate, length-append, length-replicate}
+use lib.ListN.{length, drop, replicate, length-append, length-replicate}
 use lib.Seq.{take-at, drop-at}
 use Rattle.octets.specs.Bounds.{Bytes}
 use Rattle.octets.specs.Lay.{All, all-append}
 use Rattle.model.specs.declared.Guid.{Guid}
 use Rattle.model.specs.declared.Holder.{Holder}
-use Rattle.model.specs.declared.Instance.{Instance}
 use Rattle.model.specs.declared.InstanceState.{InstanceState}
 use Rattle.model.specs.declared.Life.{Life}
 use Rattle.model.specs.declared.MaybeOwner.{MaybeOwner}
@@ -27,12 +24,11 @@ use Rattle.model.specs.declared.WriterSet.{WriterSet}
 use Rattle.model.specs.Guids.{num, nil}
 use Rattle.model.specs.InstanceRecord.{bit}
 use Rattle.model.specs.Sets.{members, setOf, has, insert, remove}
-use Rattle.model.specs.Tables.{all, isSome, find, put, rising}
-use Rattle.model.specs.Times.{billion}
+use Rattle.model.specs.Tables.{all, isSome, find, put}
 use Rattle.model.specs.WellFormed.{timeOk, timesOk, ownerOk, holderOk, isNil, setOk, lifeOk, instanceStateOk}
-use Rattle.model.proofs.Fits.{FitsGuid, FitsTime, FitsLife, FitsTimes, FitsOwner, FitsHolder, FitsSet, FitsState}
+use Rattle.model.proofs.Fits.{FitsGuid, FitsTime, FitsSet, FitsState}
 use Rattle.accounts.specs.Ranges.{bound, guidNumbered}
-use Rattle.accounts.proofs.Basics.{split, never, and-true}
+use Rattle.accounts.proofs.Basics.{split}
 use Rattle.accounts.proofs.RangeLaws.{num-below, numbered-num}
 use Rattle.accounts.proofs.TurnLaws.{lookup, Within, within-weaken, within-put, within-rises, all-put, length-put}
 

@@ -2,14 +2,13 @@
 --     turned            an accepted call
 --     writers-stay      an instance call leaves the writers' half
 -- Assumes nothing.
-use mathlib.Core.Bool.{Bool, true, false, not, _&&_, _||_, cond}
+use mathlib.Core.Bool.{Bool, true, false, not, _&&_, cond}
 use mathlib.Core.List.{List, [], _∷_}
 use mathlib.Core.Option.{Option, none, some}
-use mathlib.Core.Path.{_≡_, refl, sym, ap, _∙_, subst}
+use mathlib.Core.Path.{_≡_, refl, sym, ap, _∙_}
 use Prim.Native.Nat.{ℕ, _^_, _<_}
-use native.Mathlib.Omega.{arith}
-use borrow.Author.Tests.{eqb-true, eqb-false, leb-false}
-use lib.Dec.{eqb, leb}
+use borrow.Author.Tests.{leb-false}
+use lib.Dec.{eqb}
 use Rattle.octets.specs.Lay.{All}
 use Rattle.model.specs.declared.Answer.{Answer}
 use Rattle.model.specs.declared.Guid.{Guid}
@@ -19,19 +18,18 @@ use Rattle.model.specs.Answers.{stopping}
 use Rattle.model.specs.Call.{turn}
 use Rattle.model.specs.Calls.{Call, instances, tracker, joined, InstanceCall, TrackerCall, matched, unmatched, lostWithParticipant, writerAsserted, participantAsserted, expire, takeLost, takeStatus, acknowledge, JoinedCall, admit, lapse, part, depart}
 use Rattle.model.specs.Guids.{num}
-use Rattle.model.specs.InstanceCalls.{Turned, refused, unchanged, withInstances, known, begins, full, spent, crowds, accepted, atLimit, reached, lateRefusal, instanceTurn, instanceCall, instancesAfter, nextAfter}
+use Rattle.model.specs.InstanceCalls.{withInstances, known, begins, full, spent, crowds, accepted, atLimit, reached, lateRefusal, instanceTurn, instanceCall, instancesAfter, nextAfter}
 use Rattle.model.specs.Instances.{rule, limitedBy, hasKey}
-use Rattle.model.specs.Joined.{inOrder, passesFilter, admitted, admitWith, loses, afterLoss, lossCall}
+use Rattle.model.specs.Joined.{inOrder, passesFilter, admitted, admitWith, afterLoss, lossCall}
 use Rattle.model.specs.State.{State, instanceKey}
-use Rattle.model.specs.Tables.{isSome, find, sift}
-use Rattle.model.specs.Times.{ifPresent}
+use Rattle.model.specs.Tables.{isSome, find}
 use Rattle.model.specs.Writers.{movers, trackerTold, trackerLate, trackerState, trackerTurn, trackerCall}
 use Rattle.model.proofs.Fits.{FitsGuid}
 use Rattle.accounts.specs.Accounts.{seenAs, goneBy, Accounts, advanceBy}
-use Rattle.accounts.specs.InstanceAccounts.{Event, onPresent, losing, InstanceAccounts, reach}
+use Rattle.accounts.specs.InstanceAccounts.{Event, onPresent, losing, reach}
 use Rattle.accounts.specs.WriterAccounts.{WriterAccounts, hear, heardBy, writersAfter, expiredIn}
-use Rattle.accounts.proofs.Basics.{split, never, contrary}
-use Rattle.accounts.proofs.InstanceTurns.{InstanceSim, one-next, tracker-heard, limit-heard, stopped-heard, instance-heard, admit-heard, loss-heard, begins-absent}
+use Rattle.accounts.proofs.Basics.{split, never}
+use Rattle.accounts.proofs.InstanceTurns.{InstanceSim, tracker-heard, limit-heard, stopped-heard, instance-heard, admit-heard, loss-heard}
 use Rattle.accounts.proofs.TurnLaws.{lookup, any-lookup}
 use Rattle.accounts.proofs.WriterTurns.{WriterSim, FitGuid, movers-fit, expired-are, writer-heard}
 

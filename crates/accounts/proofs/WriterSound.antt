@@ -3,13 +3,13 @@
 --     tracker-sound              an accepted tracker call
 -- Assumes nothing.
 use mathlib.Core.Bool.{Bool, true, false, not, _&&_, _||_, cond}
-use mathlib.Core.List.{List, [], _∷_, _++_}
+use mathlib.Core.List.{List, [], _∷_}
 use mathlib.Core.Option.{Option, none, some}
-use mathlib.Core.Path.{_≡_, refl, sym, ap, _∙_, subst}
+use mathlib.Core.Path.{_≡_, refl, ap, subst}
 use Prim.Native.Nat.{ℕ, _+_, _^_, _≤_, _<_}
 use native.Mathlib.Omega.{arith}
-use borrow.Author.Tests.{eqb-true, ltb-true, ltb-false, leb-true, leb-false, lt-ltb, le-leb}
-use lib.Dec.{eqb, leb, ltb}
+use borrow.Author.Tests.{eqb-true, ltb-true, ltb-false, leb-false, lt-ltb, le-leb}
+use lib.Dec.{eqb, leb}
 use lib.IntN.{ℤ, pos, _+ℤ_}
 use lib.ListN.{length, length-append}
 use mir.Syntax.{w32}
@@ -26,15 +26,15 @@ use Rattle.model.specs.Guids.{num}
 use Rattle.model.specs.InstanceRecord.{bit}
 use Rattle.model.specs.Refusals.{clocksUsedBy}
 use Rattle.model.specs.State.{State, writerKey, countsAlive, countsNotAlive, aliveCount, notAliveCount}
-use Rattle.model.specs.Tables.{all, isSome, find, pick, sift, put}
+use Rattle.model.specs.Tables.{all, isSome, find}
 use Rattle.model.specs.WellFormed.{clockOk, leaseOk, isDeparted, onlyState, writerOk, within}
-use Rattle.model.specs.Writers.{Assertion, assertion, tracked, withState, leaseOn, matchedAs, matchedFrom, matchedWriter, covers, renews, asserted, expires, expired, unmatchedFrom, departed, lostAs, hasGuid, writersBegun, writerStep, writerActs, writersAfter, matchAsserts, movers, lostAfter, acknowledgedAfter, trackerLate, trackerState, acknowledgeable}
+use Rattle.model.specs.Writers.{Assertion, assertion, tracked, withState, leaseOn, matchedFrom, matchedWriter, covers, renews, asserted, expires, expired, unmatchedFrom, departed, lostAs, hasGuid, writersBegun, writerStep, writerActs, writersAfter, matchAsserts, movers, lostAfter, acknowledgedAfter, trackerLate, trackerState, acknowledgeable}
 use Rattle.model.proofs.Fits.{FitsGuid, FitsWriter}
 use Rattle.model.proofs.RowLaws.{both}
 use Rattle.accounts.specs.Ranges.{bound}
-use Rattle.accounts.proofs.Basics.{split, either, never, all-weaken}
+use Rattle.accounts.proofs.Basics.{split, either, all-weaken}
 use Rattle.accounts.proofs.Steps.{passed}
-use Rattle.accounts.proofs.TurnLaws.{lookup, Within, lookup-all, all-put, all-sift, length-put, length-sift, length-pick}
+use Rattle.accounts.proofs.TurnLaws.{Within, lookup-all, all-put, all-sift, length-put, length-sift, length-pick}
 use Rattle.accounts.proofs.WriterTurns.{FitGuid, matched-guid, movers-fit}
 
 pub record SoundWriter (w : Writer) : Type 0 where

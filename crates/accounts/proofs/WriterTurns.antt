@@ -6,14 +6,14 @@
 --     writer-heard      a call that the writers see keeps table and accounts in step
 -- Assumes nothing.
 use mathlib.Core.Bool.{Bool, true, false, not, _&&_, _||_, cond}
-use mathlib.Core.List.{List, [], _∷_, _++_, map, map-map}
+use mathlib.Core.List.{List, [], _∷_, map, map-map}
 use mathlib.Core.Option.{Option, none, some}
 use mathlib.Core.Path.{_≡_, refl, sym, ap, _∙_, subst}
-use Prim.Native.Nat.{ℕ, _+_, _%_, _^_, _≤_}
+use Prim.Native.Nat.{ℕ, _+_, _%_, _^_}
 use native.Mathlib.Nat.{zero-add, mod-add-mod}
 use native.Mathlib.Omega.{arith}
 use borrow.Author.Tests.{eqb-true}
-use lib.Dec.{eqb, leb, ltb}
+use lib.Dec.{leb}
 use lib.IntN.{ℤ, pos, _+ℤ_, _-ℤ_, +ℤ-comm, -ℤ-+ℤ-cancel}
 use lib.ListN.{length}
 use mir.Syntax.{w32}
@@ -30,17 +30,17 @@ use Rattle.model.specs.Calls.{TrackerCall, matched, unmatched, lostWithParticip
 use Rattle.model.specs.Guids.{num, prefix}
 use Rattle.model.specs.InstanceRecord.{bit}
 use Rattle.model.specs.State.{State, Class, alive, notAlive, neither, classOf, isAliveClass, isNotAliveClass, writerKey, countsAlive, countsNotAlive, aliveCount, notAliveCount}
-use Rattle.model.specs.Tables.{find, pick, put, sift}
+use Rattle.model.specs.Tables.{find, pick}
 use Rattle.model.specs.WriterRecord.{livelinessNumbered}
 use Rattle.model.specs.Writers as M
-use Rattle.model.specs.Writers.{hasGuid, isTracked, covers, coversKind, renews, asserted, assertion, expires, expired, unmatchedFrom, lostAs, matchedWriter, writersBegun, writerActs, writerStep, sameClass, classAfter, moves, guidIn, movers, lastAfter, lostAfter, acknowledgedAfter, trackerState}
-use Rattle.model.proofs.Fits.{FitsGuid, FitsWriter}
-use Rattle.accounts.specs.Ranges.{bound, guidNumbered, between, sumOver, greatest}
+use Rattle.model.specs.Writers.{hasGuid, isTracked, covers, coversKind, renews, asserted, assertion, expires, expired, unmatchedFrom, lostAs, matchedWriter, writersBegun, writerStep, sameClass, classAfter, moves, guidIn, movers, lastAfter, lostAfter, acknowledgedAfter, trackerState}
+use Rattle.model.proofs.Fits.{FitsGuid}
+use Rattle.accounts.specs.Ranges.{bound, guidNumbered, between, sumOver}
 use Rattle.accounts.specs.WriterAccounts as S
-use Rattle.accounts.specs.WriterAccounts.{trackedIn, became, matches, takingFrom, covered, automatic, byParticipant, timely, runOut, asserts, lapses, leaves, leavesFrom, departs, departsFrom, isNamed, isNear, matchedAt, onWriter, Writers, writersAfter, Standing, standingIn, standing, isAlive, isNotAlive, differ, moved, movedAt, expiredAt, expiredIn, standsAlive, standsNotAlive, aliveAmong, notAliveAmong, WriterAccounts, lastIn, lastOr, lostBy, acknowledgedBy, changeOf, heardBy}
+use Rattle.accounts.specs.WriterAccounts.{trackedIn, became, matches, takingFrom, covered, automatic, byParticipant, timely, runOut, asserts, lapses, leaves, departs, departsFrom, isNamed, isNear, matchedAt, onWriter, Writers, writersAfter, Standing, standingIn, standing, isAlive, isNotAlive, differ, moved, movedAt, expiredAt, expiredIn, aliveAmong, notAliveAmong, WriterAccounts, lastIn, lostBy, acknowledgedBy, changeOf, heardBy}
 use Rattle.accounts.proofs.Basics.{split, and-assoc, eqb-sym}
-use Rattle.accounts.proofs.RangeLaws.{sum-ext, sum-add, length-between, length-map, last-greatest, num-below, renumbered}
-use Rattle.accounts.proofs.TurnLaws.{bind, test, lookup, Within, Keeps, lookup-key, begin, begunAt, Below, lookup-begin, within-begin, lookup-sift, turn-within, turn-at, between-ext, pick-between, all-put, all-pick}
+use Rattle.accounts.proofs.RangeLaws.{sum-add, length-between, length-map, last-greatest, num-below, renumbered}
+use Rattle.accounts.proofs.TurnLaws.{bind, test, lookup, Within, Keeps, lookup-key, begin, begunAt, Below, lookup-begin, within-begin, turn-within, turn-at, between-ext, pick-between, all-put, all-pick}
 
 -- ---- one writer
 

@@ -1,11 +1,10 @@
 -- Section 6, the two accounts together, over a list of calls; and demand 3's claim on it.
 use Prim.Native.Nat.{ℕ, _+_, _%_, _^_}
 use mathlib.Core.Path.{_≡_}
-use mathlib.Core.Bool.{Bool, cond}
+use mathlib.Core.Bool.{cond}
 use mathlib.Core.List.{List, [], _∷_}
 use mathlib.Core.Option.{Option, none, some}
 use lib.Dec.{eqb}
-use lib.IntN.{ℤ, pos, _-ℤ_}
 use lib.ListN.{length}
 use Rattle.octets.specs.Bounds.{Bytes}
 use Rattle.model.specs.declared.Answer.{Answer}
@@ -17,10 +16,10 @@ use Rattle.model.specs.Call.{Left, lentOf}
 use Rattle.model.specs.Calls.{Call, instances, tracker, joined, callOfCode, TrackerCall, unmatched, lostWithParticipant, expire, JoinedCall, admit, lapse, part, depart}
 use Rattle.model.specs.Handles.{handle}
 use Rattle.model.specs.Sheets.{sheetOf}
-use Rattle.model.specs.State.{Lent, State, pensOf, writersOf, lostOf}
+use Rattle.model.specs.State.{Lent, pensOf, writersOf, lostOf}
 use Rattle.accounts.specs.InstanceAccounts.{Event, InstanceAccounts, noInstances, reach}
 use Rattle.accounts.specs.Ranges.{bound, sumOver, present, upFrom}
-use Rattle.accounts.specs.WriterAccounts.{Writers, WriterAccounts, noWriters, hear, expiredIn, aliveAmong, notAliveAmong, changeOf}
+use Rattle.accounts.specs.WriterAccounts.{WriterAccounts, noWriters, hear, expiredIn, aliveAmong, notAliveAmong, changeOf}
 
 -- ---- what the accounts are fed
 

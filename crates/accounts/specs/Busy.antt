@@ -2,15 +2,12 @@
 -- 0 for none.
 use Prim.Native.Nat.{ℕ, _+_, _^_}
 use mathlib.Core.Path.{_≡_}
-use mathlib.Core.Bool.{Bool, true, not, _&&_, _||_, cond}
-use mathlib.Core.List.{List}
-use mathlib.Core.Option.{Option, none, some}
-use lib.Dec.{eqb, leb, ltb}
-use lib.IntN.{ℤ, _+ℤ_}
+use mathlib.Core.Bool.{Bool, true, not, _&&_, cond}
+use lib.Dec.{leb, ltb}
+use lib.IntN.{_+ℤ_}
 use lib.ListN.{length}
 use mir.Syntax.{w32}
 use mir.Val.{toZ}
-use Rattle.model.specs.declared.Guid.{Guid}
 use Rattle.model.specs.declared.Sheet.{Sheet}
 use Rattle.model.specs.Calls.{Call, instances, tracker, joined, InstanceCall, TrackerCall, matched, unmatched, lostWithParticipant, writerAsserted, participantAsserted, expire, takeLost, takeStatus, acknowledge, JoinedCall, admit, lapse, part, depart}
 use Rattle.model.specs.Guids.{num}
