@@ -1,18 +1,19 @@
 -- Small laws that the others share.
 --     split                a claim by the two cases of a test
 --     either               a claim on one of two values, by a test
---     and-true, and-assoc, contrary, never, some-none      tests and constructors
---     all-from, all-to, all-weaken      what holds of every record
+--     and-assoc, contrary, never, eqb-sym      tests
+--     one-more             room for one more
+--     all-from, all-weaken      what holds of every record
 -- Assumes nothing.
 use mathlib.Core.Bool.{Bool, true, false, not, _&&_, cond}
 use mathlib.Core.List.{List, [], _∷_}
-use mathlib.Core.Option.{none, some}
 use mathlib.Core.Path.{_≡_, refl, sym}
-use Prim.Native.Nat.{ℕ}
+use Prim.Native.Nat.{ℕ, _+_, _≤_, _<_}
 use native.Mathlib.Omega.{arith}
-use lib.Dec.{eqb}
-use borrow.Author.Tests.{eqb-true, eqb-false, eq-eqb, ne-eqb}
+use lib.Dec.{eqb, leb}
+use borrow.Author.Tests.{eqb-true, eqb-false, eq-eqb, ne-eqb, leb-false}
 use Rattle.octets.specs.Lay.{All}
+use Rattle.model.specs.InstanceRecord.{bit}
 use Rattle.model.specs.Tables.{all}
 
 pub split {ℓ} : {P : Type ℓ} (b : Bool) → (b ≡ true → P) → (b ≡ false → P) → P
@@ -24,16 +25,9 @@ pub either : {A : Type 0} (P : A → Type 0) (b : Bool) (x y : A) → (b ≡ tru
 either P true x y p q = p refl
 either P false x y p q = q refl
 
-pub and-true : (a b : Bool) → a ≡ true → b ≡ true → (a && b) ≡ true
-and-true a b p q = rw (p, q)
-
 pub and-assoc : (a b c : Bool) → ((a && b) && c) ≡ (a && (b && c))
 and-assoc true b c = refl
 and-assoc false b c = refl
-
-pub not-not : (b : Bool) → not (not b) ≡ b
-not-not true = refl
-not-not false = refl
 
 -- a test that is not so is its contrary
 pub contrary : (b : Bool) → not b ≡ false → b ≡ true
@@ -43,8 +37,10 @@ contrary false e = let z : _≡_ {A = ℕ} 0 1 = cc in absurd (omega arith)
 pub never : {A : Type 0} → true ≡ false → A
 never e = let z : _≡_ {A = ℕ} 0 1 = cc in absurd (omega arith)
 
-pub some-none : {A B : Type 0} {x : A} → some x ≡ none → B
-some-none e = let z : _≡_ {A = ℕ} 0 1 = cc in absurd (omega arith)
+-- room for one more under a limit, where one more is needed
+pub one-more : (limit : ℕ) (b : Bool) (n : ℕ) → n ≤ limit → (not b && leb limit n) ≡ false → n + bit (not b) ≤ limit
+one-more limit true n l e = omega arith
+one-more limit false n l e = let m : n < limit = leb-false limit n e in omega arith
 
 pub eqb-sym : (a b : ℕ) → eqb a b ≡ eqb b a
 eqb-sym a b =
@@ -56,12 +52,6 @@ module _ {A : Type 0} where
   unfolding all
   all-from P p h [] a = refl
   all-from P p h (x ∷ xs) a = rw (h x (a .0)) (all-from P p h xs (a .1))
-
-  pub all-to : (P : A → Type 0) (p : A → Bool) → ((x : A) → p x ≡ true → P x) → (xs : List A) → all p xs ≡ true → All P xs
-  unfolding all
-  all-to P p h [] a = tt
-  all-to P p h (x ∷ xs) a =
-      split (p x) (λ e. (h x e, all-to P p h xs (rw e at a))) (λ e. never (sym (rw e at a)))
 
   pub all-weaken : (P Q : A → Type 0) → ((x : A) → P x → Q x) → (xs : List A) → All P xs → All Q xs
   all-weaken P Q h [] a = tt

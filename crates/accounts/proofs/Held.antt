@@ -20,9 +20,9 @@ use Rattle.model.specs.declared.Sheet.{Sheet}
 use Rattle.model.specs.Call.{turn}
 use Rattle.model.specs.Calls.{Call, instances, tracker, joined, InstanceCall, TrackerCall, unmatched, lostWithParticipant, expire, JoinedCall, admit, lapse, part, depart}
 use Rattle.model.specs.Guids.{num}
-use Rattle.model.specs.InstanceCalls.{withInstances, known, full, spent, crowds, accepted, atLimit, lateRefusal, instanceTurn, instanceCall, instancesAfter, nextAfter}
+use Rattle.model.specs.InstanceCalls.{Turned, withInstances, known, full, spent, crowds, atLimit, lateRefusal, instanceTurn, instanceCall, instancesAfter, nextAfter}
 use Rattle.model.specs.Instances.{rule, limitedBy, hasKey}
-use Rattle.model.specs.Joined.{inOrder, passesFilter, admitted, admitWith, afterLoss, lossCall}
+use Rattle.model.specs.Joined.{admitted, admitWith, afterLoss, lossCall}
 use Rattle.model.specs.Refusals.{timesUsed, clocksUsed, clocksUsedBy, holderUsed, holderFits, kindOk, acknowledgeOk, nanosecondsOk, optional, sheetRefusal}
 use Rattle.model.specs.State.{State, freshState, instanceKey, writerKey}
 use Rattle.model.specs.Tables.{all, isSome, find, rising}
@@ -39,7 +39,7 @@ use Rattle.accounts.proofs.InstanceSound.{SoundInstance, Handled, Other
 use Rattle.accounts.proofs.RangeLaws.{sum-zero}
 use Rattle.accounts.proofs.SheetLaws.{SheetFits, used-time}
 use Rattle.accounts.proofs.Sound.{ok-state, fits-state}
-use Rattle.accounts.proofs.Steps.{Sim, advanced, passed, roomy, turned}
+use Rattle.accounts.proofs.Steps.{admit-cases, Sim, advanced, passed, roomy, turned}
 use Rattle.accounts.proofs.TurnLaws.{lookup, Within, within-rises, any-lookup}
 use Rattle.accounts.proofs.WriterSound.{SoundWriter, ok-writer, fits-writer, SoundWriters, guids-sound, tracker-sound}
 
@@ -149,23 +149,9 @@ loss-parts places c gs s st f t k a w ok m =
 admit-parts : (places : ℕ) (s : Sheet) (st : State) → SheetFits s → Accepted (joined admit) s st → Within instanceKey 0 bound (st .instances) →
     eqb (admitWith places s st (find (hasKey (s .key)) (st .instances)) .answer .number) 0 ≡ true → Parts places st →
     Parts places (admitWith places s st (find (hasKey (s .key)) (st .instances)) .state)
-unfolding admitWith
 admit-parts places s st f a w ok m =
-    split (not (inOrder s x))
-    (λ e. rw e m)
-    (λ e1. split (not (passesFilter s x))
-    (λ e. rw (e1, e) m)
-    (λ e2. split (atLimit s st)
-    (λ e. rw (e1, e2, e) m)
-    (λ e3. split (not (known s st) && full places st)
-    (λ e. never (sym (rw (e1, e2, e3, e) at ok)))
-    (λ e4. split (not (known s st) && spent st)
-    (λ e. never (sym (rw (e1, e2, e3, e4, e) at ok)))
-    (λ e5. split (crowds s x)
-    (λ e. never (sym (rw (e1, e2, e3, e4, e5, e) at ok)))
-    (λ e6. split (not (accepted s x))
-    (λ e. rw (e1, e2, e3, e4, e5, e6, e) m)
-    (λ e7. rw (e1, e2, e3, e4, e5, e6, e7) (taken e4 e5 e6))))))))
+    admit-cases (λ (t : Turned). eqb (t .answer .number) 0 ≡ true → Parts places (t .state)) places s st x
+    (λ n e q. m) (λ n e q. never (sym q ∙ e)) (λ e4 e5 e6 q. taken e4 e5 e6) ok
   where
     x : Option Instance
     x = find (hasKey (s .key)) (st .instances)

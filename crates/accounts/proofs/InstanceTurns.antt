@@ -14,7 +14,7 @@ use mathlib.Core.Path.{_≡_, refl, sym, ap, _∙_}
 use Prim.Native.Nat.{ℕ, suc, _+_, _^_, _≤_, _<_}
 use native.Mathlib.Nat.{add-zero, mod-eq-of-lt}
 use native.Mathlib.Omega.{arith}
-use borrow.Author.Tests.{eqb-true, eq-eqb, ne-eqb}
+use borrow.Author.Tests.{eqb-true, eq-eqb, ne-eqb, not-true}
 use lib.Dec.{eqb}
 use lib.ListN.{length, length-append}
 use Rattle.model.specs.declared.Guid.{Guid}
@@ -33,6 +33,7 @@ use Rattle.model.specs.State.{State, instanceKey}
 use Rattle.model.specs.Tables.{isSome, sift}
 use Rattle.model.specs.Times.{ifPresent}
 use Rattle.model.proofs.Fits.{FitsGuid}
+use Rattle.model.proofs.RowLaws.{both}
 use Rattle.accounts.specs.InstanceAccounts as S
 use Rattle.accounts.specs.InstanceAccounts.{wayOf, reachedBy, isKeyed, Event, onPresent, onAbsent, onInstance, InstanceAccounts, startsAt}
 use Rattle.accounts.specs.Ranges.{bound, upFrom}
@@ -125,16 +126,8 @@ unknown-none (some x) e = never e
 pub begins-absent : (c : InstanceCall) (s : Sheet) (st : State) → begins c s st ≡ true →
     (startsBy (rule c .reach) ≡ true) × (lookup instanceKey (num (s .key)) (st .instances) ≡ none)
 begins-absent c s st e =
-    let p = both-true (startsBy (rule c .reach)) (not (known s st)) e in
-    (p .0, unknown-none _ (sym (known-is s st) ∙ not-is (known s st) (p .1)))
-  where
-    both-true : (a b : Bool) → (a && b) ≡ true → (a ≡ true) × (b ≡ true)
-    both-true true b q = (refl, q)
-    both-true false b q = never (sym q)
-
-    not-is : (a : Bool) → not a ≡ true → a ≡ false
-    not-is true q = never (sym q)
-    not-is false q = refl
+    let p = both (startsBy (rule c .reach)) (not (known s st)) e in
+    (p .0, unknown-none _ (sym (known-is s st) ∙ not-true (known s st) (p .1)))
 
 -- ---- the handle that a call answers
 

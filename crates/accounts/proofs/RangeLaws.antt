@@ -1,6 +1,6 @@
 -- What is gathered over all numbers below a bound.
 --     length-between       how many pass a test, as a sum
---     sum-add, sum-same    sums
+--     sum-add, sum-zero    sums
 --     last-greatest        the last of those that pass is the greatest
 --     renumbered           GUIDs are those of their numbers
 --     num-below            a GUID's number is below the bound
@@ -26,11 +26,6 @@ use Rattle.accounts.specs.WriterAccounts.{lastOr}
 use Rattle.accounts.proofs.Basics.{split}
 
 -- ---- sums
-
-pub sum-ext : (lo n : ℕ) (f g : ℕ → ℕ) → ((j : ℕ) → f j ≡ g j) → sumOver lo n f ≡ sumOver lo n g
-unfolding sumOver
-sum-ext lo zero f g h = refl
-sum-ext lo (suc n) f g h = rw (h lo, sum-ext (suc lo) n f g h)
 
 pub sum-add : (lo n : ℕ) (f g : ℕ → ℕ) → sumOver lo n (λ j. f j + g j) ≡ sumOver lo n f + sumOver lo n g
 unfolding sumOver

@@ -2,12 +2,12 @@
 --     ok-*, fits-*       a sound value passes section 2's test and fits
 --     set-*              sets of writers
 -- Assumes nothing.
-use mathlib.Core.Bool.{Bool, true, false, not, _&&_}
+use mathlib.Core.Bool.{true, false, not, _&&_}
 use mathlib.Core.List.{List, [], _∷_}
 use mathlib.Core.Path.{_≡_, refl, sym, ap, _∙_, subst}
-use Prim.Native.Nat.{ℕ, zero, suc, _+_, _-_, _^_, _≤_, _<_}
+use Prim.Native.Nat.{ℕ, zero, suc, _-_, _^_, _≤_, _<_}
 use native.Mathlib.Omega.{arith}
-use borrow.Author.Tests.{eqb-true, lt-ltb, le-leb, leb-false}
+use borrow.Author.Tests.{eqb-true, lt-ltb, le-leb}
 use lib.Dec.{eqb, leb, ltb}
 use lib.ListN.{length, drop, replicate, length-append, length-replicate}
 use lib.Seq.{take-at, drop-at}
@@ -22,13 +22,12 @@ use Rattle.model.specs.declared.MaybeTime.{MaybeTime}
 use Rattle.model.specs.declared.Times.{Times}
 use Rattle.model.specs.declared.WriterSet.{WriterSet}
 use Rattle.model.specs.Guids.{num, nil}
-use Rattle.model.specs.InstanceRecord.{bit}
 use Rattle.model.specs.Sets.{members, setOf, has, insert, remove}
 use Rattle.model.specs.Tables.{all, isSome, find, put}
 use Rattle.model.specs.WellFormed.{timeOk, timesOk, ownerOk, holderOk, isNil, setOk, lifeOk, instanceStateOk}
 use Rattle.model.proofs.Fits.{FitsGuid, FitsTime, FitsSet, FitsState}
 use Rattle.accounts.specs.Ranges.{bound, guidNumbered}
-use Rattle.accounts.proofs.Basics.{split}
+use Rattle.accounts.proofs.Basics.{split, one-more}
 use Rattle.accounts.proofs.RangeLaws.{num-below, numbered-num}
 use Rattle.accounts.proofs.TurnLaws.{lookup, Within, within-weaken, within-put, within-rises, all-put, length-put}
 
@@ -202,11 +201,6 @@ set-without g w m =
       fits = remove-fits g (m .list) (m .fits);
     }
 
--- room for one more, or it is there
-one-more : (b : Bool) (n : ℕ) → n ≤ 16 → (not b && leb 16 n) ≡ false → n + bit (not b) ≤ 16
-one-more true n l e = omega arith
-one-more false n l e = let m : n < 16 = leb-false 16 n e in omega arith
-
 pub set-with : (g : Guid) (w : WriterSet) → FitsGuid g → (not (has g (members w)) && leb 16 (length (members w))) ≡ false → SoundSet w →
     SoundSet (setOf (insert g (members w)))
 set-with g w f room m =
@@ -215,7 +209,7 @@ set-with g w f room m =
       is = ap (λ (l : List Guid). setOf (insert g l)) (set-members w m) ∙ ap setOf (insert-put g (m .list) f (m .fits));
       few =
           rw (length-put num 0 bound g (m .list) (m .rises))
-          (one-more (isSome (lookup num (num g) (m .list))) (length (m .list)) (m .few)
+          (one-more 16 (isSome (lookup num (num g) (m .list))) (length (m .list)) (m .few)
           (rw (set-members w m, has-lookup g (m .list)) at room));
       rises = within-put num 0 bound g (m .list) (omega arith) (num-below g f) (m .rises);
       fits = all-put num FitsGuid g (m .list) f (m .fits);

@@ -7,7 +7,7 @@ use mathlib.Core.List.{List, [], _∷_}
 use mathlib.Core.Option.{Option, none, some}
 use mathlib.Core.Path.{_≡_, refl, sym, ap, _∙_}
 use Prim.Native.Nat.{ℕ, _^_, _<_}
-use borrow.Author.Tests.{leb-false}
+use borrow.Author.Tests.{leb-false, not-true}
 use lib.Dec.{eqb}
 use Rattle.octets.specs.Lay.{All}
 use Rattle.model.specs.declared.Answer.{Answer}
@@ -18,17 +18,18 @@ use Rattle.model.specs.Answers.{stopping}
 use Rattle.model.specs.Call.{turn}
 use Rattle.model.specs.Calls.{Call, instances, tracker, joined, InstanceCall, TrackerCall, matched, unmatched, lostWithParticipant, writerAsserted, participantAsserted, expire, takeLost, takeStatus, acknowledge, JoinedCall, admit, lapse, part, depart}
 use Rattle.model.specs.Guids.{num}
-use Rattle.model.specs.InstanceCalls.{withInstances, known, begins, full, spent, crowds, accepted, atLimit, reached, lateRefusal, instanceTurn, instanceCall, instancesAfter, nextAfter}
+use Rattle.model.specs.InstanceCalls.{Turned, refused, unchanged, withInstances, known, begins, full, spent, crowds, accepted, atLimit, reached, lateRefusal, instanceTurn, instanceCall, instancesAfter, nextAfter}
 use Rattle.model.specs.Instances.{rule, limitedBy, hasKey}
 use Rattle.model.specs.Joined.{inOrder, passesFilter, admitted, admitWith, afterLoss, lossCall}
 use Rattle.model.specs.State.{State, instanceKey}
 use Rattle.model.specs.Tables.{isSome, find}
 use Rattle.model.specs.Writers.{movers, trackerTold, trackerLate, trackerState, trackerTurn, trackerCall}
 use Rattle.model.proofs.Fits.{FitsGuid}
+use Rattle.model.proofs.RowLaws.{both}
 use Rattle.accounts.specs.Accounts.{seenAs, goneBy, Accounts, advanceBy}
 use Rattle.accounts.specs.InstanceAccounts.{Event, onPresent, losing, reach}
 use Rattle.accounts.specs.WriterAccounts.{WriterAccounts, hear, heardBy, writersAfter, expiredIn}
-use Rattle.accounts.proofs.Basics.{split, never}
+use Rattle.accounts.proofs.Basics.{split, never, either}
 use Rattle.accounts.proofs.InstanceTurns.{InstanceSim, tracker-heard, limit-heard, stopped-heard, instance-heard, admit-heard, loss-heard}
 use Rattle.accounts.proofs.TurnLaws.{lookup, any-lookup}
 use Rattle.accounts.proofs.WriterTurns.{WriterSim, FitGuid, movers-fit, expired-are, writer-heard}
@@ -86,14 +87,6 @@ writers-stay st xs n acc m =
       changes = m .changes;
     }
 
-not-known : (a b : Bool) → (not a && b) ≡ true → a ≡ false
-not-known true b e = never (sym e)
-not-known false b e = refl
-
-and-both : (a b : Bool) → (a && b) ≡ true → (a ≡ true) × (b ≡ true)
-and-both true b e = (refl, e)
-and-both false b e = never (sym e)
-
 instance-writers : (c : InstanceCall) (s : Sheet) (st : State) (acc : WriterAccounts) → WriterSim st acc → WriterSim (instanceTurn c s st .state) acc
 unfolding instanceTurn
 instance-writers c s st acc m = writers-stay st (instancesAfter c s st) (nextAfter c s st) acc m
@@ -105,10 +98,10 @@ unfolding instanceCall
 instance-turned places c s st acc f m ok =
     split (limitedBy (rule c .reach) && atLimit s st)
     (λ l.
-    let p = and-both (limitedBy (rule c .reach)) (atLimit s st) l in
+    let p = both (limitedBy (rule c .reach)) (atLimit s st) l in
     rw l record {
       writers = m .writers;
-      instances = limit-heard st (acc .instances) c s [] (p .0) (not-known (known s st) _ (p .1)) (m .instances);
+      instances = limit-heard st (acc .instances) c s [] (p .0) (not-true (known s st) (both _ _ (p .1) .0)) (m .instances);
     })
     (λ l.
     split (eqb (lateRefusal places c s st) 0)
@@ -147,31 +140,30 @@ tracker-turned c s st acc g f m ok =
 
 -- ---- joined calls
 
--- the chain of admit: the test that was passed, or the refusal that was not met
+-- the chain of admit: an outcome, a refusal, or the three calls where no refusal was met
+pub admit-cases : (P : Turned → Type 0) (places : ℕ) (s : Sheet) (st : State) (x : Option Instance) →
+    ((n : ℕ) → eqb n 0 ≡ false → P (unchanged (stopping n) st)) → ((n : ℕ) → eqb n 0 ≡ false → P (refused n st)) →
+    ((not (known s st) && full places st) ≡ false → (not (known s st) && spent st) ≡ false → crowds s x ≡ false → P (admitted s st)) →
+    P (admitWith places s st x)
+unfolding admitWith
+admit-cases P places s st x stopped barred taken =
+    either P (not (inOrder s x)) _ _ (λ e. stopped 1 refl)
+    (λ e1. either P (not (passesFilter s x)) _ _ (λ e. stopped 2 refl)
+    (λ e2. either P (atLimit s st) _ _ (λ e. stopped 3 refl)
+    (λ e3. either P (not (known s st) && full places st) _ _ (λ e. barred 9 refl)
+    (λ e4. either P (not (known s st) && spent st) _ _ (λ e. barred 13 refl)
+    (λ e5. either P (crowds s x) _ _ (λ e. barred 10 refl)
+    (λ e6. either P (not (accepted s x)) _ _ (λ e. stopped 4 refl) (λ e7. taken e4 e5 e6)))))))
+
 admit-turned : (places : ℕ) (s : Sheet) (st : State) (acc : Accounts) (x : Option Instance) → FitsGuid (s .key) → Sim st acc →
     eqb (admitWith places s st x .answer .number) 0 ≡ true →
     Sim (admitWith places s st x .state) (advanced (joined admit) s (admitWith places s st x .answer) acc)
-unfolding admitWith
-admit-turned places s st acc x f m ok =
-    split (not (inOrder s x))
-    (λ e. rw e (stopped 1 refl))
-    (λ e1. split (not (passesFilter s x))
-    (λ e. rw (e1, e) (stopped 2 refl))
-    (λ e2. split (atLimit s st)
-    (λ e. rw (e1, e2, e) (stopped 3 refl))
-    (λ e3. split (not (known s st) && full places st)
-    (λ e. never (sym (rw (e1, e2, e3, e) at ok)))
-    (λ e4. split (not (known s st) && spent st)
-    (λ e. never (sym (rw (e1, e2, e3, e4, e) at ok)))
-    (λ e5. split (crowds s x)
-    (λ e. never (sym (rw (e1, e2, e3, e4, e5, e) at ok)))
-    (λ e6. split (not (accepted s x))
-    (λ e. rw (e1, e2, e3, e4, e5, e6, e) (stopped 4 refl))
-    (λ e7. rw (e1, e2, e3, e4, e5, e6, e7) (taken e5))))))))
+admit-turned places s st acc x f m =
+    admit-cases (λ (t : Turned). eqb (t .answer .number) 0 ≡ true → Sim (t .state) (advanced (joined admit) s (t .answer) acc)) places s st x
+    (λ n e ok. record { writers = m .writers; instances = stopped-heard st (acc .instances) s n [] e (m .instances) })
+    (λ n e ok. never (sym ok ∙ e))
+    (λ e4 e5 e6 ok. taken e5)
   where
-    stopped : (n : ℕ) → eqb n 0 ≡ false → Sim st (advanced (joined admit) s (stopping n) acc)
-    stopped n e = record { writers = m .writers; instances = stopped-heard st (acc .instances) s n [] e (m .instances) }
-
     room : (not (known s st) && spent st) ≡ false → lookup instanceKey (num (s .key)) (st .instances) ≡ none → st .nextHandle < 2 ^ 63
     room e n =
         let k : known s st ≡ false = any-lookup instanceKey (num (s .key)) (st .instances) ∙ ap isSome n in

@@ -8,8 +8,8 @@ use mathlib.Core.Option.{Option, none, some}
 use mathlib.Core.Path.{_≡_, refl, ap, subst}
 use Prim.Native.Nat.{ℕ, _+_, _^_, _≤_, _<_}
 use native.Mathlib.Omega.{arith}
-use borrow.Author.Tests.{eqb-true, ltb-true, ltb-false, leb-false, lt-ltb, le-leb}
-use lib.Dec.{eqb, leb}
+use borrow.Author.Tests.{eqb-true, ltb-true, ltb-false, lt-ltb, le-leb}
+use lib.Dec.{eqb}
 use lib.IntN.{ℤ, pos, _+ℤ_}
 use lib.ListN.{length, length-append}
 use mir.Syntax.{w32}
@@ -23,7 +23,6 @@ use Rattle.model.specs.declared.WriterState.{WriterState}
 use Rattle.model.specs.declared.WriterState.the-variants.{Unasserted, Alive, NotAlive, Departed}
 use Rattle.model.specs.Calls.{TrackerCall, matched, unmatched, lostWithParticipant, writerAsserted, participantAsserted, expire, takeLost, takeStatus, acknowledge}
 use Rattle.model.specs.Guids.{num}
-use Rattle.model.specs.InstanceRecord.{bit}
 use Rattle.model.specs.Refusals.{clocksUsedBy}
 use Rattle.model.specs.State.{State, writerKey, countsAlive, countsNotAlive, aliveCount, notAliveCount}
 use Rattle.model.specs.Tables.{all, isSome, find}
@@ -32,7 +31,7 @@ use Rattle.model.specs.Writers.{Assertion, assertion, tracked, withState, lease
 use Rattle.model.proofs.Fits.{FitsGuid, FitsWriter}
 use Rattle.model.proofs.RowLaws.{both}
 use Rattle.accounts.specs.Ranges.{bound}
-use Rattle.accounts.proofs.Basics.{split, either, all-weaken}
+use Rattle.accounts.proofs.Basics.{split, either, all-weaken, one-more}
 use Rattle.accounts.proofs.Steps.{passed}
 use Rattle.accounts.proofs.TurnLaws.{Within, lookup-all, all-put, all-sift, length-put, length-sift, length-pick}
 use Rattle.accounts.proofs.WriterTurns.{FitGuid, matched-guid, movers-fit}
@@ -160,17 +159,13 @@ after-sound c s ws f a =
 
 -- ---- how many
 
-one-more : (b : Bool) (n : ℕ) → n ≤ 128 → eqb (cond (not b && leb 128 n) 11 0) 0 ≡ true → n + bit (not b) ≤ 128
-one-more true n l e = omega arith
-one-more false n l e = let m : n < 128 = leb-false 128 n (passed (leb 128 n) 11 0 refl e .0) in omega arith
-
 begun-few : (c : TrackerCall) (s : Sheet) (st : State) → Within writerKey 0 bound (st .writers) → eqb (trackerLate c s st) 0 ≡ true →
     length (st .writers) ≤ 128 → length (writersBegun c s (st .writers)) ≤ 128
 begun-few matched s st w e l =
     let k : num (matchedWriter s (find (hasGuid (s .guid)) (st .writers)) .guid) ≡ num (s .guid) =
     ap num (matched-guid s (find (hasGuid (s .guid)) (st .writers))) in
     rw (length-put writerKey 0 bound (matchedWriter s (find (hasGuid (s .guid)) (st .writers))) (st .writers) w, k)
-    (one-more (isSome (find (hasGuid (s .guid)) (st .writers))) (length (st .writers)) l e)
+    (one-more 128 (isSome (find (hasGuid (s .guid)) (st .writers))) (length (st .writers)) l (passed _ 11 0 refl e .0))
 begun-few unmatched s st w e l = l
 begun-few lostWithParticipant s st w e l = l
 begun-few writerAsserted s st w e l = l

@@ -29,7 +29,7 @@ use Rattle.model.specs.declared.WriterState.the-variants.{Unasserted, Alive, No
 use Rattle.model.specs.Calls.{TrackerCall, matched, unmatched, lostWithParticipant, writerAsserted, participantAsserted, expire, takeLost, takeStatus, acknowledge}
 use Rattle.model.specs.Guids.{num, prefix}
 use Rattle.model.specs.InstanceRecord.{bit}
-use Rattle.model.specs.State.{State, Class, alive, notAlive, neither, classOf, isAliveClass, isNotAliveClass, writerKey, countsAlive, countsNotAlive, aliveCount, notAliveCount}
+use Rattle.model.specs.State.{State, Class, alive, notAlive, neither, classOf, isAliveClass, isNotAliveClass, writerKey, aliveCount, notAliveCount}
 use Rattle.model.specs.Tables.{find, pick}
 use Rattle.model.specs.WriterRecord.{livelinessNumbered}
 use Rattle.model.specs.Writers as M
@@ -320,11 +320,6 @@ after-stands : (o : Option Writer) → standingOf (classAfter o) ≡ standing o
 after-stands none = refl
 after-stands (some w) = states-stand (w .liveliness .state)
 
-differ-same : (a : Standing) → differ a a ≡ false
-differ-same S.alive = refl
-differ-same S.notAlive = refl
-differ-same S.neither = refl
-
 moves-are : (f : Writer → Option Writer) (o : Option Writer) → test (moves f) o ≡ moved o (bind f o)
 moves-are f none = refl
 moves-are f (some w) =
@@ -468,44 +463,38 @@ expired-are s ws acc f rises agree g =
 
 -- ---- both counts
 
-counts-alive : (o : Option Writer) → test countsAlive o ≡ isAlive (standing o)
-counts-alive none = refl
-counts-alive (some w) = go (w .liveliness .state)
-  where
-    go : (st : WriterState) → isAliveClass (classOf st) ≡ isAlive (standingIn st)
-    go Unasserted = refl
-    go Alive = refl
-    go NotAlive = refl
-    go Departed = refl
+alive-class : (c : Class) → isAliveClass c ≡ isAlive (standingOf c)
+alive-class alive = refl
+alive-class notAlive = refl
+alive-class neither = refl
 
-counts-not-alive : (o : Option Writer) → test countsNotAlive o ≡ isNotAlive (standing o)
-counts-not-alive none = refl
-counts-not-alive (some w) = go (w .liveliness .state)
-  where
-    go : (st : WriterState) → isNotAliveClass (classOf st) ≡ isNotAlive (standingIn st)
-    go Unasserted = refl
-    go Alive = refl
-    go NotAlive = refl
-    go Departed = refl
+not-alive-class : (c : Class) → isNotAliveClass c ≡ isNotAlive (standingOf c)
+not-alive-class alive = refl
+not-alive-class notAlive = refl
+not-alive-class neither = refl
 
 module _ (ws : List Writer) (acc : Writers) (rises : Within writerKey 0 bound ws) (agree : (j : ℕ) → lookup writerKey j ws ≡ acc j) where
   -- a count over the table is a count over all GUIDs
-  counted : (p : Writer → Bool) (q : Standing → Bool) → ((o : Option Writer) → test p o ≡ q (standing o)) →
-      length (pick p ws) ≡ length (between 0 bound (λ g. q (standing (acc g))))
-  counted p q e =
-      sym (length-map writerKey (pick p ws))
+  counted : (p : Class → Bool) (q : Standing → Bool) → ((c : Class) → p c ≡ q (standingOf c)) → p neither ≡ false →
+      length (pick (λ w. p (classOf (w .liveliness .state))) ws) ≡ length (between 0 bound (λ g. q (standing (acc g))))
+  counted p q e n =
+      sym (length-map writerKey (pick (λ w. p (classOf (w .liveliness .state))) ws))
       ∙ ap length
-      (pick-between writerKey 0 bound p ws (rw (zero-add bound) rises)
-      ∙ between-ext writerKey 0 bound (λ j. test p (lookup writerKey j ws)) (λ g. q (standing (acc g)))
-      (λ j l. e (lookup writerKey j ws) ∙ ap (λ (o : Option Writer). q (standing o)) (agree j)))
+      (pick-between writerKey 0 bound (λ w. p (classOf (w .liveliness .state))) ws (rw (zero-add bound) rises)
+      ∙ between-ext writerKey 0 bound (λ j. test (λ w. p (classOf (w .liveliness .state))) (lookup writerKey j ws)) (λ g. q (standing (acc g)))
+      (λ j l. one (lookup writerKey j ws) ∙ ap (λ (o : Option Writer). q (standing o)) (agree j)))
+    where
+      one : (o : Option Writer) → test (λ w. p (classOf (w .liveliness .state))) o ≡ q (standing o)
+      one none = sym n ∙ e neither
+      one (some w) = e (classOf (w .liveliness .state)) ∙ ap q (states-stand (w .liveliness .state))
 
   pub alive-are : aliveCount ws ≡ aliveAmong acc
   unfolding aliveCount aliveAmong
-  alive-are = counted countsAlive isAlive counts-alive
+  alive-are = counted isAliveClass isAlive alive-class refl
 
   pub not-alive-are : notAliveCount ws ≡ notAliveAmong acc
   unfolding notAliveCount notAliveAmong
-  not-alive-are = counted countsNotAlive isNotAlive counts-not-alive
+  not-alive-are = counted isNotAliveClass isNotAlive not-alive-class refl
 
 -- ---- a call that the writers see
 
