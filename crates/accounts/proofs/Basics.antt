@@ -44,7 +44,8 @@ one-more limit false n l e = let m : n < limit = leb-false limit n e in omega ar
 
 pub eqb-sym : (a b : ℕ) → eqb a b ≡ eqb b a
 eqb-sym a b =
-    split (eqb a b) (λ e. rw (e, eq-eqb b a (sym (eqb-true a b e)))) (λ e. rw (e, ne-eqb b a (λ q. eqb-false a b e (sym q))))
+    split (eqb a b) (λ e. rw (e, eq-eqb b a (sym (eqb-true a b e))))
+    (λ e. rw (e, ne-eqb b a (λ q. eqb-false a b e (sym q))))
 
 module _ {A : Type 0} where
   -- a test of each record, as a fact of each

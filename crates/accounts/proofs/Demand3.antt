@@ -46,7 +46,8 @@ skipped : (sheet : List ℕ) (n : ℕ) (acc : Accounts) → eqb n 0 ≡ false �
 unfolding advance
 skipped sheet n acc e = rw (refused-unheard sheet n e)
 
-heard : (sheet : List ℕ) (a : Answer) (c : Call) (acc : Accounts) → a .number ≡ 0 → callOfCode (sheetOf sheet .code) ≡ some c →
+heard : (sheet : List ℕ) (a : Answer) (c : Call) (acc : Accounts) → a .number ≡ 0 →
+    callOfCode (sheetOf sheet .code) ≡ some c →
     advance (eventOf sheet a) acc ≡ advanced c (sheetOf sheet) a acc
 unfolding advance
 heard sheet a c acc e q = rw (e, q)
@@ -58,13 +59,15 @@ pub record Next (places : ℕ) (sheet : List ℕ) (r : Left) (acc : Accounts) : 
   pub held : Held places state (advance (eventOf sheet (r .answer)) acc)
   pub laid : r .lent ≡ layOut places state (r .lent .out)
 
-refused-next : (places n : ℕ) (sheet : List ℕ) (st : State) (out : List ℕ) (acc : Accounts) → eqb n 0 ≡ false → Held places st acc →
+refused-next : (places n : ℕ) (sheet : List ℕ) (st : State) (out : List ℕ) (acc : Accounts) → eqb n 0 ≡ false →
+    Held places st acc →
     Next places sheet (refuse n (layOut places st out)) acc
 unfolding layOut
 refused-next places n sheet st out acc e m =
     record { state = st; held = subst (Held places st) (sym (skipped sheet n acc e)) m; laid = refl }
 
-settled-next : (places : ℕ) (sheet : List ℕ) (c : Call) (st : State) (out : List ℕ) (acc : Accounts) → Bytes sheet → length sheet ≡ 256 →
+settled-next : (places : ℕ) (sheet : List ℕ) (c : Call) (st : State) (out : List ℕ) (acc : Accounts) → Bytes sheet →
+    length sheet ≡ 256 →
     callOfCode (sheetOf sheet .code) ≡ some c → eqb (sheetRefusal c (sheetOf sheet) st) 0 ≡ true → Held places st acc →
     Next places sheet (settle places (turn places c (sheetOf sheet) st) (layOut places st out)) acc
 unfolding settle
@@ -77,7 +80,11 @@ settled-next places sheet c st out acc b n q a m =
     t = turn places c (sheetOf sheet) st
 
     done : eqb (t .answer .number) 0 ≡ true →
-        Next places sheet record { answer = t .answer; lent = layOut places (t .state) (listIn (t .list) (layOut places st out .out)) } acc
+        Next places sheet record {
+          answer = t .answer;
+          lent = layOut places (t .state)
+              (listIn (t .list) (layOut places st out .out));
+        } acc
     done e =
         unfold layOut in
         record {
@@ -88,8 +95,10 @@ settled-next places sheet c st out acc b n q a m =
           laid = refl;
         }
 
-judged-next : (places : ℕ) (sheet : List ℕ) (c : Call) (st : State) (out : List ℕ) (acc : Accounts) → Bytes sheet → length sheet ≡ 256 →
-    callOfCode (sheetOf sheet .code) ≡ some c → Held places st acc → Next places sheet (judged places c (sheetOf sheet) (layOut places st out)) acc
+judged-next : (places : ℕ) (sheet : List ℕ) (c : Call) (st : State) (out : List ℕ) (acc : Accounts) → Bytes sheet →
+    length sheet ≡ 256 →
+    callOfCode (sheetOf sheet .code) ≡ some c → Held places st acc →
+    Next places sheet (judged places c (sheetOf sheet) (layOut places st out)) acc
 unfolding judged
 judged-next places sheet c st out acc b n q m =
     rw (read-back places st out (held-fits places st acc m))
@@ -97,13 +106,17 @@ judged-next places sheet c st out acc b n q m =
     (λ e. rw e (settled-next places sheet c st out acc b n q e m))
     (λ e. rw e (refused-next places (sheetRefusal c (sheetOf sheet) st) sheet st out acc e m)))
 
-pub formed : (places : ℕ) (st : State) (out : List ℕ) (acc : Accounts) → Held places st acc → wellFormed places (layOut places st out) ≡ true
+pub formed : (places : ℕ) (st : State) (out : List ℕ) (acc : Accounts) → Held places st acc →
+    wellFormed places (layOut places st out) ≡ true
 formed places st out acc m = laid-valid places st out (held-fits places st acc m) ∙ held-valid places st acc m
 
-coded-next : (places : ℕ) (sheet : List ℕ) (o : Option Call) (st : State) (out : List ℕ) (acc : Accounts) → Bytes sheet → length sheet ≡ 256 →
-    callOfCode (sheetOf sheet .code) ≡ o → Held places st acc → Next places sheet (coded places o (sheetOf sheet) (layOut places st out)) acc
+coded-next : (places : ℕ) (sheet : List ℕ) (o : Option Call) (st : State) (out : List ℕ) (acc : Accounts) → Bytes sheet →
+    length sheet ≡ 256 →
+    callOfCode (sheetOf sheet .code) ≡ o → Held places st acc →
+    Next places sheet (coded places o (sheetOf sheet) (layOut places st out)) acc
 coded-next places sheet none st out acc b n q m = refused-next places 2 sheet st out acc refl m
-coded-next places sheet (some c) st out acc b n q m = rw (formed places st out acc m) (judged-next places sheet c st out acc b n q m)
+coded-next places sheet (some c) st out acc b n q m =
+    rw (formed places st out acc m) (judged-next places sheet c st out acc b n q m)
 
 call-next : (places : ℕ) (sheet : List ℕ) (st : State) (out : List ℕ) (acc : Accounts) → Bytes sheet → Held places st acc →
     Next places sheet (callIn places sheet (layOut places st out)) acc
@@ -132,7 +145,8 @@ after-list : (places : ℕ) (is : List Lending) (l : Lent) (acc : Accounts) → 
 unfolding final history accountsFrom
 after-list places [] l acc b m = m
 after-list places (i ∷ is) l acc b m =
-    after-list places is (next (callIn places) i l .lent) (advance (eventOf (i .sheet) (next (callIn places) i l .answer)) acc) (b .1) after
+    after-list places is (next (callIn places) i l .lent)
+    (advance (eventOf (i .sheet) (next (callIn places) i l .answer)) acc) (b .1) after
   where
     same : withOut (i .out) l ≡ layOut places (m .state) (i .out)
     same = ap (withOut (i .out)) (m .laid) ∙ out-replaced places (m .state) (l .out) (i .out)
@@ -142,7 +156,8 @@ after-list places (i ∷ is) l acc b m =
         subst (λ (k : Lent). Next places (i .sheet) (callIn places (i .sheet) k) acc) (sym same)
         (call-next places (i .sheet) (m .state) (i .out) acc (b .0) (m .held))
 
-    after : After places (next (callIn places) i l .lent) (advance (eventOf (i .sheet) (next (callIn places) i l .answer)) acc)
+    after : After places (next (callIn places) i l .lent)
+        (advance (eventOf (i .sheet) (next (callIn places) i l .answer)) acc)
     after = record { state = one .state; held = one .held; laid = one .laid }
 
 -- after every list, from the fresh state
@@ -151,7 +166,12 @@ pub after-fresh : (places : ℕ) (is : List Lending) (out : List ℕ) → All Sh
 unfolding accountsOf
 after-fresh places is out b =
     after-list places is (fresh places out) absent b
-    record { state = freshState; held = held-fresh places; laid = sym (fresh-laid places out) ∙ ap (layOut places freshState) outs }
+    record {
+      state = freshState;
+      held = held-fresh places;
+      laid = sym (fresh-laid places out) ∙ ap
+          (layOut places freshState) outs;
+    }
   where
     outs : out ≡ fresh places out .out
     outs = unfold fresh in refl
@@ -163,15 +183,18 @@ pub instances-are : (places : ℕ) (st : State) (acc : Accounts) → Held places
 unfolding instancesIn
 instances-are places st acc m =
     within-present instanceKey 0 bound (st .instances) (rw (zero-add bound) (m .sim .instances .rising))
-    ∙ present-ext instanceKey 0 bound (λ j. lookup instanceKey j (st .instances)) (acc .instances .at) (λ j l. m .sim .instances .agree j)
+    ∙ present-ext instanceKey 0 bound (λ j. lookup instanceKey j (st .instances)) (acc .instances .at)
+    (λ j l. m .sim .instances .agree j)
 
 pub writers-are : (places : ℕ) (st : State) (acc : Accounts) → Held places st acc → st .writers ≡ writersIn acc
 unfolding writersIn
 writers-are places st acc m =
     within-present writerKey 0 bound (st .writers) (rw (zero-add bound) (m .sim .writers .rising))
-    ∙ present-ext writerKey 0 bound (λ j. lookup writerKey j (st .writers)) (acc .writers .at) (λ j l. m .sim .writers .agree j)
+    ∙ present-ext writerKey 0 bound (λ j. lookup writerKey j (st .writers)) (acc .writers .at)
+    (λ j l. m .sim .writers .agree j)
 
-told-laid : (places : ℕ) (st : State) (out : List ℕ) (acc : Accounts) → Held places st acc → Told places (layOut places st out) acc
+told-laid : (places : ℕ) (st : State) (out : List ℕ) (acc : Accounts) → Held places st acc →
+    Told places (layOut places st out) acc
 unfolding layOut headOf
 told-laid places st out acc m =
     let xs : st .instances ≡ instancesIn acc = instances-are places st acc m in
@@ -197,7 +220,8 @@ told-laid places st out acc m =
     }
 
 told-after : (places : ℕ) (l : Lent) (acc : Accounts) → After places l acc → Told places l acc
-told-after places l acc m = subst (λ (k : Lent). Told places k acc) (sym (m .laid)) (told-laid places (m .state) (l .out) acc (m .held))
+told-after places l acc m =
+    subst (λ (k : Lent). Told places k acc) (sym (m .laid)) (told-laid places (m .state) (l .out) acc (m .held))
 
 pub demand3 : (places : ℕ) (is : List Lending) (out : List ℕ) → All SheetBytes is →
     Told places (final (callIn places) is (fresh places out)) (accountsOf (history (callIn places) is (fresh places out)))
@@ -214,4 +238,5 @@ pub always-formed : (places : ℕ) (is : List Lending) (out new : List ℕ) → 
     wellFormed places (withOut new (final (callIn places) is (fresh places out))) ≡ true
 always-formed places is out new b =
     let m = after-fresh places is out b in
-    ap (wellFormed places) (ap (withOut new) (m .laid) ∙ out-replaced places (m .state) _ new) ∙ formed places (m .state) new _ (m .held)
+    ap (wellFormed places) (ap (withOut new) (m .laid) ∙ out-replaced places (m .state) _ new) ∙ formed places
+    (m .state) new _ (m .held)

@@ -64,8 +64,10 @@ life-counts l k v n m a b s = record { disposed = s .disposed; noWriters = s .no
 
 revived-from : (k : InstanceStateKind) (l : Life) → SoundLife l → SoundLife (revivedFrom k l)
 revived-from Alive l s = s
-revived-from NotAliveDisposed l s = record { disposed = omega arith; noWriters = s .noWriters; count = s .count; samples = s .samples }
-revived-from NotAliveNoWriters l s = record { disposed = s .disposed; noWriters = omega arith; count = s .count; samples = s .samples }
+revived-from NotAliveDisposed l s =
+    record { disposed = omega arith; noWriters = s .noWriters; count = s .count; samples = s .samples }
+revived-from NotAliveNoWriters l s =
+    record { disposed = s .disposed; noWriters = omega arith; count = s .count; samples = s .samples }
 
 revived-sound : (l : Life) → SoundLife l → SoundLife (revived l)
 unfolding revived
@@ -108,7 +110,9 @@ writerless-sound at x t m =
 
 counted-sound : (x : InstanceState) → SoundState x → SoundState (counted x)
 counted-sound x m =
-    with-life _ x (life-counts (x .life) (x .life .kind) (x .life .«view_new») (x .life .«writer_count») _ (m .life .count) (omega arith) (m .life)) m
+    with-life _ x
+    (life-counts (x .life) (x .life .kind) (x .life .«view_new») (x .life .«writer_count») _ (m .life .count) (omega arith)
+    (m .life)) m
 
 cond-sound : (b : Bool) (x y : InstanceState) → SoundState x → SoundState y → SoundState (cond b x y)
 cond-sound b x y m n = either SoundState b x y (λ e. m) (λ e. n)
@@ -118,7 +122,8 @@ without-sound g x m = with-writers _ x (set-without g (x .writers) (m .writers))
 
 -- ---- the calls
 
-registered-sound : (s : Sheet) (x : InstanceState) → SheetFits s → SoundTime (ifPresent (s .«time_1»)) → s .holder .len ≤ 144 → SoundState x →
+registered-sound : (s : Sheet) (x : InstanceState) → SheetFits s → SoundTime (ifPresent (s .«time_1»)) →
+    s .holder .len ≤ 144 → SoundState x →
     SoundState (registered s x)
 unfolding registered
 registered-sound s x f t l m =
@@ -132,7 +137,9 @@ ensured-sound : (x : InstanceState) → SoundState x → SoundState (ensured x)
 unfolding ensured
 ensured-sound x m =
     let r : SoundLife (revivedNew (x .life)) = revived-new (x .life) (m .life) in
-    with-life _ x (life-counts (revivedNew (x .life)) _ _ _ (revivedNew (x .life) .samples) (omega (arith, m .life .count)) (r .samples) r) m
+    with-life _ x
+    (life-counts (revivedNew (x .life)) _ _ _ (revivedNew (x .life) .samples) (omega (arith, m .life .count))
+    (r .samples) r) m
 
 disposed-sound : (at : MaybeTime) (x : InstanceState) → SoundTime at → SoundState x → SoundState (disposed at x)
 unfolding disposed
@@ -151,16 +158,20 @@ disposed-sound at x t m =
 
 counted-down : (x : InstanceState) → SoundState x → SoundState (countedDown x)
 counted-down x m =
-    with-life _ x (life-counts (x .life) (x .life .kind) (x .life .«view_new») _ (x .life .samples) (omega (arith, m .life .count)) (m .life .samples) (m .life)) m
+    with-life _ x
+    (life-counts (x .life) (x .life .kind) (x .life .«view_new») _ (x .life .samples) (omega (arith, m .life .count))
+    (m .life .samples) (m .life)) m
 
 unregistered-sound : (at : MaybeTime) (x : InstanceState) → SoundTime at → SoundState x → SoundState (unregistered at x)
 unfolding unregistered
 unregistered-sound at x t m =
     sampled at _ t
-    (cond-sound (eqb (x .life .«writer_count» - 1) 0 && not (isDisposed (x .life .kind))) (writerless at (countedDown x)) (countedDown x)
+    (cond-sound (eqb (x .life .«writer_count» - 1) 0 && not (isDisposed (x .life .kind))) (writerless at (countedDown x))
+    (countedDown x)
     (writerless-sound at (countedDown x) t (counted-down x m)) (counted-down x m))
 
-writer-unregistered : (g : Guid) (at : MaybeTime) (x : InstanceState) → SoundTime at → SoundState x → SoundState (writerUnregistered g at x)
+writer-unregistered : (g : Guid) (at : MaybeTime) (x : InstanceState) → SoundTime at → SoundState x →
+    SoundState (writerUnregistered g at x)
 unfolding writerUnregistered
 writer-unregistered g at x t m =
     sampled at _ t
@@ -175,7 +186,8 @@ noted-sound : (g : Guid) (x : InstanceState) → FitsGuid g → Room g x → Sou
 unfolding writerNoted
 noted-sound g x f room m = with-writers _ x (set-with g (x .writers) f room (m .writers)) m
 
-dropped-sound : (g : Guid) (at : MaybeTime) (x : InstanceState) → SoundTime at → SoundState x → SoundState (writerDropped g at x)
+dropped-sound : (g : Guid) (at : MaybeTime) (x : InstanceState) → SoundTime at → SoundState x →
+    SoundState (writerDropped g at x)
 unfolding writerDropped
 dropped-sound g at x t m =
     cond-sound (leftBy g x) (sampledAt at (writerless at (without g x))) (cond (has g (writersIn x)) (without g x) x)
@@ -194,10 +206,12 @@ unfolding lifecycleObserved
 lifecycle-sound s x f t l m =
     counted-sound _ (sampled (ifPresent (s .«time_1»)) _ t (with-holder _ x (given-holder s (x .holder) f l (m .holder)) m))
 
-kept-holder : (s : Sheet) (h : Holder) → SheetFits s → s .holder .len ≤ 144 → SoundHolder h → SoundHolder (cond (h .present) h (stored (s .holder)))
+kept-holder : (s : Sheet) (h : Holder) → SheetFits s → s .holder .len ≤ 144 → SoundHolder h →
+    SoundHolder (cond (h .present) h (stored (s .holder)))
 kept-holder s h f l m = either SoundHolder (h .present) h (stored (s .holder)) (λ p. m) (λ p. taken-holder s f l)
 
-pub observed-sound : (s : Sheet) (x : InstanceState) → SheetFits s → SoundTime (always (s .«time_1»)) → s .holder .len ≤ 144 → SoundState x →
+pub observed-sound : (s : Sheet) (x : InstanceState) → SheetFits s → SoundTime (always (s .«time_1»)) →
+    s .holder .len ≤ 144 → SoundState x →
     SoundState (admittedObserved s x)
 unfolding admittedObserved
 observed-sound s x f t l m =
@@ -210,11 +224,13 @@ delivery-times : (delivered filtered : MaybeTime) (t : Times) → SoundTime deli
 delivery-times delivered filtered t a b m =
     record { sample = m .sample; delivered = a; filter = b; disposed = m .disposed; noWriters = m .noWriters; owner = m .owner }
 
-pub admitted-sound : (s : Sheet) (x : InstanceState) → SheetFits s → SoundTime (always (s .«time_1»)) → SoundTime (always (s .«time_2»)) → Room (s .guid) x →
+pub admitted-sound : (s : Sheet) (x : InstanceState) → SheetFits s → SoundTime (always (s .«time_1»)) →
+    SoundTime (always (s .«time_2»)) → Room (s .guid) x →
     SoundState x → SoundState (admittedNoted s x)
 unfolding admittedNoted
 admitted-sound s x f t u room m =
-    with-times _ (writerNoted (s .guid) x) (delivery-times (always (s .«time_1»)) (always (s .«time_2»)) (x .times) t u (m .times))
+    with-times _ (writerNoted (s .guid) x)
+    (delivery-times (always (s .«time_1»)) (always (s .«time_2»)) (x .times) t u (m .times))
     (noted-sound (s .guid) x (f .guid) room m)
 
 delivered-sound : (at : MaybeTime) (x : InstanceState) → SoundTime at → SoundState x → SoundState (deliveryRecorded at x)
@@ -224,12 +240,16 @@ delivered-sound at x t m = with-times _ x (delivery-times at at (x .times) t t (
 viewed-sound : (v : Bool) (x : InstanceState) → SoundState x → SoundState (viewed v x)
 unfolding viewed
 viewed-sound v x m =
-    with-life _ x (life-counts (x .life) (x .life .kind) v (x .life .«writer_count») (x .life .samples) (m .life .count) (m .life .samples) (m .life)) m
+    with-life _ x
+    (life-counts (x .life) (x .life .kind) v (x .life .«writer_count») (x .life .samples) (m .life .count)
+    (m .life .samples) (m .life)) m
 
 drained-sound : (n : ℕ) (x : InstanceState) → SoundState x → SoundState (drained n x)
 unfolding drained
 drained-sound n x m =
-    with-life _ x (life-counts (x .life) (x .life .kind) (x .life .«view_new») (x .life .«writer_count») _ (m .life .count) (omega (arith, m .life .samples)) (m .life)) m
+    with-life _ x
+    (life-counts (x .life) (x .life .kind) (x .life .«view_new») (x .life .«writer_count») _ (m .life .count)
+    (omega (arith, m .life .samples)) (m .life)) m
 
 no-owner : SoundOwner noOwner
 unfolding ownerOk num
@@ -239,7 +259,8 @@ owner-sound : (g : Guid) (n : ℕ) → FitsGuid g → n < 256 ^ 4 → SoundOwner
 unfolding ownerOk
 owner-sound g n f l = record { guid = f; strength = l; ok = refl }
 
-pub tried-sound : (s : Sheet) (x : InstanceState) → SheetFits s → SoundTime (always (s .«time_2»)) → SoundState x → SoundState (ownershipTried s x)
+pub tried-sound : (s : Sheet) (x : InstanceState) → SheetFits s → SoundTime (always (s .«time_2»)) → SoundState x →
+    SoundState (ownershipTried s x)
 unfolding ownershipTried
 tried-sound s x f t m =
     cond-sound (takesOver s x) _ x
@@ -249,7 +270,8 @@ tried-sound s x f t m =
 
 strength-sound : (g : Guid) (n : ℕ) (x : InstanceState) → n < 256 ^ 4 → SoundState x → SoundState (strengthUpdated g n x)
 unfolding strengthUpdated
-strength-sound g n x l m = cond-sound (owns g (x .owner)) _ x (with-owner _ x (owner-sound (x .owner .guid) n (m .owner .guid) l) m) m
+strength-sound g n x l m =
+    cond-sound (owns g (x .owner)) _ x (with-owner _ x (owner-sound (x .owner .guid) n (m .owner .guid) l) m) m
 
 cleared-sound : (g : Guid) (x : InstanceState) → SoundState x → SoundState (ownerCleared g x)
 unfolding ownerCleared
@@ -269,7 +291,8 @@ one-time : (t : MaybeTime) → all nanosecondsOk (t ∷ []) ≡ true → nanosec
 unfolding all
 one-time t e = both (nanosecondsOk t) true e .0
 
-pub two-times : (t u : MaybeTime) → all nanosecondsOk (t ∷ u ∷ []) ≡ true → (nanosecondsOk t ≡ true) × (nanosecondsOk u ≡ true)
+pub two-times : (t u : MaybeTime) → all nanosecondsOk (t ∷ u ∷ []) ≡ true →
+    (nanosecondsOk t ≡ true) × (nanosecondsOk u ≡ true)
 unfolding all
 two-times t u e =
     let p = both (nanosecondsOk t) (nanosecondsOk u && true) e in (p .0, both (nanosecondsOk u) true (p .1) .0)
@@ -280,21 +303,27 @@ pub record Used (c : InstanceCall) (s : Sheet) (x : InstanceState) : Type 0 wher
   pub holder : holderUsedBy c s ≡ true → s .holder .len ≤ 144
   pub room : rule c .addsWriter ≡ true → Room (s .guid) x
 
-pub effect-sound : (c : InstanceCall) (s : Sheet) (x : InstanceState) → SheetFits s → Used c s x → SoundState x → SoundAfter (effect c s x)
+pub effect-sound : (c : InstanceCall) (s : Sheet) (x : InstanceState) → SheetFits s → Used c s x → SoundState x →
+    SoundAfter (effect c s x)
 effect-sound register s x f u m = registered-sound s x f (used-time (s .«time_1») (f .time1) (u .times)) (u .holder refl) m
 effect-sound ensureRegisteredLimited s x f u m = ensured-sound x m
-effect-sound dispose s x f u m = disposed-sound (ifPresent (s .«time_1»)) x (used-time (s .«time_1») (f .time1) (u .times)) m
-effect-sound unregister s x f u m = unregistered-sound (ifPresent (s .«time_1»)) x (used-time (s .«time_1») (f .time1) (u .times)) m
+effect-sound dispose s x f u m =
+    disposed-sound (ifPresent (s .«time_1»)) x (used-time (s .«time_1») (f .time1) (u .times)) m
+effect-sound unregister s x f u m =
+    unregistered-sound (ifPresent (s .«time_1»)) x (used-time (s .«time_1») (f .time1) (u .times)) m
 effect-sound unregisterWriter s x f u m =
     writer-unregistered (s .guid) (ifPresent (s .«time_1»)) x (used-time (s .«time_1») (f .time1) (u .times)) m
 effect-sound noteWriter s x f u m = noted-sound (s .guid) x (f .guid) (u .room refl) m
-effect-sound dropWriter s x f u m = dropped-sound (s .guid) (ifPresent (s .«time_1»)) x (used-time (s .«time_1») (f .time1) (u .times)) m
-effect-sound observeLifecycle s x f u m = lifecycle-sound s x f (used-time (s .«time_1») (f .time1) (u .times)) (u .holder) m
+effect-sound dropWriter s x f u m =
+    dropped-sound (s .guid) (ifPresent (s .«time_1»)) x (used-time (s .«time_1») (f .time1) (u .times)) m
+effect-sound observeLifecycle s x f u m =
+    lifecycle-sound s x f (used-time (s .«time_1») (f .time1) (u .times)) (u .holder) m
 effect-sound observeAdmitted s x f u m =
     observed-sound s x f (taken-time (s .«time_1») (f .time1) (one-time (s .«time_1») (u .times))) (u .holder refl) m
 effect-sound noteAdmitted s x f u m =
     let t = two-times (s .«time_1») (s .«time_2») (u .times) in
-    admitted-sound s x f (taken-time (s .«time_1») (f .time1) (t .0)) (taken-time (s .«time_2») (f .time2) (t .1)) (u .room refl) m
+    admitted-sound s x f (taken-time (s .«time_1») (f .time1) (t .0)) (taken-time (s .«time_2») (f .time2) (t .1))
+    (u .room refl) m
 effect-sound recordDelivery s x f u m =
     delivered-sound (always (s .«time_1»)) x (taken-time (s .«time_1») (f .time1) (one-time (s .«time_1») (u .times))) m
 effect-sound noteTaken s x f u m = viewed-sound false (drained (s .second) x) (drained-sound (s .second) x m)
@@ -310,11 +339,13 @@ effect-sound releaseOwnerOf s x f u m = cleared-sound (s .guid) x m
 effect-sound autopurge s x f u m = split (purged s x) (λ e. rw e tt) (λ e. rw e m)
 
 -- codes 7 and 18 for each writer gone
-pub lost-sound : (gs : List Guid) (at : MaybeTime) (x : InstanceState) → SoundTime at → SoundState x → SoundState (leftWithoutAll gs at x)
+pub lost-sound : (gs : List Guid) (at : MaybeTime) (x : InstanceState) → SoundTime at → SoundState x →
+    SoundState (leftWithoutAll gs at x)
 unfolding leftWithoutAll
 lost-sound [] at x t m = m
 lost-sound (g ∷ gs) at x t m =
-    lost-sound gs at (ownerCleared g (writerDropped g at x)) t (cleared-sound g (writerDropped g at x) (dropped-sound g at x t m))
+    lost-sound gs at (ownerCleared g (writerDropped g at x)) t
+    (cleared-sound g (writerDropped g at x) (dropped-sound g at x t m))
 
 -- ---- a started instance
 
@@ -336,7 +367,8 @@ unfolding startedState
 started-sound =
     record {
       life = record { disposed = omega arith; noWriters = omega arith; count = omega arith; samples = omega arith };
-      times = record { sample = absent-time; delivered = absent-time; filter = absent-time; disposed = absent-time; noWriters = absent-time; owner = absent-time };
+      times =
+          record { sample = absent-time; delivered = absent-time; filter = absent-time; disposed = absent-time; noWriters = absent-time; owner = absent-time };
       owner = no-owner;
       holder = no-holder;
       writers = empty-sound;

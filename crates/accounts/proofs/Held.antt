@@ -92,7 +92,8 @@ pub record Parts (places : ℕ) (st : State) : Type 0 where
   pub instances : SoundInstances places st
 
 instance-parts : (places : ℕ) (c : InstanceCall) (s : Sheet) (st : State) → SheetFits s → Accepted (instances c) s st →
-    Within instanceKey 0 bound (st .instances) → eqb (instanceCall places c s st .answer .number) 0 ≡ true → Parts places st →
+    Within instanceKey 0 bound (st .instances) → eqb (instanceCall places c s st .answer .number) 0 ≡ true →
+    Parts places st →
     Parts places (instanceCall places c s st .state)
 unfolding instanceCall
 instance-parts places c s st f a w ok m =
@@ -133,7 +134,8 @@ tracker-parts places c s st f a w ok m =
 
 -- ---- joined calls
 
-loss-parts : (places : ℕ) (c : TrackerCall) (gs : List Guid) (s : Sheet) (st : State) → SheetFits s → all nanosecondsOk (optional (s .«time_1»)) ≡ true →
+loss-parts : (places : ℕ) (c : TrackerCall) (gs : List Guid) (s : Sheet) (st : State) → SheetFits s →
+    all nanosecondsOk (optional (s .«time_1»)) ≡ true →
     all clockOk (clocksUsedBy c s) ≡ true → acknowledgeable c s st ≡ true → Within writerKey 0 bound (st .writers) →
     eqb (lossCall c gs s st .answer .number) 0 ≡ true → Parts places st → Parts places (lossCall c gs s st .state)
 unfolding lossCall afterLoss trackerTurn
@@ -141,12 +143,17 @@ loss-parts places c gs s st f t k a w ok m =
     split (eqb (trackerLate c s st) 0)
     (λ e.
     rw e record {
-      writers = writers-unmoved (trackerState c s st) _ _ (tracker-sound c s st record { clocks = k; guid = f .guid } a e w (m .writers));
-      instances = unfold trackerState in losses-sound places gs (ifPresent (s .«time_1»)) st _ (used-time (s .«time_1») (f .time1) t) refl refl (m .instances);
+      writers =
+          writers-unmoved (trackerState c s st) _ _
+          (tracker-sound c s st record { clocks = k; guid = f .guid } a e w (m .writers));
+      instances =
+          unfold trackerState in losses-sound places gs (ifPresent (s .«time_1»)) st _
+          (used-time (s .«time_1») (f .time1) t) refl refl (m .instances);
     })
     (λ e. never (sym (rw e at ok) ∙ e))
 
-admit-parts : (places : ℕ) (s : Sheet) (st : State) → SheetFits s → Accepted (joined admit) s st → Within instanceKey 0 bound (st .instances) →
+admit-parts : (places : ℕ) (s : Sheet) (st : State) → SheetFits s → Accepted (joined admit) s st →
+    Within instanceKey 0 bound (st .instances) →
     eqb (admitWith places s st (find (hasKey (s .key)) (st .instances)) .answer .number) 0 ≡ true → Parts places st →
     Parts places (admitWith places s st (find (hasKey (s .key)) (st .instances)) .state)
 admit-parts places s st f a w ok m =
@@ -159,7 +166,8 @@ admit-parts places s st f a w ok m =
     unknown : lookup instanceKey (num (s .key)) (st .instances) ≡ none → known s st ≡ false
     unknown n = any-lookup instanceKey (num (s .key)) (st .instances) ∙ ap isSome n
 
-    taken : (not (known s st) && full places st) ≡ false → (not (known s st) && spent st) ≡ false → crowds s x ≡ false → Parts places (admitted s st .state)
+    taken : (not (known s st) && full places st) ≡ false → (not (known s st) && spent st) ≡ false → crowds s x ≡ false →
+        Parts places (admitted s st .state)
     taken e4 e5 e6 =
         unfold admitted in
         record {
@@ -177,27 +185,35 @@ admit-parts places s st f a w ok m =
         }
 
 joined-parts : (places : ℕ) (c : JoinedCall) (s : Sheet) (st : State) → SheetFits s → Accepted (joined c) s st →
-    Within instanceKey 0 bound (st .instances) → Within writerKey 0 bound (st .writers) → eqb (turn places (joined c) s st .answer .number) 0 ≡ true →
+    Within instanceKey 0 bound (st .instances) → Within writerKey 0 bound (st .writers) →
+    eqb (turn places (joined c) s st .answer .number) 0 ≡ true →
     Parts places st → Parts places (turn places (joined c) s st .state)
 joined-parts places admit s st f a w v ok m = admit-parts places s st f a w ok m
-joined-parts places lapse s st f a w v ok m = loss-parts places expire (movers expire s (st .writers)) s st f (a .times) (a .clocks) refl v ok m
-joined-parts places part s st f a w v ok m = loss-parts places unmatched (s .guid ∷ []) s st f (a .times) (a .clocks) refl v ok m
-joined-parts places depart s st f a w v ok m = loss-parts places lostWithParticipant (s .guid ∷ []) s st f (a .times) (a .clocks) refl v ok m
+joined-parts places lapse s st f a w v ok m =
+    loss-parts places expire (movers expire s (st .writers)) s st f (a .times) (a .clocks) refl v ok m
+joined-parts places part s st f a w v ok m =
+    loss-parts places unmatched (s .guid ∷ []) s st f (a .times) (a .clocks) refl v ok m
+joined-parts places depart s st f a w v ok m =
+    loss-parts places lostWithParticipant (s .guid ∷ []) s st f (a .times) (a .clocks) refl v ok m
 
-turn-parts : (places : ℕ) (c : Call) (s : Sheet) (st : State) → SheetFits s → Accepted c s st → Within instanceKey 0 bound (st .instances) →
-    Within writerKey 0 bound (st .writers) → eqb (turn places c s st .answer .number) 0 ≡ true → Parts places st → Parts places (turn places c s st .state)
+turn-parts : (places : ℕ) (c : Call) (s : Sheet) (st : State) → SheetFits s → Accepted c s st →
+    Within instanceKey 0 bound (st .instances) →
+    Within writerKey 0 bound (st .writers) → eqb (turn places c s st .answer .number) 0 ≡ true → Parts places st →
+    Parts places (turn places c s st .state)
 turn-parts places (instances c) s st f a w v ok m = instance-parts places c s st f a w ok m
 turn-parts places (tracker c) s st f a w v ok m = tracker-parts places c s st f a v ok m
 turn-parts places (joined c) s st f a w v ok m = joined-parts places c s st f a w v ok m
 
 -- ---- an accepted call
 
-pub held-turn : (places : ℕ) (c : Call) (s : Sheet) (st : State) (acc : Accounts) → SheetFits s → eqb (sheetRefusal c s st) 0 ≡ true →
+pub held-turn : (places : ℕ) (c : Call) (s : Sheet) (st : State) (acc : Accounts) → SheetFits s →
+    eqb (sheetRefusal c s st) 0 ≡ true →
     eqb (turn places c s st .answer .number) 0 ≡ true → Held places st acc →
     Held places (turn places c s st .state) (advanced c s (turn places c s st .answer) acc)
 held-turn places c s st acc f a ok m =
     let p : Parts places (turn places c s st .state) =
-    turn-parts places c s st f (accepted-sheet c s st a) (m .sim .instances .rising) (m .sim .writers .rising) ok record { writers = m .writers; instances = m .instances } in
+    turn-parts places c s st f (accepted-sheet c s st a) (m .sim .instances .rising)
+    (m .sim .writers .rising) ok record { writers = m .writers; instances = m .instances } in
     record {
       sim = turned places c s st acc (f .key) (f .guid) (guids-sound (st .writers) (m .writers .each)) (m .sim) ok;
       writers = p .writers;
@@ -210,7 +226,8 @@ ok-distinct : (xs : List Instance) → Distinct xs → handlesDistinct xs ≡ tr
 unfolding handlesDistinct
 ok-distinct [] d = refl
 ok-distinct (x ∷ xs) d =
-    rw (all-from (Other (x .handle .0)) (otherHandle (x .handle .0)) (λ y o. rw (ne-eqb (y .handle .0) (x .handle .0) o)) xs (d .0))
+    rw (all-from (Other (x .handle .0)) (otherHandle (x .handle .0)) (λ y o. rw (ne-eqb (y .handle .0) (x .handle .0) o)) xs
+    (d .0))
     (ok-distinct xs (d .1))
 
 ok-below : (n : ℕ) (x : Instance) → Handled n x → handleBelow n x ≡ true
@@ -227,7 +244,8 @@ held-valid places st acc m =
       le-leb (length (st .instances)) places (m .instances .few),
       within-rises instanceKey 0 bound (st .instances) (m .sim .instances .rising),
       all-from SoundInstance instanceOk (λ x q. ok-state (x .state) (q .state)) (st .instances) (m .instances .each),
-      all-from (Handled (st .nextHandle)) (handleBelow (st .nextHandle)) (ok-below (st .nextHandle)) (st .instances) (m .instances .below),
+      all-from (Handled (st .nextHandle)) (handleBelow (st .nextHandle)) (ok-below (st .nextHandle)) (st .instances)
+          (m .instances .below),
       ok-distinct (st .instances) (m .instances .distinct),
       le-leb (length (st .writers)) 128 (m .writers .few),
       within-rises writerKey 0 bound (st .writers) (m .sim .writers .rising),
@@ -245,7 +263,8 @@ both-each n (x ∷ xs) l a b = (
 pub held-fits : (places : ℕ) (st : State) (acc : Accounts) → Held places st acc → Fitting places st
 held-fits places st acc m =
     record {
-      instances = both-each (st .nextHandle) (st .instances) (m .instances .high) (m .instances .each) (m .instances .below);
+      instances =
+          both-each (st .nextHandle) (st .instances) (m .instances .high) (m .instances .each) (m .instances .below);
       fewInstances = m .instances .few;
       writers = all-weaken SoundWriter FitsWriter fits-writer (st .writers) (m .writers .each);
       fewWriters = m .writers .few;
@@ -271,6 +290,7 @@ held-fresh places =
         };
         instances = record { rising = tt; agree = λ j. refl; handles = refl; next = refl };
       };
-      writers = record { nearAlive = refl; nearNotAlive = refl; few = omega arith; each = tt; fewLost = omega arith; lost = tt };
+      writers =
+          record { nearAlive = refl; nearNotAlive = refl; few = omega arith; each = tt; fewLost = omega arith; lost = tt };
       instances = record { low = omega arith; high = omega arith; few = omega arith; each = tt; below = tt; distinct = tt };
     }

@@ -69,7 +69,8 @@ pub record SoundInstances (places : ℕ) (st : State) : Type 0 where
 flip : (a b : ℕ) → a ≢ b → b ≢ a
 flip a b h e = h (sym e)
 
-distinct-put : (y : Instance) (xs : List Instance) → All (Other (y .handle .0)) xs → Distinct xs → Distinct (put instanceKey y xs)
+distinct-put : (y : Instance) (xs : List Instance) → All (Other (y .handle .0)) xs → Distinct xs →
+    Distinct (put instanceKey y xs)
 unfolding put
 distinct-put y [] o d = (tt, tt)
 distinct-put y (x ∷ xs) o d =
@@ -80,12 +81,14 @@ distinct-put y (x ∷ xs) o d =
     ))
     (λ e. rw e (split (eqb (num (x .key)) (num (y .key))) (λ q. rw q (o .1, d .1)) (λ q. rw q (o, d))))
 
-distinct-kept : (h : ℕ) (o : Option Instance) (xs : List Instance) → ((y : Instance) → o ≡ some y → y .handle .0 ≡ h) → All (Other h) xs → Distinct xs →
+distinct-kept : (h : ℕ) (o : Option Instance) (xs : List Instance) → ((y : Instance) → o ≡ some y → y .handle .0 ≡ h) →
+    All (Other h) xs → Distinct xs →
     Distinct (T.kept o xs)
 distinct-kept h none xs e a d = d
 distinct-kept h (some y) xs e a d = (rw (e y refl) a, d)
 
-distinct-sift : (f : Instance → Option Instance) (xs : List Instance) → ((x y : Instance) → f x ≡ some y → y .handle .0 ≡ x .handle .0) → Distinct xs →
+distinct-sift : (f : Instance → Option Instance) (xs : List Instance) →
+    ((x y : Instance) → f x ≡ some y → y .handle .0 ≡ x .handle .0) → Distinct xs →
     Distinct (sift f xs)
 unfolding sift
 distinct-sift f [] stay d = tt
@@ -133,18 +136,23 @@ distinct-lone h (x ∷ xs) d = (
 
 keys-from : (lo hi : ℕ) (xs : List Instance) → Within instanceKey lo hi xs → All (λ x. lo ≤ instanceKey x) xs
 keys-from lo hi [] w = tt
-keys-from lo hi (x ∷ xs) w =
-    (w .0, all-weaken (λ y. suc (instanceKey x) ≤ instanceKey y) (λ y. lo ≤ instanceKey y) (λ y l. omega (arith, w .0)) xs (keys-from (suc (instanceKey x)) hi xs (w .2)))
+keys-from lo hi (x ∷ xs) w = (
+  w .0,
+  all-weaken (λ y. suc (instanceKey x) ≤ instanceKey y) (λ y. lo ≤ instanceKey y) (λ y l. omega (arith, w .0)) xs
+      (keys-from (suc (instanceKey x)) hi xs (w .2)),
+)
 
 rising-lone : (k lo hi : ℕ) (xs : List Instance) → Within instanceKey lo hi xs → Lone (keyed instanceKey k) xs
 rising-lone k lo hi [] w = tt
 rising-lone k lo hi (x ∷ xs) w = (
   (λ e. all-weaken (λ y. suc (instanceKey x) ≤ instanceKey y) (λ y. eqb (instanceKey y) k ≡ false)
-      (λ y l. ne-eqb (instanceKey y) k (λ q. omega (arith, eqb-true (instanceKey x) k e))) xs (keys-from (suc (instanceKey x)) hi xs (w .2))),
+      (λ y l. ne-eqb (instanceKey y) k (λ q. omega (arith, eqb-true (instanceKey x) k e))) xs
+      (keys-from (suc (instanceKey x)) hi xs (w .2))),
   rising-lone k (suc (instanceKey x)) hi xs (w .2),
 )
 
-lone : (c : InstanceCall) (s : Sheet) (xs : List Instance) → rule c .addsWriter ≡ true → Within instanceKey 0 bound xs → Distinct xs → Lone (reaches c s) xs
+lone : (c : InstanceCall) (s : Sheet) (xs : List Instance) → rule c .addsWriter ≡ true → Within instanceKey 0 bound xs →
+    Distinct xs → Lone (reaches c s) xs
 lone register s xs e w d = never (sym e)
 lone ensureRegisteredLimited s xs e w d = never (sym e)
 lone dispose s xs e w d = never (sym e)
@@ -178,7 +186,8 @@ pub record Entry (places : ℕ) (c : InstanceCall) (s : Sheet) (st : State) : Ty
   pub times : all nanosecondsOk (timesUsedBy c s) ≡ true
   pub holder : holderUsedBy c s ≡ true → s .holder .len ≤ 144
 
-kept-sound : (x y : Instance) (o : Option InstanceState) → FitsGuid (x .key) → SoundAfter o → kept x o ≡ some y → SoundInstance y
+kept-sound : (x y : Instance) (o : Option InstanceState) → FitsGuid (x .key) → SoundAfter o → kept x o ≡ some y →
+    SoundInstance y
 kept-sound x y none f m e = let z : _≡_ {A = ℕ} 0 1 = cc in absurd (omega arith)
 kept-sound x y (some z) f m e =
     let p : record { key = x .key; handle = x .handle; state = z } ≡ y = cc in subst SoundInstance p record { key = f; state = m }
@@ -191,14 +200,16 @@ started-room : (g : Guid) → Room g startedState
 unfolding startedState has
 started-room g = refl
 
-module _ (places : ℕ) (c : InstanceCall) (s : Sheet) (st : State) (en : Entry places c s st) (w : Within instanceKey 0 bound (st .instances)) (m : SoundInstances places st) where
+module _ (places : ℕ) (c : InstanceCall) (s : Sheet) (st : State) (en : Entry places c s st)
+    (w : Within instanceKey 0 bound (st .instances)) (m : SoundInstances places st) where
   fresh : Instance
   fresh = started (s .key) (allocated (st .nextHandle) .handle .0)
 
   begun-all : (P : Instance → Type 0) → P fresh → All P (st .instances) → All P (begun c s st)
   unfolding begun fresh
   begun-all P p a =
-      either (All P) (begins c s st) (put instanceKey (started (s .key) (allocated (st .nextHandle) .handle .0)) (st .instances)) (st .instances)
+      either (All P) (begins c s st)
+      (put instanceKey (started (s .key) (allocated (st .nextHandle) .handle .0)) (st .instances)) (st .instances)
       (λ e. all-put instanceKey P (started (s .key) (allocated (st .nextHandle) .handle .0)) (st .instances) p a) (λ e. a)
 
   fresh-handle : fresh .handle .0 ≡ st .nextHandle
@@ -234,7 +245,8 @@ module _ (places : ℕ) (c : InstanceCall) (s : Sheet) (st : State) (en : Entry 
       split (reaches c s x)
       (λ d.
       kept-sound x y (effect c s (x .state)) (q .0 .key)
-      (effect-sound c s (x .state) (en .fits) record { times = en .times; holder = en .holder; room = q .1 d } (q .0 .state))
+      (effect-sound c s (x .state) (en .fits) record { times = en .times; holder = en .holder; room = q .1 d }
+      (q .0 .state))
       (rw d at e))
       (λ d. let v : some x ≡ some y = rw d at e in let p : x ≡ y = cc in subst SoundInstance p (q .0))
 
@@ -252,30 +264,41 @@ module _ (places : ℕ) (c : InstanceCall) (s : Sheet) (st : State) (en : Entry 
   begun-below =
       either (All (Handled (st .nextHandle + bit (begins c s st)))) (begins c s st)
       (put instanceKey (started (s .key) (allocated (st .nextHandle) .handle .0)) (st .instances)) (st .instances)
-      (λ e. all-put instanceKey (Handled (st .nextHandle + bit (begins c s st))) (started (s .key) (allocated (st .nextHandle) .handle .0)) (st .instances)
+      (λ e. all-put instanceKey (Handled (st .nextHandle + bit (begins c s st)))
+      (started (s .key) (allocated (st .nextHandle) .handle .0)) (st .instances)
       (new e) (below-more (st .nextHandle) (begins c s st) (st .instances) (m .below)))
       (λ e. below-more (st .nextHandle) (begins c s st) (st .instances) (m .below))
     where
-      new : begins c s st ≡ true → Handled (st .nextHandle + bit (begins c s st)) (started (s .key) (allocated (st .nextHandle) .handle .0))
+      new : begins c s st ≡ true →
+          Handled (st .nextHandle + bit (begins c s st)) (started (s .key) (allocated (st .nextHandle) .handle .0))
       new e =
-          let h : started (s .key) (allocated (st .nextHandle) .handle .0) .handle .0 ≡ st .nextHandle = unfold fresh in fresh-handle in
+          let h : started (s .key)
+          (allocated (st .nextHandle) .handle .0) .handle .0 ≡ st .nextHandle = unfold fresh in fresh-handle in
           (omega (arith, m .low), omega (arith, bit-at (begins c s st) e))
 
   begun-distinct : Distinct (begun c s st)
   unfolding begun
   begun-distinct =
-      either Distinct (begins c s st) (put instanceKey (started (s .key) (allocated (st .nextHandle) .handle .0)) (st .instances)) (st .instances)
+      either Distinct (begins c s st)
+      (put instanceKey (started (s .key) (allocated (st .nextHandle) .handle .0)) (st .instances)) (st .instances)
       (λ e.
-      let h : started (s .key) (allocated (st .nextHandle) .handle .0) .handle .0 ≡ st .nextHandle = unfold fresh in fresh-handle in
-      distinct-put (started (s .key) (allocated (st .nextHandle) .handle .0)) (st .instances) (rw h (below-other (st .nextHandle) (st .instances) (m .below))) (m .distinct))
+      let h : started (s .key)
+      (allocated (st .nextHandle) .handle .0) .handle .0 ≡ st .nextHandle = unfold fresh in fresh-handle in
+      distinct-put (started (s .key) (allocated (st .nextHandle) .handle .0)) (st .instances)
+      (rw h (below-other (st .nextHandle) (st .instances) (m .below))) (m .distinct))
       (λ e. m .distinct)
 
   begun-few : length (begun c s st) ≤ places
   unfolding begun started
   begun-few =
-      either (λ (xs : List Instance). length xs ≤ places) (begins c s st) (put instanceKey (started (s .key) (allocated (st .nextHandle) .handle .0)) (st .instances)) (st .instances)
+      either (λ (xs : List Instance). length xs ≤ places) (begins c s st)
+      (put instanceKey (started (s .key) (allocated (st .nextHandle) .handle .0)) (st .instances)) (st .instances)
       (λ e.
-      rw (length-put instanceKey 0 bound (started (s .key) (allocated (st .nextHandle) .handle .0)) (st .instances) w, begins-absent c s st e .1)
+      rw (
+        length-put instanceKey 0 bound (started (s .key) (allocated (st .nextHandle) .handle .0))
+            (st .instances) w,
+        begins-absent c s st e .1,
+      )
       (omega (arith, en .place e)))
       (λ e. m .few)
 
@@ -290,7 +313,8 @@ module _ (places : ℕ) (c : InstanceCall) (s : Sheet) (st : State) (en : Entry 
             (begun-all Ready (fresh-sound, fresh-room) (pair-up (st .instances) (m .each) rooms));
         below =
             rw next-at
-            (all-sift (Handled (st .nextHandle + bit (begins c s st))) (Handled (st .nextHandle + bit (begins c s st))) (acts c s) (begun c s st)
+            (all-sift (Handled (st .nextHandle + bit (begins c s st))) (Handled (st .nextHandle + bit (begins c s st)))
+            (acts c s) (begun c s st)
             (λ x y h e. (omega (arith, h .0, stays x y e), omega (arith, h .1, stays x y e))) begun-below);
         distinct = distinct-sift (acts c s) (begun c s st) stays begun-distinct;
       }
@@ -307,7 +331,8 @@ loses-stay gone at x y e =
     sym (ap (λ (i : Instance). i .handle .0) p)
 
 pub losses-sound : (places : ℕ) (gone : List Guid) (at : MaybeTime) (st st′ : State) → SoundTime at →
-    st′ .instances ≡ sift (loses gone at) (st .instances) → st′ .nextHandle ≡ st .nextHandle → SoundInstances places st → SoundInstances places st′
+    st′ .instances ≡ sift (loses gone at) (st .instances) → st′ .nextHandle ≡ st .nextHandle → SoundInstances places st →
+    SoundInstances places st′
 losses-sound places gone at st st′ t same next m =
     record {
       low = rw next (m .low);
@@ -316,15 +341,18 @@ losses-sound places gone at st st′ t same next m =
       each =
           rw same
           (all-sift SoundInstance SoundInstance (loses gone at) (st .instances)
-          (λ x y q e. kept-sound x y (some (leftWithoutAll gone at (x .state))) (q .key) (lost-sound gone at (x .state) t (q .state)) e) (m .each));
+          (λ x y q e. kept-sound x y (some (leftWithoutAll gone at (x .state))) (q .key)
+          (lost-sound gone at (x .state) t (q .state)) e) (m .each));
       below =
           rw (same, next)
           (all-sift (Handled (st .nextHandle)) (Handled (st .nextHandle)) (loses gone at) (st .instances)
-          (λ x y h e. (omega (arith, h .0, loses-stay gone at x y e), omega (arith, h .1, loses-stay gone at x y e))) (m .below));
+          (λ x y h e. (omega (arith, h .0, loses-stay gone at x y e), omega (arith, h .1, loses-stay gone at x y e)))
+          (m .below));
       distinct = rw same (distinct-sift (loses gone at) (st .instances) (loses-stay gone at) (m .distinct));
     }
 
-pub stays-sound : (places : ℕ) (st st′ : State) → st′ .instances ≡ st .instances → st′ .nextHandle ≡ st .nextHandle → SoundInstances places st →
+pub stays-sound : (places : ℕ) (st st′ : State) → st′ .instances ≡ st .instances → st′ .nextHandle ≡ st .nextHandle →
+    SoundInstances places st →
     SoundInstances places st′
 stays-sound places st st′ same next m =
     record {
@@ -367,7 +395,8 @@ tried-few : (s : Sheet) (st : State) → length (tried s st .instances) ≤ leng
 unfolding instanceTurn instancesAfter begun
 tried-few s st = length-sift (acts acceptUnderExclusiveOwnership s) (st .instances)
 
-turned-instances : (c : InstanceCall) (s : Sheet) (st : State) → instanceTurn c s st .state .instances ≡ instancesAfter c s st
+turned-instances : (c : InstanceCall) (s : Sheet) (st : State) →
+    instanceTurn c s st .state .instances ≡ instancesAfter c s st
 unfolding instanceTurn
 turned-instances c s st = refl
 
@@ -389,10 +418,12 @@ two-times : (t u : MaybeTime) → nanosecondsOk t ≡ true → nanosecondsOk u �
 unfolding all
 two-times t u e d = rw (e, d)
 
-module _ (places : ℕ) (s : Sheet) (st : State) (ad : Admission places s st) (w : Within instanceKey 0 bound (st .instances)) (m : SoundInstances places st) where
+module _ (places : ℕ) (s : Sheet) (st : State) (ad : Admission places s st) (w : Within instanceKey 0 bound (st .instances))
+    (m : SoundInstances places st) where
   tried-rises : Within instanceKey 0 bound (tried s st .instances)
   tried-rises =
-      rw (turned-instances acceptUnderExclusiveOwnership s st) (turned-rises acceptUnderExclusiveOwnership s st (ad .fits .key) w (m .low))
+      rw (turned-instances acceptUnderExclusiveOwnership s st)
+      (turned-rises acceptUnderExclusiveOwnership s st (ad .fits .key) w (m .low))
 
   tried-sound : SoundInstances places (tried s st)
   tried-sound =
@@ -407,7 +438,8 @@ module _ (places : ℕ) (s : Sheet) (st : State) (ad : Admission places s st) (w
       } w m
 
   tried-at : lookup instanceKey (num (s .key)) (tried s st .instances)
-      ≡ onInstance (instances acceptUnderExclusiveOwnership) (eventBy s (answered acceptUnderExclusiveOwnership s st (ad .fits .key) w (m .low)) 0) [] (num (s .key))
+      ≡ onInstance (instances acceptUnderExclusiveOwnership)
+      (eventBy s (answered acceptUnderExclusiveOwnership s st (ad .fits .key) w (m .low)) 0) [] (num (s .key))
       (lookup instanceKey (num (s .key)) (st .instances))
   tried-at =
       ap (lookup instanceKey (num (s .key))) (turned-instances acceptUnderExclusiveOwnership s st)
@@ -435,12 +467,15 @@ module _ (places : ℕ) (s : Sheet) (st : State) (ad : Admission places s st) (w
 
   observed-rises : Within instanceKey 0 bound (observed s st .instances)
   observed-rises =
-      rw (turned-instances observeAdmitted s (tried s st)) (turned-rises observeAdmitted s (tried s st) (ad .fits .key) tried-rises (tried-sound .low))
+      rw (turned-instances observeAdmitted s (tried s st))
+      (turned-rises observeAdmitted s (tried s st) (ad .fits .key) tried-rises (tried-sound .low))
 
   observed-room : crowds s (lookup instanceKey (num (s .key)) (observed s st .instances)) ≡ false
   observed-room =
-      ap (λ (xs : List Instance). crowds s (lookup instanceKey (num (s .key)) xs)) (turned-instances observeAdmitted s (tried s st))
-      ∙ ap (crowds s) (turned-at observeAdmitted s (tried s st) (ad .fits .key) tried-rises (tried-sound .low) (num (s .key)) [] 0)
+      ap (λ (xs : List Instance). crowds s (lookup instanceKey (num (s .key)) xs))
+      (turned-instances observeAdmitted s (tried s st))
+      ∙ ap (crowds s)
+      (turned-at observeAdmitted s (tried s st) (ad .fits .key) tried-rises (tried-sound .low) (num (s .key)) [] 0)
       ∙ observed-crowds s (num (s .key)) _ (lookup instanceKey (num (s .key)) (tried s st .instances))
       (ap (crowds s) tried-at
       ∙ tried-crowds s (num (s .key)) _ (lookup instanceKey (num (s .key)) (st .instances)) answered-zero

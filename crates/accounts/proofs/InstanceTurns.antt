@@ -93,11 +93,13 @@ leaving-is : (x : Instance) (o : Option InstanceState) → kept x o ≡ S.leavin
 leaving-is x none = refl
 leaving-is x (some y) = refl
 
-pub acts-stay : (c : InstanceCall) (s : Sheet) (x y : Instance) → acts c s x ≡ some y → (y .key ≡ x .key) × (y .handle ≡ x .handle)
+pub acts-stay : (c : InstanceCall) (s : Sheet) (x y : Instance) → acts c s x ≡ some y →
+    (y .key ≡ x .key) × (y .handle ≡ x .handle)
 acts-stay c s x y e =
     split (reaches c s x)
     (λ d. kept-key x y (effect c s (x .state)) (rw d at e))
-    (λ d. let q : some x ≡ some y = rw d at e in let p : x ≡ y = cc in (sym (ap (λ (i : Instance). i .key) p), sym (ap (λ (i : Instance). i .handle) p)))
+    (λ d. let q : some x ≡ some y = rw d at e in let p : x ≡ y = cc in
+    (sym (ap (λ (i : Instance). i .key) p), sym (ap (λ (i : Instance). i .handle) p)))
 
 pub acts-keeps : (c : InstanceCall) (s : Sheet) → Keeps instanceKey (acts c s)
 acts-keeps c s x y e = ap num (acts-stay c s x y e .0)
@@ -107,7 +109,8 @@ acts-keeps c s x y e = ap num (acts-stay c s x y e .0)
 pub startOf : InstanceCall → Sheet → State → Option Instance
 startOf c s st = cond (begins c s st) (some (started (s .key) (allocated (st .nextHandle) .handle .0))) none
 
-pub begun-is : (c : InstanceCall) (s : Sheet) (st : State) → begun c s st ≡ begin instanceKey (startOf c s st) (st .instances)
+pub begun-is : (c : InstanceCall) (s : Sheet) (st : State) →
+    begun c s st ≡ begin instanceKey (startOf c s st) (st .instances)
 unfolding begun startOf
 begun-is c s st = split (begins c s st) (λ e. rw e) (λ e. rw e)
 
@@ -165,7 +168,8 @@ told-handle dropWriter s before w = refl
 told-handle observeLifecycle s before w = handle-answer (lookup instanceKey (num (s .key)) before)
 told-handle observeAdmitted s before w =
     samples-answer (lookup instanceKey (num (s .key)) (sift (acts observeAdmitted s) before))
-    ∙ ap handleIn (lookup-sift instanceKey (num (s .key)) 0 bound (acts observeAdmitted s) before (acts-keeps observeAdmitted s) w)
+    ∙ ap handleIn
+    (lookup-sift instanceKey (num (s .key)) 0 bound (acts observeAdmitted s) before (acts-keeps observeAdmitted s) w)
     ∙ observed-handle s (lookup instanceKey (num (s .key)) before)
 told-handle noteAdmitted s before w = info-answer (lookup instanceKey (num (s .key)) (sift (acts noteAdmitted s) before))
 told-handle recordDelivery s before w = refl
@@ -187,25 +191,31 @@ eventBy s h outcome = record { sheet = s; number = 0; handle = h; outcome = outc
 pub not-nil : (n : ℕ) → 1 ≤ n → notNil n ≡ n
 not-nil n l = rw (ne-eqb n 0 (λ q. omega arith))
 
-module _ (c : InstanceCall) (s : Sheet) (st : State) (fits : FitsGuid (s .key)) (rises : Within instanceKey 0 bound (st .instances)) (one : 1 ≤ st .nextHandle) where
+module _ (c : InstanceCall) (s : Sheet) (st : State) (fits : FitsGuid (s .key))
+    (rises : Within instanceKey 0 bound (st .instances)) (one : 1 ≤ st .nextHandle) where
   unfoldable pub answered : ℕ
   answered = instanceTurn c s st .answer .handle .0
 
   begun-rises : Within instanceKey 0 bound (begun c s st)
-  begun-rises = rw (begun-is c s st) (within-begin instanceKey bound (startOf c s st) (st .instances) (start-below c s st fits) rises)
+  begun-rises =
+      rw (begun-is c s st) (within-begin instanceKey bound (startOf c s st) (st .instances) (start-below c s st fits) rises)
 
-  answered-is : answered ≡ cond (startsBy (rule c .reach)) (handleIn (begunAt instanceKey (startOf c s st) (num (s .key)) (lookup instanceKey (num (s .key)) (st .instances)))) 0
+  answered-is : answered ≡ cond (startsBy (rule c .reach))
+      (handleIn (begunAt instanceKey (startOf c s st) (num (s .key)) (lookup instanceKey (num (s .key)) (st .instances)))) 0
   unfolding answered instanceTurn instancesAfter
   answered-is =
       told-handle c s (begun c s st) begun-rises
       ∙ ap (λ (o : Option Instance). cond (startsBy (rule c .reach)) (handleIn o) 0)
-      (ap (lookup instanceKey (num (s .key))) (begun-is c s st) ∙ lookup-begin instanceKey (startOf c s st) (st .instances) (num (s .key)))
+      (ap (lookup instanceKey (num (s .key))) (begun-is c s st) ∙ lookup-begin instanceKey (startOf c s st) (st .instances)
+      (num (s .key)))
 
   -- it starts an instance, and answers the handle to come
   pub answered-new : begins c s st ≡ true → answered ≡ st .nextHandle
   answered-new e = answered-is ∙ new
     where
-      new : cond (startsBy (rule c .reach)) (handleIn (begunAt instanceKey (startOf c s st) (num (s .key)) (lookup instanceKey (num (s .key)) (st .instances)))) 0 ≡ st .nextHandle
+      new : cond (startsBy (rule c .reach))
+          (handleIn (begunAt instanceKey (startOf c s st) (num (s .key))
+          (lookup instanceKey (num (s .key)) (st .instances)))) 0 ≡ st .nextHandle
       new =
           unfold startOf started allocated in
           rw (e, begins-absent c s st e .0, eq-eqb (num (s .key)) (num (s .key)) refl) (not-nil (st .nextHandle) one)
@@ -218,7 +228,9 @@ module _ (c : InstanceCall) (s : Sheet) (st : State) (fits : FitsGuid (s .key)) 
       starts =
           split (startsBy (rule c .reach)) (λ d. never (rw (d, known-is s st, n) at e)) (λ d. d)
 
-      nothing : cond (startsBy (rule c .reach)) (handleIn (begunAt instanceKey (startOf c s st) (num (s .key)) (lookup instanceKey (num (s .key)) (st .instances)))) 0 ≡ 0
+      nothing : cond (startsBy (rule c .reach))
+          (handleIn (begunAt instanceKey (startOf c s st) (num (s .key))
+          (lookup instanceKey (num (s .key)) (st .instances)))) 0 ≡ 0
       nothing = rw starts
 
   -- ---- at each key
@@ -229,16 +241,24 @@ module _ (c : InstanceCall) (s : Sheet) (st : State) (fits : FitsGuid (s .key)) 
       split (begins c s st) (λ e. begun-at e) (λ e. other-at e)
     where
       begun-at : begins c s st ≡ true →
-          bind (acts c s) (begunAt instanceKey (startOf c s st) j none) ≡ onAbsent (instances c) (eventBy s answered outcome) j
+          bind (acts c s) (begunAt instanceKey (startOf c s st) j none) ≡ onAbsent (instances c)
+          (eventBy s answered outcome) j
       begun-at e =
           unfold startOf started allocated in
           rw (answered-new e, e, eqb-sym (num (s .key)) j, ne-eqb (st .nextHandle) 0 (λ q. omega arith))
           (split (eqb j (num (s .key)))
-          (λ d. rw (d, starting-reach (rule c .reach) s (started (s .key) (st .nextHandle)) (begins-absent c s st e .0), eq-eqb (num (s .key)) (num (s .key)) refl) (leaving-is (started (s .key) (st .nextHandle)) (effect c s (started (s .key) (st .nextHandle) .state))))
+          (λ d. rw (
+            d,
+            starting-reach (rule c .reach) s (started (s .key) (st .nextHandle))
+                (begins-absent c s st e .0),
+            eq-eqb (num (s .key)) (num (s .key)) refl,
+          )
+          (leaving-is (started (s .key) (st .nextHandle)) (effect c s (started (s .key) (st .nextHandle) .state))))
           (λ d. rw d))
 
       other-at : begins c s st ≡ false →
-          bind (acts c s) (begunAt instanceKey (startOf c s st) j none) ≡ onAbsent (instances c) (eventBy s answered outcome) j
+          bind (acts c s) (begunAt instanceKey (startOf c s st) j none) ≡ onAbsent (instances c)
+          (eventBy s answered outcome) j
       other-at e =
           unfold startOf in
           split (eqb j (num (s .key)))
@@ -246,9 +266,11 @@ module _ (c : InstanceCall) (s : Sheet) (st : State) (fits : FitsGuid (s .key)) 
           (λ d. rw (e, d))
 
   present-at : (j : ℕ) (gone : List Guid) (outcome : ℕ) (x : Instance) → lookup instanceKey j (st .instances) ≡ some x →
-      bind (acts c s) (begunAt instanceKey (startOf c s st) j (some x)) ≡ onPresent (instances c) (eventBy s answered outcome) gone j x
+      bind (acts c s) (begunAt instanceKey (startOf c s st) j (some x)) ≡ onPresent (instances c)
+      (eventBy s answered outcome) gone j x
   present-at j gone outcome x n =
-      ap (bind (acts c s)) same-there ∙ rw (reach-is c s x, lookup-key instanceKey j (st .instances) x n, leaving-is x (effect c s (x .state)))
+      ap (bind (acts c s)) same-there ∙ rw
+      (reach-is c s x, lookup-key instanceKey j (st .instances) x n, leaving-is x (effect c s (x .state)))
     where
       same-there : begunAt instanceKey (startOf c s st) j (some x) ≡ some x
       same-there =
@@ -257,21 +279,25 @@ module _ (c : InstanceCall) (s : Sheet) (st : State) (fits : FitsGuid (s .key)) 
           (λ e. rw e
           (split (eqb (num (s .key)) j)
           (λ d.
-          let p : lookup instanceKey j (st .instances) ≡ none = rw (← eqb-true (num (s .key)) j d) (begins-absent c s st e .1) in
+          let p : lookup instanceKey j (st .instances) ≡ none = rw (← eqb-true (num (s .key)) j d)
+          (begins-absent c s st e .1) in
           let z : _≡_ {A = ℕ} 0 1 = cc in absurd (omega arith))
           (λ d. rw d)))
           (λ e. rw e)
 
   pub turned-at : (j : ℕ) (gone : List Guid) (outcome : ℕ) →
-      lookup instanceKey j (instancesAfter c s st) ≡ onInstance (instances c) (eventBy s answered outcome) gone j (lookup instanceKey j (st .instances))
+      lookup instanceKey j (instancesAfter c s st) ≡ onInstance (instances c) (eventBy s answered outcome) gone j
+      (lookup instanceKey j (st .instances))
   unfolding instancesAfter
   turned-at j gone outcome =
       ap (λ (l : List Instance). lookup instanceKey j (sift (acts c s) l)) (begun-is c s st)
-      ∙ turn-at instanceKey bound (startOf c s st) (acts c s) (st .instances) (start-below c s st fits) (acts-keeps c s) rises j
+      ∙ turn-at instanceKey bound (startOf c s st) (acts c s) (st .instances) (start-below c s st fits)
+      (acts-keeps c s) rises j
       ∙ go (lookup instanceKey j (st .instances)) refl
     where
       go : (o : Option Instance) → lookup instanceKey j (st .instances) ≡ o →
-          bind (acts c s) (begunAt instanceKey (startOf c s st) j o) ≡ onInstance (instances c) (eventBy s answered outcome) gone j o
+          bind (acts c s) (begunAt instanceKey (startOf c s st) j o) ≡ onInstance (instances c)
+          (eventBy s answered outcome) gone j o
       go none n = absent-at j gone outcome n
       go (some x) n = present-at j gone outcome x n
 
@@ -303,9 +329,11 @@ handles-more true hs new next after e n d a =
 handles-more false hs new next after e n d a = rw (d, append-nil hs) (e, omega arith)
 
 -- a state whose instances stay, and accounts that no call altered
-pub instances-stay : (st st′ : State) (acc : InstanceAccounts) (c : Call) (e : Event) (gone : List Guid) → st′ .instances ≡ st .instances →
+pub instances-stay : (st st′ : State) (acc : InstanceAccounts) (c : Call) (e : Event) (gone : List Guid) →
+    st′ .instances ≡ st .instances →
     st′ .nextHandle ≡ st .nextHandle → e .handle ≡ 0 →
-    ((j : ℕ) (x : Instance) → lookup instanceKey j (st .instances) ≡ some x → onPresent c e gone j x ≡ some x) → InstanceSim st acc →
+    ((j : ℕ) (x : Instance) → lookup instanceKey j (st .instances) ≡ some x → onPresent c e gone j x ≡ some x) →
+    InstanceSim st acc →
     InstanceSim st′ (S.reach (some c) e gone acc)
 instances-stay st st′ acc c e gone same next silent quiet m =
     record {
@@ -333,11 +361,14 @@ tracker-heard st st′ acc c e gone same next silent m =
     instances-stay st st′ acc (tracker c) e gone same next silent (λ j x n. refl) m
 
 -- codes 2 and 9 at the limit
-pub limit-heard : (st : State) (acc : InstanceAccounts) (c : InstanceCall) (s : Sheet) (gone : List Guid) → limitedBy (rule c .reach) ≡ true →
+pub limit-heard : (st : State) (acc : InstanceAccounts) (c : InstanceCall) (s : Sheet) (gone : List Guid) →
+    limitedBy (rule c .reach) ≡ true →
     known s st ≡ false → InstanceSim st acc → InstanceSim st (S.reach (some (instances c)) (eventBy s 0 0) gone acc)
-limit-heard st acc c s gone limited unknown m = instances-stay st st acc (instances c) (eventBy s 0 0) gone refl refl refl far m
+limit-heard st acc c s gone limited unknown m =
+    instances-stay st st acc (instances c) (eventBy s 0 0) gone refl refl refl far m
   where
-    far : (j : ℕ) (x : Instance) → lookup instanceKey j (st .instances) ≡ some x → onPresent (instances c) (eventBy s 0 0) gone j x ≡ some x
+    far : (j : ℕ) (x : Instance) → lookup instanceKey j (st .instances) ≡ some x →
+        onPresent (instances c) (eventBy s 0 0) gone j x ≡ some x
     far j x n =
         let k : instanceKey x ≡ j = lookup-key instanceKey j (st .instances) x n in
         let r : reachedBy (wayOf c) s j x ≡ eqb j (num (s .key)) =
@@ -360,15 +391,18 @@ stopped-stays s outcome gone j x e =
     ap (λ (b : Bool). cond (isKeyed s j && b) (S.leaving x (some (S.admitting s (x .state)))) (some x)) e
     ∙ cond-off (isKeyed s j) (S.leaving x (some (S.admitting s (x .state)))) (some x)
 
-pub stopped-heard : (st : State) (acc : InstanceAccounts) (s : Sheet) (outcome : ℕ) (gone : List Guid) → eqb outcome 0 ≡ false → InstanceSim st acc →
+pub stopped-heard : (st : State) (acc : InstanceAccounts) (s : Sheet) (outcome : ℕ) (gone : List Guid) →
+    eqb outcome 0 ≡ false → InstanceSim st acc →
     InstanceSim st (S.reach (some (joined admit)) (eventBy s 0 outcome) gone acc)
 stopped-heard st acc s outcome gone e m =
-    instances-stay st st acc (joined admit) (eventBy s 0 outcome) gone refl refl refl (λ j x n. stopped-stays s outcome gone j x e) m
+    instances-stay st st acc (joined admit) (eventBy s 0 outcome) gone refl refl refl
+    (λ j x n. stopped-stays s outcome gone j x e) m
 
 -- ---- an instance call that acts
 
 -- the counter moves on by one where an instance is started
-pub next-is : (c : InstanceCall) (s : Sheet) (st : State) → 1 ≤ st .nextHandle → (begins c s st ≡ true → st .nextHandle < 2 ^ 63) →
+pub next-is : (c : InstanceCall) (s : Sheet) (st : State) → 1 ≤ st .nextHandle →
+    (begins c s st ≡ true → st .nextHandle < 2 ^ 63) →
     nextAfter c s st ≡ st .nextHandle + bit (begins c s st)
 unfolding nextAfter allocated
 next-is c s st one room =
@@ -378,11 +412,19 @@ next-is c s st one room =
     (λ e. rw e (sym (add-zero (st .nextHandle))))
 
 -- the handles that the call starts
-starts-are : (c : InstanceCall) (s : Sheet) (st : State) (fits : FitsGuid (s .key)) (rises : Within instanceKey 0 bound (st .instances)) (one : 1 ≤ st .nextHandle) (outcome : ℕ) →
-    startsAt (eventBy s (answered c s st fits rises one) outcome) (lookup instanceKey (num (s .key)) (st .instances)) ≡ cond (begins c s st) (st .nextHandle ∷ []) []
+starts-are : (c : InstanceCall) (s : Sheet) (st : State) (fits : FitsGuid (s .key))
+    (rises : Within instanceKey 0 bound (st .instances)) (one : 1 ≤ st .nextHandle) (outcome : ℕ) →
+    startsAt (eventBy s (answered c s st fits rises one) outcome) (lookup instanceKey (num (s .key)) (st .instances)) ≡ cond
+    (begins c s st) (st .nextHandle ∷ []) []
 starts-are c s st fits rises one outcome =
     split (begins c s st)
-    (λ e. rw (begins-absent c s st e .1, answered-new c s st fits rises one e, e, ne-eqb (st .nextHandle) 0 (λ q. omega arith)))
+    (λ e. rw (
+      begins-absent c s st e .1,
+      answered-new c s st fits rises one e,
+      e,
+      ne-eqb (st .nextHandle) 0
+          (λ q. omega arith),
+    ))
     (λ e. rw e (go e (lookup instanceKey (num (s .key)) (st .instances)) refl))
   where
     go : begins c s st ≡ false → (o : Option Instance) → lookup instanceKey (num (s .key)) (st .instances) ≡ o →
@@ -390,7 +432,8 @@ starts-are c s st fits rises one outcome =
     go e none n = rw (answered-none c s st fits rises one e n)
     go e (some x) n = refl
 
-pub instance-heard : (st : State) (acc : InstanceAccounts) (c : InstanceCall) (s : Sheet) (gone : List Guid) (outcome : ℕ) → FitsGuid (s .key) →
+pub instance-heard : (st : State) (acc : InstanceAccounts) (c : InstanceCall) (s : Sheet) (gone : List Guid)
+    (outcome : ℕ) → FitsGuid (s .key) →
     (begins c s st ≡ true → st .nextHandle < 2 ^ 63) → InstanceSim st acc →
     InstanceSim (instanceTurn c s st .state)
     (S.reach (some (instances c)) (eventBy s (instanceTurn c s st .answer .handle .0) outcome) gone acc)
@@ -398,7 +441,8 @@ unfolding instanceTurn answered
 instance-heard st acc c s gone outcome fits room m =
     let one : 1 ≤ st .nextHandle = one-next st acc m in
     let h : ℕ = answered c s st fits (m .rising) one in
-    let more = handles-more (begins c s st) (acc .handles) (startsAt (eventBy s h outcome) (acc .at (num (s .key)))) (st .nextHandle) (nextAfter c s st)
+    let more = handles-more (begins c s st) (acc .handles) (startsAt (eventBy s h outcome) (acc .at (num (s .key))))
+    (st .nextHandle) (nextAfter c s st)
     (m .handles) (m .next)
     (ap (startsAt (eventBy s h outcome)) (sym (m .agree (num (s .key)))) ∙ starts-are c s st fits (m .rising) one outcome)
     (next-is c s st one room) in
@@ -433,12 +477,18 @@ pub tried-none : (s : Sheet) (j h : ℕ) (o : Option Instance) → h ≡ 0 →
 tried-none s j h none e n = refl
 tried-none s j h (some x) e n =
     split (isKeyed s j)
-    (λ k. let q : some record { key = x .key; handle = x .handle; state = Rattle.model.specs.Instances.ownershipTried s (x .state) } ≡ none = rw k at n in
+    (λ k. let q : some record {
+      key = x .key;
+      handle = x .handle;
+      state = Rattle.model.specs.Instances.ownershipTried s
+          (x .state);
+    } ≡ none = rw k at n in
     let z : _≡_ {A = ℕ} 0 1 = cc in absurd (omega arith))
     (λ k. let q : some x ≡ none = rw k at n in q)
 
 tried-starts : (s : Sheet) (j h before : ℕ) (o : Option Instance) → before ≡ 0 →
-    startsAt (eventBy s h 0) (onInstance (instances acceptUnderExclusiveOwnership) (eventBy s before 0) [] j o) ≡ startsAt (eventBy s h 0) o
+    startsAt (eventBy s h 0) (onInstance (instances acceptUnderExclusiveOwnership) (eventBy s before 0) [] j o) ≡ startsAt
+    (eventBy s h 0) o
 tried-starts s j h before none e = split (isKeyed s j) (λ k. rw (e, k)) (λ k. rw k)
 tried-starts s j h before (some x) e = split (isKeyed s j) (λ k. rw k) (λ k. rw k)
 
@@ -447,7 +497,8 @@ silent-starts s h none e = rw e
 silent-starts s h (some x) e = refl
 
 -- accounts that agree at each key, with the same handles
-pub same-accounts : (st : State) (acc acc′ : InstanceAccounts) → ((j : ℕ) → acc .at j ≡ acc′ .at j) → acc .handles ≡ acc′ .handles →
+pub same-accounts : (st : State) (acc acc′ : InstanceAccounts) → ((j : ℕ) → acc .at j ≡ acc′ .at j) →
+    acc .handles ≡ acc′ .handles →
     InstanceSim st acc → InstanceSim st acc′
 same-accounts st acc acc′ e d m =
     record {
@@ -475,7 +526,8 @@ noted-silent : (s : Sheet) (st : State) → instanceTurn noteAdmitted s st .answ
 unfolding instanceTurn
 noted-silent s st = info-answer (lookup instanceKey (num (s .key)) (instancesAfter noteAdmitted s st))
 
-admitted-handle : (s : Sheet) (st : State) → admitted s st .answer .handle .0 ≡ instanceTurn observeAdmitted s (tried s st) .answer .handle .0
+admitted-handle : (s : Sheet) (st : State) →
+    admitted s st .answer .handle .0 ≡ instanceTurn observeAdmitted s (tried s st) .answer .handle .0
 unfolding admitted
 admitted-handle s st = refl
 
@@ -485,9 +537,11 @@ admitted-state s st = refl
 
 pub admit-heard : (st : State) (acc : InstanceAccounts) (s : Sheet) (gone : List Guid) → FitsGuid (s .key) →
     (lookup instanceKey (num (s .key)) (st .instances) ≡ none → st .nextHandle < 2 ^ 63) → InstanceSim st acc →
-    InstanceSim (admitted s st .state) (S.reach (some (joined admit)) (eventBy s (admitted s st .answer .handle .0) 0) gone acc)
+    InstanceSim (admitted s st .state)
+    (S.reach (some (joined admit)) (eventBy s (admitted s st .answer .handle .0) 0) gone acc)
 admit-heard st acc s gone fits room m =
-    rw (admitted-state s st, admitted-handle s st) (same-accounts (instanceTurn noteAdmitted s (observed s st) .state) acc3 _ points starts m3)
+    rw (admitted-state s st, admitted-handle s st)
+    (same-accounts (instanceTurn noteAdmitted s (observed s st) .state) acc3 _ points starts m3)
   where
     h1 : ℕ
     h1 = instanceTurn acceptUnderExclusiveOwnership s st .answer .handle .0
@@ -533,7 +587,8 @@ admit-heard st acc s gone fits room m =
           append-nil (acc2 .handles),
           silent-starts s h1 (acc .at (num (s .key))) (tried-silent s st),
           append-nil (acc .handles),
-        ) (ap (λ (l : List ℕ). acc .handles ++ l) (tried-starts s (num (s .key)) h2 h1 (acc .at (num (s .key))) (tried-silent s st)))
+        ) (ap (λ (l : List ℕ). acc .handles ++ l)
+        (tried-starts s (num (s .key)) h2 h1 (acc .at (num (s .key))) (tried-silent s st)))
 
 -- ---- codes 49 to 51
 

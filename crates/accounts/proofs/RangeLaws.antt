@@ -41,7 +41,8 @@ pub length-between : (lo n : ℕ) (p : ℕ → Bool) → length (between lo n p)
 unfolding between sumOver
 length-between lo zero p = refl
 length-between lo (suc n) p =
-    split (p lo) (λ e. rw e (omega (arith, length-between (suc lo) n p))) (λ e. rw e (omega (arith, length-between (suc lo) n p)))
+    split (p lo) (λ e. rw e (omega (arith, length-between (suc lo) n p)))
+    (λ e. rw e (omega (arith, length-between (suc lo) n p)))
 
 pub length-map : {A B : Type 0} (f : A → B) (xs : List A) → length (map f xs) ≡ length xs
 length-map f [] = refl
@@ -72,7 +73,8 @@ unfolding between greatest lastAfter
 last-greatest zero p last = refl
 last-greatest (suc n) p last =
     ap (λ (l : List ℕ). lastAfter (map guidNumbered l) last) (between-more 0 n p)
-    ∙ ap (λ (l : List Guid). lastAfter l last) (map-append guidNumbered (between 0 n p) (cond (p (0 + n)) ((0 + n) ∷ []) []))
+    ∙ ap (λ (l : List Guid). lastAfter l last)
+    (map-append guidNumbered (between 0 n p) (cond (p (0 + n)) ((0 + n) ∷ []) []))
     ∙ last-append (map guidNumbered (between 0 n p)) (map guidNumbered (cond (p (0 + n)) ((0 + n) ∷ []) [])) last
     ∙ rw (zero-add n) (split (p n) (λ e. rw e) (λ e. rw e (last-greatest n p last)))
 

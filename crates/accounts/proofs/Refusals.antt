@@ -107,7 +107,8 @@ tracker-accepted acknowledge s st = refl
 -- ---- the number of a turn, from the state
 
 instance-number : (places : ℕ) (c : InstanceCall) (s : Sheet) (st : State) →
-    instanceCall places c s st .answer .number ≡ cond (limitedBy (rule c .reach) && atLimit s st) 0 (lateRefusal places c s st)
+    instanceCall places c s st .answer .number ≡ cond (limitedBy (rule c .reach) && atLimit s st) 0
+    (lateRefusal places c s st)
 unfolding instanceCall
 instance-number places c s st =
     split (limitedBy (rule c .reach) && atLimit s st)
@@ -123,7 +124,8 @@ tracker-number c s st =
     (λ e. rw e (tracker-accepted c s st ∙ sym (eqb-true (trackerLate c s st) 0 e)))
     (λ e. rw e)
 
-loss-number : (c : TrackerCall) (gs : List Guid) (s : Sheet) (st : State) → lossCall c gs s st .answer .number ≡ trackerLate c s st
+loss-number : (c : TrackerCall) (gs : List Guid) (s : Sheet) (st : State) →
+    lossCall c gs s st .answer .number ≡ trackerLate c s st
 unfolding lossCall afterLoss
 loss-number c gs s st =
     split (eqb (trackerLate c s st) 0) (λ e. rw e (sym (eqb-true (trackerLate c s st) 0 e))) (λ e. rw e)
@@ -191,21 +193,32 @@ module _ (places : ℕ) (s : Sheet) (st : State) (acc : Accounts) (fits : SheetF
   abbrev judgedNumber : Call → ℕ
   judgedNumber c = cond (eqb (sheetRefusal c s st) 0) (turn places c s st .answer .number) (sheetRefusal c s st)
 
-  ordered-number : (c : Call) → Ordered c s → acknowledgeOk c s st ≡ true → judgedNumber c ≡ turn places c s st .answer .number
+  ordered-number : (c : Call) → Ordered c s → acknowledgeOk c s st ≡ true →
+      judgedNumber c ≡ turn places c s st .answer .number
   ordered-number c o a = rw (passing c o, a)
 
   tracker-busy : (c : TrackerCall) → Ordered (tracker c) s → judgedNumber (tracker c) ≡ busyTracker c s acc
   tracker-busy matched o = ordered-number (tracker matched) o refl ∙ tracker-number matched s st ∙ match-busy
   tracker-busy unmatched o = ordered-number (tracker unmatched) o refl ∙ tracker-number unmatched s st
-  tracker-busy lostWithParticipant o = ordered-number (tracker lostWithParticipant) o refl ∙ tracker-number lostWithParticipant s st
+  tracker-busy lostWithParticipant o =
+      ordered-number (tracker lostWithParticipant) o refl ∙ tracker-number lostWithParticipant s st
   tracker-busy writerAsserted o = ordered-number (tracker writerAsserted) o refl ∙ tracker-number writerAsserted s st
-  tracker-busy participantAsserted o = ordered-number (tracker participantAsserted) o refl ∙ tracker-number participantAsserted s st
+  tracker-busy participantAsserted o =
+      ordered-number (tracker participantAsserted) o refl ∙ tracker-number participantAsserted s st
   tracker-busy expire o = ordered-number (tracker expire) o refl ∙ tracker-number expire s st ∙ expire-busy
   tracker-busy takeLost o = ordered-number (tracker takeLost) o refl ∙ tracker-number takeLost s st
   tracker-busy takeStatus o = ordered-number (tracker takeStatus) o refl ∙ tracker-number takeStatus s st
   tracker-busy acknowledge o =
-      rw (passing (tracker acknowledge) o, tracker-number acknowledge s st, m .sim .writers .acknowledgedAlive, m .sim .writers .acknowledgedNotAlive)
-      (eight (not (within (acc .writers .acknowledgedAlive +ℤ toZ w32 (s .first)) && within (acc .writers .acknowledgedNotAlive +ℤ toZ w32 (s .second)))))
+      rw (
+        passing
+            (tracker acknowledge) o,
+        tracker-number acknowledge s st,
+        m .sim .writers .acknowledgedAlive,
+        m .sim .writers .acknowledgedNotAlive,
+      )
+      (eight (not
+      (within (acc .writers .acknowledgedAlive +ℤ toZ w32 (s .first)) && within
+      (acc .writers .acknowledgedNotAlive +ℤ toZ w32 (s .second)))))
     where
       eight : (b : Bool) → _≡_ {A = ℕ} (cond (eqb (cond b 8 0) 0) 0 (cond b 8 0)) (cond b 8 0)
       eight true = refl
@@ -225,13 +238,17 @@ module _ (places : ℕ) (s : Sheet) (st : State) (acc : Accounts) (fits : SheetF
 -- ---- on bytes
 
 -- the buffers of the accounts have their lengths
-laid-lengths : (places : ℕ) (sheet : List ℕ) (st : State) (out : List ℕ) → Fitting places st → length sheet ≡ 256 → length out ≡ 4096 →
+laid-lengths : (places : ℕ) (sheet : List ℕ) (st : State) (out : List ℕ) → Fitting places st → length sheet ≡ 256 →
+    length out ≡ 4096 →
     lengthsOk places sheet (layOut places st out) ≡ true
 unfolding lengthsOk layOut
 laid-lengths places sheet st out f n o =
-    let pens = length-lay instanceBytes 512 FitsInstance length-instance (places * 512) (st .instances) (f .instances) (mul-le-mul-right 512 (f .fewInstances)) in
-    let writers = length-lay writerBytes 40 FitsWriter (λ w q. length-writer w) 5120 (st .writers) (f .writers) (omega (arith, f .fewWriters)) in
-    let lost = length-lay guidBytes 16 FitsGuid (λ g q. length-guid g) 4096 (st .lost) (f .lost) (omega (arith, f .fewLost)) in
+    let pens = length-lay instanceBytes 512 FitsInstance length-instance (places * 512) (st .instances) (f .instances)
+    (mul-le-mul-right 512 (f .fewInstances)) in
+    let writers = length-lay writerBytes 40 FitsWriter (λ w q. length-writer w) 5120 (st .writers) (f .writers)
+    (omega (arith, f .fewWriters)) in
+    let lost = length-lay guidBytes 16 FitsGuid (λ g q. length-guid g) 4096 (st .lost) (f .lost)
+    (omega (arith, f .fewLost)) in
     rw (pens, writers, lost, n, o, eq-eqb (places * 512) (places * 512) refl)
 
 settled-number : (places : ℕ) (t : Turned) (l : Lent) → settle places t l .answer .number ≡ t .answer .number
@@ -244,25 +261,31 @@ judged-number : (places : ℕ) (c : Call) (s : Sheet) (st : State) (out : List �
 unfolding judged
 judged-number places c s st out f =
     rw (read-back places st out f)
-    (split (eqb (sheetRefusal c s st) 0) (λ e. rw e (settled-number places (turn places c s st) (layOut places st out))) (λ e. rw e))
+    (split (eqb (sheetRefusal c s st) 0) (λ e. rw e (settled-number places (turn places c s st) (layOut places st out)))
+    (λ e. rw e))
 
-call-busy : (places : ℕ) (sheet : List ℕ) (st : State) (out : List ℕ) (acc : Accounts) (c : Call) → Bytes sheet → length sheet ≡ 256 → length out ≡ 4096 →
+call-busy : (places : ℕ) (sheet : List ℕ) (st : State) (out : List ℕ) (acc : Accounts) (c : Call) → Bytes sheet →
+    length sheet ≡ 256 → length out ≡ 4096 →
     callOfCode (sheetOf sheet .code) ≡ some c → Ordered c (sheetOf sheet) → Held places st acc →
     callIn places sheet (layOut places st out) .answer .number ≡ busy places c (sheetOf sheet) acc
 unfolding callIn
 call-busy places sheet st out acc c b n o q d m =
     rw (laid-lengths places sheet st out (held-fits places st acc m) n o, q, formed places st out acc m)
-    (judged-number places c (sheetOf sheet) st out (held-fits places st acc m) ∙ judged-busy places (sheetOf sheet) st acc (sheet-fits sheet b n) m c d)
+    (judged-number places c (sheetOf sheet) st out (held-fits places st acc m) ∙ judged-busy places (sheetOf sheet) st acc
+    (sheet-fits sheet b n) m c d)
 
 -- after any list, a sheet of 256 bytes with an Out of 4,096, a valid code and all in order is refused by nothing but 8 and
 -- 9 to 13, each where section 8 says on the accounts
-pub only-busy : (places : ℕ) (is : List Lending) (out : List ℕ) (i : Lending) (c : Call) → All SheetBytes is → SheetBytes i →
-    length (i .sheet) ≡ 256 → length (i .out) ≡ 4096 → callOfCode (sheetOf (i .sheet) .code) ≡ some c → Ordered c (sheetOf (i .sheet)) →
+pub only-busy : (places : ℕ) (is : List Lending) (out : List ℕ) (i : Lending) (c : Call) → All SheetBytes is →
+    SheetBytes i →
+    length (i .sheet) ≡ 256 → length (i .out) ≡ 4096 → callOfCode (sheetOf (i .sheet) .code) ≡ some c →
+    Ordered c (sheetOf (i .sheet)) →
     next (callIn places) i (final (callIn places) is (fresh places out)) .answer .number
     ≡ busy places c (sheetOf (i .sheet)) (accountsOf (history (callIn places) is (fresh places out)))
 only-busy places is out i c b bytes n o q d =
     let m = after-fresh places is out b in
-    ap (λ (l : Lent). callIn places (i .sheet) l .answer .number) (ap (withOut (i .out)) (m .laid) ∙ out-replaced places (m .state) _ (i .out))
+    ap (λ (l : Lent). callIn places (i .sheet) l .answer .number)
+    (ap (withOut (i .out)) (m .laid) ∙ out-replaced places (m .state) _ (i .out))
     ∙ call-busy places (i .sheet) (m .state) (i .out) _ c bytes n o q d (m .held)
 
 -- ---- no call is refused by 3, whatever its sheet and Out
@@ -278,7 +301,8 @@ link : (b : Bool) (n m : ℕ) → eqb n 3 ≡ false → NotThree m → NotThree 
 link b n m p q = either NotThree b n m (λ e. record { is = p }) (λ e. q)
 
 late-other : (c : TrackerCall) (s : Sheet) (st : State) → NotThree (trackerLate c s st)
-late-other matched s st = link (not (isSome (find (hasGuid (s .guid)) (st .writers))) && leb 128 (length (st .writers))) 11 0 refl zero-other
+late-other matched s st =
+    link (not (isSome (find (hasGuid (s .guid)) (st .writers))) && leb 128 (length (st .writers))) 11 0 refl zero-other
 late-other unmatched s st = zero-other
 late-other lostWithParticipant s st = zero-other
 late-other writerAsserted s st = zero-other
@@ -288,7 +312,8 @@ late-other takeLost s st = zero-other
 late-other takeStatus s st = zero-other
 late-other acknowledge s st = zero-other
 
-instance-other : (places : ℕ) (c : InstanceCall) (s : Sheet) (st : State) → NotThree (instanceCall places c s st .answer .number)
+instance-other : (places : ℕ) (c : InstanceCall) (s : Sheet) (st : State) →
+    NotThree (instanceCall places c s st .answer .number)
 unfolding lateRefusal
 instance-other places c s st =
     subst NotThree (sym (instance-number places c s st))
@@ -297,7 +322,8 @@ instance-other places c s st =
     (link (begins c s st && spent st) 13 _ refl
     (link (rule c .addsWriter && crowds s (reached c s (st .instances))) 10 0 refl zero-other))))
 
-admit-other : (places : ℕ) (s : Sheet) (st : State) (x : Option Instance) → NotThree (admitWith places s st x .answer .number)
+admit-other : (places : ℕ) (s : Sheet) (st : State) (x : Option Instance) →
+    NotThree (admitWith places s st x .answer .number)
 admit-other places s st x =
     subst NotThree (sym (admit-number places s st x))
     (link (not (inOrder s x)) 0 _ refl
@@ -307,9 +333,11 @@ admit-other places s st x =
     (link (not (known s st) && spent st) 13 _ refl
     (link (crowds s x) 10 0 refl zero-other))))))
 
-joined-other : (places : ℕ) (c : JoinedCall) (s : Sheet) (st : State) → NotThree (turn places (joined c) s st .answer .number)
+joined-other : (places : ℕ) (c : JoinedCall) (s : Sheet) (st : State) →
+    NotThree (turn places (joined c) s st .answer .number)
 joined-other places admit s st = admit-other places s st (find (hasKey (s .key)) (st .instances))
-joined-other places lapse s st = subst NotThree (sym (loss-number expire (movers expire s (st .writers)) s st)) (late-other expire s st)
+joined-other places lapse s st =
+    subst NotThree (sym (loss-number expire (movers expire s (st .writers)) s st)) (late-other expire s st)
 joined-other places part s st = subst NotThree (sym (loss-number unmatched (s .guid ∷ []) s st)) zero-other
 joined-other places depart s st = subst NotThree (sym (loss-number lostWithParticipant (s .guid ∷ []) s st)) zero-other
 
@@ -332,7 +360,8 @@ coded-other places none s st out acc m = record { is = refl }
 coded-other places (some c) s st out acc m =
     rw (formed places st out acc m)
     (subst NotThree (sym (judged-number places c s st out (held-fits places st acc m)))
-    (either NotThree (eqb (sheetRefusal c s st) 0) (turn places c s st .answer .number) (sheetRefusal c s st) (λ e. turn-other places c s st) (λ e. sheet-other c s st)))
+    (either NotThree (eqb (sheetRefusal c s st) 0) (turn places c s st .answer .number) (sheetRefusal c s st)
+    (λ e. turn-other places c s st) (λ e. sheet-other c s st)))
 
 call-other : (places : ℕ) (sheet : List ℕ) (st : State) (out : List ℕ) (acc : Accounts) → Held places st acc →
     NotThree (callIn places sheet (layOut places st out) .answer .number)
@@ -347,5 +376,6 @@ pub never-3 : (places : ℕ) (is : List Lending) (out : List ℕ) (i : Lending) 
 never-3 places is out i b =
     let m = after-fresh places is out b in
     eqb-false _ 3
-    (ap (λ (l : Lent). eqb (callIn places (i .sheet) l .answer .number) 3) (ap (withOut (i .out)) (m .laid) ∙ out-replaced places (m .state) _ (i .out))
+    (ap (λ (l : Lent). eqb (callIn places (i .sheet) l .answer .number) 3)
+    (ap (withOut (i .out)) (m .laid) ∙ out-replaced places (m .state) _ (i .out))
     ∙ call-other places (i .sheet) (m .state) (i .out) _ (m .held) .is)

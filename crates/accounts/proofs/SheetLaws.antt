@@ -43,7 +43,8 @@ bytes-padded n (x ∷ xs) b zero = b zero
 bytes-padded n (x ∷ xs) b (suc i) = bytes-padded n xs (λ j. b (suc j)) i
 
 length-padded : (xs : List ℕ) → length xs ≤ 144 → length (padded xs) ≡ 144
-length-padded xs l = omega (arith, length-append xs (replicate (144 - length xs) 0), length-replicate {A = ℕ} (144 - length xs) 0)
+length-padded xs l =
+    omega (arith, length-append xs (replicate (144 - length xs) 0), length-replicate {A = ℕ} (144 - length xs) 0)
 
 zeros-padded : (n : ℕ) (xs : List ℕ) → length xs ≡ n → allZero (drop n (padded xs)) ≡ true
 zeros-padded n xs e = ap allZero (drop-at xs (replicate (144 - length xs) 0) n e) ∙ all-zeros (144 - length xs)
@@ -58,7 +59,8 @@ sheet-fits b bytes size =
       time2 = record { sec = be-lt 4 b 48 bytes; nanosec = be-lt 4 b 52 bytes };
       strength = be-lt 4 b 76 bytes;
       holderSize = length-padded part (omega (arith, part-length));
-      holderBytes = bytes-padded (144 - length part) part (bytes-take (min (be 2 b 82) 144) (drop 84 b) (bytes-drop 84 b bytes));
+      holderBytes =
+          bytes-padded (144 - length part) part (bytes-take (min (be 2 b 82) 144) (drop 84 b) (bytes-drop 84 b bytes));
       holderZeros = λ l. zeros-padded (be 2 b 82) part (part-length ∙ omega arith);
     }
   where
@@ -102,9 +104,21 @@ pub taken-holder : (s : Sheet) → SheetFits s → s .holder .len ≤ 144 →
     SoundHolder record { present = true; len = s .holder .len; bytes = s .holder .bytes }
 unfolding holderOk
 taken-holder s f l =
-    record { len = l; size = f .holderSize; bytes = f .holderBytes; ok = rw (le-leb (s .holder .len) 144 l, f .holderZeros l) }
+    record {
+      len = l;
+      size = f .holderSize;
+      bytes = f .holderBytes;
+      ok = rw
+          (le-leb (s .holder .len) 144 l, f .holderZeros l);
+    }
 
 pub used-holder : (s : Sheet) → SheetFits s → s .holder .len ≤ 144 → s .holder .present ≡ true → SoundHolder (s .holder)
 unfolding holderOk
 used-holder s f l p =
-    record { len = l; size = f .holderSize; bytes = f .holderBytes; ok = rw (p, le-leb (s .holder .len) 144 l, f .holderZeros l) }
+    record {
+      len = l;
+      size = f .holderSize;
+      bytes = f .holderBytes;
+      ok = rw
+          (p, le-leb (s .holder .len) 144 l, f .holderZeros l);
+    }

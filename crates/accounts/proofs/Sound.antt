@@ -89,7 +89,12 @@ fits-time t m = record { sec = m .sec; nanosec = m .nanosec }
 
 ok-life : (l : Life) → SoundLife l → lifeOk l ≡ true
 unfolding lifeOk
-ok-life l m = rw (lt-ltb (l .«disposed_generations») (2 ^ 31) (m .disposed), lt-ltb (l .«no_writers_generations») (2 ^ 31) (m .noWriters))
+ok-life l m =
+    rw (
+      lt-ltb (l .«disposed_generations») (2 ^ 31) (m .disposed),
+      lt-ltb (l .«no_writers_generations») (2 ^ 31)
+          (m .noWriters),
+    )
 
 pub members-set : (xs : List Guid) → members (setOf xs) ≡ xs
 unfolding setOf
@@ -115,7 +120,15 @@ length-set xs = refl
 ok-list : (xs : List Guid) → length xs ≤ 16 → Within num 0 bound xs → setOk (setOf xs) ≡ true
 unfolding setOk
 ok-list xs few rises =
-    rw (behind-set xs, members-set xs, length-set xs, le-leb (length xs) 16 few, within-rises num 0 bound xs rises, nils-are (16 - length xs))
+    rw (
+      behind-set xs,
+      members-set xs,
+      length-set xs,
+      le-leb (length xs) 16 few,
+      within-rises num 0 bound xs rises,
+      nils-are
+          (16 - length xs),
+    )
 
 fits-list : (xs : List Guid) → length xs ≤ 16 → All FitsGuid xs → FitsSet (setOf xs)
 unfolding setOf
@@ -132,12 +145,20 @@ ok-set w m = ap setOk (m .is) ∙ ok-list (m .list) (m .few) (m .rises)
 pub ok-state : (x : InstanceState) → SoundState x → instanceStateOk x ≡ true
 unfolding instanceStateOk
 ok-state x m =
-    rw (ok-life (x .life) (m .life), ok-times (x .times) (m .times), m .owner .ok, m .holder .ok) (ok-set (x .writers) (m .writers))
+    rw (ok-life (x .life) (m .life), ok-times (x .times) (m .times), m .owner .ok, m .holder .ok)
+    (ok-set (x .writers) (m .writers))
 
 pub fits-state : (x : InstanceState) → SoundState x → FitsState x
 fits-state x m =
     record {
-      life = record { disposed = omega (arith, m .life .disposed); noWriters = omega (arith, m .life .noWriters); count = m .life .count; samples = m .life .samples };
+      life =
+          record {
+            disposed = omega (arith, m .life .disposed);
+            noWriters = omega
+                (arith, m .life .noWriters);
+            count = m .life .count;
+            samples = m .life .samples;
+          };
       times = record {
         sample = fits-time (x .times .«last_sample») (m .times .sample);
         delivered = fits-time (x .times .«last_delivered») (m .times .delivered);
@@ -184,7 +205,8 @@ remove-within lo hi g (x ∷ xs) w =
 remove-length : (g : Guid) (xs : List Guid) → length (remove g xs) ≤ length xs
 unfolding remove
 remove-length g [] = omega arith
-remove-length g (x ∷ xs) = split (eqb (num x) (num g)) (λ e. rw e (omega arith)) (λ e. rw e (omega (arith, remove-length g xs)))
+remove-length g (x ∷ xs) =
+    split (eqb (num x) (num g)) (λ e. rw e (omega arith)) (λ e. rw e (omega (arith, remove-length g xs)))
 
 remove-fits : (g : Guid) (xs : List Guid) → All FitsGuid xs → All FitsGuid (remove g xs)
 unfolding remove
@@ -201,7 +223,8 @@ set-without g w m =
       fits = remove-fits g (m .list) (m .fits);
     }
 
-pub set-with : (g : Guid) (w : WriterSet) → FitsGuid g → (not (has g (members w)) && leb 16 (length (members w))) ≡ false → SoundSet w →
+pub set-with : (g : Guid) (w : WriterSet) → FitsGuid g → (not (has g (members w)) && leb 16 (length (members w))) ≡ false →
+    SoundSet w →
     SoundSet (setOf (insert g (members w)))
 set-with g w f room m =
     record {

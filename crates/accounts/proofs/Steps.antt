@@ -61,7 +61,8 @@ pub record Roomy (places : ℕ) (c : InstanceCall) (s : Sheet) (st : State) : Ty
   pub handles : begins c s st ≡ true → st .nextHandle < 2 ^ 63
   pub writers : rule c .addsWriter ≡ true → crowds s (reached c s (st .instances)) ≡ false
 
-pub roomy : (places : ℕ) (c : InstanceCall) (s : Sheet) (st : State) → eqb (lateRefusal places c s st) 0 ≡ true → Roomy places c s st
+pub roomy : (places : ℕ) (c : InstanceCall) (s : Sheet) (st : State) → eqb (lateRefusal places c s st) 0 ≡ true →
+    Roomy places c s st
 unfolding lateRefusal
 roomy places c s st e =
     let p = passed (begins c s st && full places st) 9 _ refl e in
@@ -75,7 +76,8 @@ roomy places c s st e =
 
 -- ---- instance calls
 
-pub writers-stay : (st : State) (xs : List Instance) (n : ℕ) (acc : WriterAccounts) → WriterSim st acc → WriterSim (withInstances xs n st) acc
+pub writers-stay : (st : State) (xs : List Instance) (n : ℕ) (acc : WriterAccounts) → WriterSim st acc →
+    WriterSim (withInstances xs n st) acc
 writers-stay st xs n acc m =
     record {
       rising = m .rising;
@@ -87,11 +89,13 @@ writers-stay st xs n acc m =
       changes = m .changes;
     }
 
-instance-writers : (c : InstanceCall) (s : Sheet) (st : State) (acc : WriterAccounts) → WriterSim st acc → WriterSim (instanceTurn c s st .state) acc
+instance-writers : (c : InstanceCall) (s : Sheet) (st : State) (acc : WriterAccounts) → WriterSim st acc →
+    WriterSim (instanceTurn c s st .state) acc
 unfolding instanceTurn
 instance-writers c s st acc m = writers-stay st (instancesAfter c s st) (nextAfter c s st) acc m
 
-instance-turned : (places : ℕ) (c : InstanceCall) (s : Sheet) (st : State) (acc : Accounts) → FitsGuid (s .key) → Sim st acc →
+instance-turned : (places : ℕ) (c : InstanceCall) (s : Sheet) (st : State) (acc : Accounts) → FitsGuid (s .key) →
+    Sim st acc →
     eqb (instanceCall places c s st .answer .number) 0 ≡ true →
     Sim (instanceCall places c s st .state) (advanced (instances c) s (instanceCall places c s st .answer) acc)
 unfolding instanceCall
@@ -125,7 +129,8 @@ told-silent takeLost s st = refl
 told-silent takeStatus s st = refl
 told-silent acknowledge s st = refl
 
-tracker-turned : (c : TrackerCall) (s : Sheet) (st : State) (acc : Accounts) → FitsGuid (s .guid) → All FitGuid (st .writers) → Sim st acc →
+tracker-turned : (c : TrackerCall) (s : Sheet) (st : State) (acc : Accounts) → FitsGuid (s .guid) →
+    All FitGuid (st .writers) → Sim st acc →
     eqb (trackerCall c s st .answer .number) 0 ≡ true →
     Sim (trackerCall c s st .state) (advanced (tracker c) s (trackerCall c s st .answer) acc)
 unfolding trackerCall trackerTurn
@@ -134,7 +139,9 @@ tracker-turned c s st acc g f m ok =
     (λ e.
     rw e record {
       writers = writer-heard c s st (acc .writers) g (movers-fit c s (st .writers) g f) (m .writers);
-      instances = unfold trackerState in tracker-heard st (trackerState c s st) (acc .instances) c _ [] refl refl (told-silent c s st) (m .instances);
+      instances =
+          unfold trackerState in tracker-heard st (trackerState c s st) (acc .instances) c _ [] refl refl
+          (told-silent c s st) (m .instances);
     })
     (λ e. never (sym (rw e at ok) ∙ e))
 
@@ -143,7 +150,8 @@ tracker-turned c s st acc g f m ok =
 -- the chain of admit: an outcome, a refusal, or the three calls where no refusal was met
 pub admit-cases : (P : Turned → Type 0) (places : ℕ) (s : Sheet) (st : State) (x : Option Instance) →
     ((n : ℕ) → eqb n 0 ≡ false → P (unchanged (stopping n) st)) → ((n : ℕ) → eqb n 0 ≡ false → P (refused n st)) →
-    ((not (known s st) && full places st) ≡ false → (not (known s st) && spent st) ≡ false → crowds s x ≡ false → P (admitted s st)) →
+    ((not (known s st) && full places st) ≡ false → (not (known s st) && spent st) ≡ false → crowds s x ≡ false →
+    P (admitted s st)) →
     P (admitWith places s st x)
 unfolding admitWith
 admit-cases P places s st x stopped barred taken =
@@ -155,30 +163,38 @@ admit-cases P places s st x stopped barred taken =
     (λ e5. either P (crowds s x) _ _ (λ e. barred 10 refl)
     (λ e6. either P (not (accepted s x)) _ _ (λ e. stopped 4 refl) (λ e7. taken e4 e5 e6)))))))
 
-admit-turned : (places : ℕ) (s : Sheet) (st : State) (acc : Accounts) (x : Option Instance) → FitsGuid (s .key) → Sim st acc →
+admit-turned : (places : ℕ) (s : Sheet) (st : State) (acc : Accounts) (x : Option Instance) → FitsGuid (s .key) →
+    Sim st acc →
     eqb (admitWith places s st x .answer .number) 0 ≡ true →
     Sim (admitWith places s st x .state) (advanced (joined admit) s (admitWith places s st x .answer) acc)
 admit-turned places s st acc x f m =
-    admit-cases (λ (t : Turned). eqb (t .answer .number) 0 ≡ true → Sim (t .state) (advanced (joined admit) s (t .answer) acc)) places s st x
+    admit-cases
+    (λ (t : Turned). eqb (t .answer .number) 0 ≡ true → Sim (t .state)
+    (advanced (joined admit) s (t .answer) acc)) places s st x
     (λ n e ok. record { writers = m .writers; instances = stopped-heard st (acc .instances) s n [] e (m .instances) })
     (λ n e ok. never (sym ok ∙ e))
     (λ e4 e5 e6 ok. taken e5)
   where
-    room : (not (known s st) && spent st) ≡ false → lookup instanceKey (num (s .key)) (st .instances) ≡ none → st .nextHandle < 2 ^ 63
+    room : (not (known s st) && spent st) ≡ false → lookup instanceKey (num (s .key)) (st .instances) ≡ none →
+        st .nextHandle < 2 ^ 63
     room e n =
         let k : known s st ≡ false = any-lookup instanceKey (num (s .key)) (st .instances) ∙ ap isSome n in
         leb-false (2 ^ 63) (st .nextHandle) (rw k at e)
 
-    taken : (not (known s st) && spent st) ≡ false → Sim (admitted s st .state) (advanced (joined admit) s (admitted s st .answer) acc)
+    taken : (not (known s st) && spent st) ≡ false →
+        Sim (admitted s st .state) (advanced (joined admit) s (admitted s st .answer) acc)
     taken e =
         unfold admitted in
         record {
-          writers = instance-writers _ s _ (acc .writers) (instance-writers _ s _ (acc .writers) (instance-writers _ s st (acc .writers) (m .writers)));
+          writers =
+              instance-writers _ s _ (acc .writers)
+              (instance-writers _ s _ (acc .writers) (instance-writers _ s st (acc .writers) (m .writers)));
           instances = admit-heard st (acc .instances) s [] f (room e) (m .instances);
         }
 
 -- a tracker call, then codes 7 and 18 for each writer gone
-loss-turned : (c : TrackerCall) (d : JoinedCall) (s : Sheet) (st : State) (acc : Accounts) (gs : List Guid) → FitsGuid (s .guid) →
+loss-turned : (c : TrackerCall) (d : JoinedCall) (s : Sheet) (st : State) (acc : Accounts) (gs : List Guid) →
+    FitsGuid (s .guid) →
     All FitGuid (st .writers) → Sim st acc → seenAs (joined d) ≡ some c →
     gs ≡ goneBy (joined d) s (expiredIn (acc .writers .at) (writersAfter c s (acc .writers .at))) →
     ((e : Event) (gone : List Guid) (j : ℕ) (x : Instance) → onPresent (joined d) e gone j x ≡ losing gone (e .sheet) x) →
@@ -191,19 +207,24 @@ loss-turned c d s st acc gs g f m seen gone losing ok =
     rw (e, seen, ← gone) record {
       writers = writers-stay (trackerState c s st) _ _ (heardBy c s (acc .writers) (writersAfter c s (acc .writers .at)))
           (writer-heard c s st (acc .writers) g (movers-fit c s (st .writers) g f) (m .writers));
-      instances = unfold trackerState in loss-heard st _ (acc .instances) d s gs refl refl (λ j x. losing _ gs j x) (m .instances);
+      instances =
+          unfold trackerState in loss-heard st _ (acc .instances) d s gs refl refl (λ j x. losing _ gs j x) (m .instances);
     })
     (λ e. never (sym (rw e at ok) ∙ e))
 
-joined-turned : (places : ℕ) (c : JoinedCall) (s : Sheet) (st : State) (acc : Accounts) → FitsGuid (s .key) → FitsGuid (s .guid) →
+joined-turned : (places : ℕ) (c : JoinedCall) (s : Sheet) (st : State) (acc : Accounts) → FitsGuid (s .key) →
+    FitsGuid (s .guid) →
     All FitGuid (st .writers) → Sim st acc → eqb (turn places (joined c) s st .answer .number) 0 ≡ true →
     Sim (turn places (joined c) s st .state) (advanced (joined c) s (turn places (joined c) s st .answer) acc)
-joined-turned places admit s st acc k g f m ok = admit-turned places s st acc (find (hasKey (s .key)) (st .instances)) k m ok
+joined-turned places admit s st acc k g f m ok =
+    admit-turned places s st acc (find (hasKey (s .key)) (st .instances)) k m ok
 joined-turned places lapse s st acc k g f m ok =
     loss-turned expire lapse s st acc (movers expire s (st .writers)) g f m refl
-    (expired-are s (st .writers) (acc .writers .at) g (m .writers .rising) (m .writers .agree) (movers-fit expire s (st .writers) g f))
+    (expired-are s (st .writers) (acc .writers .at) g (m .writers .rising) (m .writers .agree)
+    (movers-fit expire s (st .writers) g f))
     (λ e gone j x. refl) ok
-joined-turned places part s st acc k g f m ok = loss-turned unmatched part s st acc (s .guid ∷ []) g f m refl refl (λ e gone j x. refl) ok
+joined-turned places part s st acc k g f m ok =
+    loss-turned unmatched part s st acc (s .guid ∷ []) g f m refl refl (λ e gone j x. refl) ok
 joined-turned places depart s st acc k g f m ok =
     loss-turned lostWithParticipant depart s st acc (s .guid ∷ []) g f m refl refl (λ e gone j x. refl) ok
 

@@ -88,7 +88,8 @@ module _ {A : Type 0} (key : A → ℕ) where
       split (ltb (key x) (key y))
       (λ l. rw l
       (split (eqb (key x) j)
-      (λ d. let q : key x ≡ j = eqb-true (key x) j d in let m : key x < key y = ltb-true (key x) (key y) l in rw (d, ne-eqb (key y) j (λ p. omega arith)))
+      (λ d. let q : key x ≡ j = eqb-true (key x) j d in let m : key x < key y = ltb-true (key x) (key y) l in rw
+      (d, ne-eqb (key y) j (λ p. omega arith)))
       (λ d. rw d (lookup-put j y xs))))
       (λ l. rw l
       (split (eqb (key x) (key y))
@@ -98,16 +99,19 @@ module _ {A : Type 0} (key : A → ℕ) where
       (λ d. rw (d, ne-eqb (key x) j (λ q. eqb-false (key y) j d (sym (eqb-true (key x) (key y) e) ∙ q))))))
       (λ e. rw e)))
 
-  pub within-put : (lo hi : ℕ) (y : A) (xs : List A) → lo ≤ key y → key y < hi → Within lo hi xs → Within lo hi (put key y xs)
+  pub within-put : (lo hi : ℕ) (y : A) (xs : List A) → lo ≤ key y → key y < hi → Within lo hi xs →
+      Within lo hi (put key y xs)
   unfolding put
   within-put lo hi y [] l h w = (l, h, tt)
   within-put lo hi y (x ∷ xs) l h w =
       split (ltb (key x) (key y))
-      (λ d. let m : key x < key y = ltb-true (key x) (key y) d in rw d (w .0, w .1, within-put (suc (key x)) hi y xs (omega arith) h (w .2)))
+      (λ d. let m : key x < key y = ltb-true (key x) (key y) d in rw d
+      (w .0, w .1, within-put (suc (key x)) hi y xs (omega arith) h (w .2)))
       (λ d. rw d
       (split (eqb (key x) (key y))
       (λ e. rw e (l, h, rw (eqb-true (key x) (key y) e) at (w .2)))
-      (λ e. let m : key y ≤ key x = ltb-false (key x) (key y) d in let n : key x ≢ key y = eqb-false (key x) (key y) e in rw e (l, h, (omega arith, w .1, w .2)))))
+      (λ e. let m : key y ≤ key x = ltb-false (key x) (key y) d in let n : key x ≢ key y = eqb-false (key x)
+      (key y) e in rw e (l, h, (omega arith, w .1, w .2)))))
 
   within-kept : (lo hi : ℕ) (k : ℕ) (o : Option A) (xs : List A) → ((y : A) → o ≡ some y → key y ≡ k) → lo ≤ k → k < hi →
       Within (suc k) hi xs → Within lo hi (kept o xs)
@@ -159,7 +163,8 @@ module _ {A : Type 0} (key : A → ℕ) where
   within-begin n none xs h w = w
   within-begin n (some y) xs h w = within-put 0 n y xs (omega arith) h w
 
-  module _ (n : ℕ) (b : Option A) (f : A → Option A) (xs : List A) (below : Below n b) (keeps : Keeps f) (w : Within 0 n xs) where
+  module _ (n : ℕ) (b : Option A) (f : A → Option A) (xs : List A) (below : Below n b) (keeps : Keeps f)
+      (w : Within 0 n xs) where
     pub turn-within : Within 0 n (sift f (begin b xs))
     turn-within = within-sift 0 n f (begin b xs) keeps (within-begin n b xs below w)
 
@@ -182,7 +187,8 @@ module _ {A : Type 0} (key : A → ℕ) where
   length-put lo hi y [] w = refl
   length-put lo hi y (x ∷ xs) w =
       split (ltb (key x) (key y))
-      (λ d. let l : key x < key y = ltb-true (key x) (key y) d in rw (d, ne-eqb (key x) (key y) (λ q. omega arith)) (omega (arith, length-put (suc (key x)) hi y xs (w .2))))
+      (λ d. let l : key x < key y = ltb-true (key x) (key y) d in rw (d, ne-eqb (key x) (key y) (λ q. omega arith))
+      (omega (arith, length-put (suc (key x)) hi y xs (w .2))))
       (λ d. let l : key y ≤ key x = ltb-false (key x) (key y) d in rw d
       (split (eqb (key x) (key y))
       (λ e. rw e (omega arith))
@@ -223,7 +229,8 @@ module _ {A : Type 0} (key : A → ℕ) where
       split (eqb lo (key x))
       (λ e.
       let q : lo ≡ key x = eqb-true lo (key x) e in
-      let v : Within (suc lo) (suc lo + n) xs = subst (λ (h : ℕ). Within (suc lo) h xs) (omega arith) (rw (← q) at (w .2)) in
+      let v : Within (suc lo) (suc lo + n) xs = subst (λ (h : ℕ). Within (suc lo) h xs) (omega arith)
+      (rw (← q) at (w .2)) in
       let i : between (suc lo) n (λ j. test p (lookup j (x ∷ xs))) ≡ map key (pick p xs) =
       between-ext (suc lo) n (λ j. test p (lookup j (x ∷ xs))) (λ j. test p (lookup j xs))
       (λ j l. ap (test p) (rest-at x xs j (omega arith)))
@@ -231,7 +238,8 @@ module _ {A : Type 0} (key : A → ℕ) where
       let f : lookup lo (x ∷ xs) ≡ some x = rw q (first-at x xs) in rw (f, i) (split (p x) (λ t. rw (t, q)) (λ t. rw t)))
       (λ e.
       let q : lo ≢ key x = eqb-false lo (key x) e in
-      let f : lookup lo (x ∷ xs) ≡ none = lookup-below lo (suc lo) (lo + suc n) (x ∷ xs) (omega arith) (omega arith, w .1, w .2) in
+      let f : lookup lo (x ∷ xs) ≡ none = lookup-below lo (suc lo) (lo + suc n) (x ∷ xs) (omega arith)
+      (omega arith, w .1, w .2) in
       let v : Within (suc lo) (suc lo + n) (x ∷ xs) =
       subst (λ (h : ℕ). Within (suc lo) h (x ∷ xs)) (omega arith) (omega arith, w .1, w .2) in
       rw f (pick-between (suc lo) n p (x ∷ xs) v))
@@ -245,14 +253,16 @@ module _ {A : Type 0} (key : A → ℕ) where
       split (eqb lo (key x))
       (λ e.
       let q : lo ≡ key x = eqb-true lo (key x) e in
-      let v : Within (suc lo) (suc lo + n) xs = subst (λ (h : ℕ). Within (suc lo) h xs) (omega arith) (rw (← q) at (w .2)) in
+      let v : Within (suc lo) (suc lo + n) xs = subst (λ (h : ℕ). Within (suc lo) h xs) (omega arith)
+      (rw (← q) at (w .2)) in
       let i : present (suc lo) n (λ j. lookup j (x ∷ xs)) ≡ xs =
       present-ext (suc lo) n (λ j. lookup j (x ∷ xs)) (λ j. lookup j xs) (λ j l. rest-at x xs j (omega arith))
       ∙ sym (within-present (suc lo) n xs v) in
       let f : lookup lo (x ∷ xs) ≡ some x = rw q (first-at x xs) in rw (f, i))
       (λ e.
       let q : lo ≢ key x = eqb-false lo (key x) e in
-      let f : lookup lo (x ∷ xs) ≡ none = lookup-below lo (suc lo) (lo + suc n) (x ∷ xs) (omega arith) (omega arith, w .1, w .2) in
+      let f : lookup lo (x ∷ xs) ≡ none = lookup-below lo (suc lo) (lo + suc n) (x ∷ xs) (omega arith)
+      (omega arith, w .1, w .2) in
       let v : Within (suc lo) (suc lo + n) (x ∷ xs) =
       subst (λ (h : ℕ). Within (suc lo) h (x ∷ xs)) (omega arith) (omega arith, w .1, w .2) in
       rw f (within-present (suc lo) n (x ∷ xs) v))
@@ -263,7 +273,8 @@ module _ {A : Type 0} (key : A → ℕ) where
   unfolding above
   within-above n hi [] w = refl
   within-above n hi (x ∷ xs) w =
-      rw (lt-ltb n (key x) (omega arith)) (within-above n hi xs (within-weaken (suc (key x)) (suc n) hi xs (omega arith) (w .2)))
+      rw (lt-ltb n (key x) (omega arith))
+      (within-above n hi xs (within-weaken (suc (key x)) (suc n) hi xs (omega arith) (w .2)))
 
   pub within-rises : (lo hi : ℕ) (xs : List A) → Within lo hi xs → rising key xs ≡ true
   unfolding rising

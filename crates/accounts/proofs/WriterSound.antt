@@ -56,7 +56,8 @@ unfolding writerOk
 ok-writer w m = rw (m .lease, lt-ltb (w .liveliness .«last_assertion») (2 ^ 62) (m .last)) (m .only)
 
 pub fits-writer : (w : Writer) → SoundWriter w → FitsWriter w
-fits-writer w m = record { guid = m .guid; lease = lease-small (w .liveliness .lease) (m .lease); last = omega (arith, m .last) }
+fits-writer w m =
+    record { guid = m .guid; lease = lease-small (w .liveliness .lease) (m .lease); last = omega (arith, m .last) }
 
 -- ---- one writer
 
@@ -77,17 +78,20 @@ match-clock s e =
       split (s .«lease_present») (λ l. rw l (both (clockOk (s .b)) true (rw l at (p .1)) .0)) (λ l. rw l),
     )
 
-matched-from : (s : Sheet) (st : WriterState) (last : ℕ) → FitsGuid (s .guid) → leaseOk (leaseOn s) ≡ true → last < 2 ^ 62 → SoundWriter (matchedFrom s st last)
+matched-from : (s : Sheet) (st : WriterState) (last : ℕ) → FitsGuid (s .guid) → leaseOk (leaseOn s) ≡ true →
+    last < 2 ^ 62 → SoundWriter (matchedFrom s st last)
 matched-from s Unasserted last g l h = record { guid = g; lease = l; last = h; only = refl }
 matched-from s Alive last g l h = record { guid = g; lease = l; last = h; only = refl }
 matched-from s NotAlive last g l h = record { guid = g; lease = l; last = h; only = refl }
 matched-from s Departed last g l h = record { guid = g; lease = l; last = omega arith; only = refl }
 
-matched-sound : (s : Sheet) (ws : List Writer) → ClockFits matched s → All SoundWriter ws → SoundWriter (matchedWriter s (find (hasGuid (s .guid)) ws))
+matched-sound : (s : Sheet) (ws : List Writer) → ClockFits matched s → All SoundWriter ws →
+    SoundWriter (matchedWriter s (find (hasGuid (s .guid)) ws))
 matched-sound s ws f a = go (find (hasGuid (s .guid)) ws) refl
   where
     go : (o : Option Writer) → find (hasGuid (s .guid)) ws ≡ o → SoundWriter (matchedWriter s o)
-    go none e = record { guid = f .guid; lease = match-clock s (f .clocks) .1; last = match-clock s (f .clocks) .0; only = refl }
+    go none e =
+        record { guid = f .guid; lease = match-clock s (f .clocks) .1; last = match-clock s (f .clocks) .0; only = refl }
     go (some w) e =
         matched-from s (w .liveliness .state) (w .liveliness .«last_assertion») (f .guid) (match-clock s (f .clocks) .1)
         (lookup-all writerKey SoundWriter (num (s .guid)) ws w a e .last)
@@ -124,14 +128,16 @@ unmatched-sound : (w : Writer) → SoundWriter w → SoundAfter (unmatchedFrom w
 unfolding unmatchedFrom
 unmatched-sound w m = either SoundAfter (tracked w) none (some w) (λ e. tt) (λ e. m)
 
-acts-sound : (c : TrackerCall) (s : Sheet) (b : Bool) (w : Writer) → ClockFits c s → SoundWriter w → SoundAfter (writerActs c s b w)
+acts-sound : (c : TrackerCall) (s : Sheet) (b : Bool) (w : Writer) → ClockFits c s → SoundWriter w →
+    SoundAfter (writerActs c s b w)
 acts-sound matched s b w f m =
     either SoundWriter b (asserted (assertion true false s) w) w
     (λ e. asserted-sound (assertion true false s) w (match-clock s (f .clocks) .0) m) (λ e. m)
 acts-sound unmatched s b w f m =
     either SoundAfter (hasGuid (s .guid) w) (unmatchedFrom w) (some w) (λ e. unmatched-sound w m) (λ e. m)
 acts-sound lostWithParticipant s b w f m =
-    either SoundAfter (hasGuid (s .guid) w) (lostAs (w .liveliness .state) w) (some w) (λ e. lost-sound (w .liveliness .state) w m) (λ e. m)
+    either SoundAfter (hasGuid (s .guid) w) (lostAs (w .liveliness .state) w) (some w)
+    (λ e. lost-sound (w .liveliness .state) w m) (λ e. m)
 acts-sound writerAsserted s b w f m = asserted-sound (assertion true true s) w (one-clock (s .a) (f .clocks)) m
 acts-sound participantAsserted s b w f m = asserted-sound (assertion false (s .manual) s) w (one-clock (s .a) (f .clocks)) m
 acts-sound expire s b w f m = expired-sound (s .a) w m
@@ -139,7 +145,8 @@ acts-sound takeLost s b w f m = m
 acts-sound takeStatus s b w f m = m
 acts-sound acknowledge s b w f m = m
 
-begun-sound : (c : TrackerCall) (s : Sheet) (ws : List Writer) → ClockFits c s → All SoundWriter ws → All SoundWriter (writersBegun c s ws)
+begun-sound : (c : TrackerCall) (s : Sheet) (ws : List Writer) → ClockFits c s → All SoundWriter ws →
+    All SoundWriter (writersBegun c s ws)
 begun-sound matched s ws f a =
     all-put writerKey SoundWriter (matchedWriter s (find (hasGuid (s .guid)) ws)) ws (matched-sound s ws f a) a
 begun-sound unmatched s ws f a = a
@@ -151,7 +158,8 @@ begun-sound takeLost s ws f a = a
 begun-sound takeStatus s ws f a = a
 begun-sound acknowledge s ws f a = a
 
-after-sound : (c : TrackerCall) (s : Sheet) (ws : List Writer) → ClockFits c s → All SoundWriter ws → All SoundWriter (writersAfter c s ws)
+after-sound : (c : TrackerCall) (s : Sheet) (ws : List Writer) → ClockFits c s → All SoundWriter ws →
+    All SoundWriter (writersAfter c s ws)
 unfolding writersAfter
 after-sound c s ws f a =
     all-sift SoundWriter SoundWriter (writerStep c s ws) (writersBegun c s ws)
@@ -159,7 +167,8 @@ after-sound c s ws f a =
 
 -- ---- how many
 
-begun-few : (c : TrackerCall) (s : Sheet) (st : State) → Within writerKey 0 bound (st .writers) → eqb (trackerLate c s st) 0 ≡ true →
+begun-few : (c : TrackerCall) (s : Sheet) (st : State) → Within writerKey 0 bound (st .writers) →
+    eqb (trackerLate c s st) 0 ≡ true →
     length (st .writers) ≤ 128 → length (writersBegun c s (st .writers)) ≤ 128
 begun-few matched s st w e l =
     let k : num (matchedWriter s (find (hasGuid (s .guid)) (st .writers)) .guid) ≡ num (s .guid) =
@@ -175,7 +184,8 @@ begun-few takeLost s st w e l = l
 begun-few takeStatus s st w e l = l
 begun-few acknowledge s st w e l = l
 
-after-few : (c : TrackerCall) (s : Sheet) (st : State) → Within writerKey 0 bound (st .writers) → eqb (trackerLate c s st) 0 ≡ true →
+after-few : (c : TrackerCall) (s : Sheet) (st : State) → Within writerKey 0 bound (st .writers) →
+    eqb (trackerLate c s st) 0 ≡ true →
     length (st .writers) ≤ 128 → length (writersAfter c s (st .writers)) ≤ 128
 unfolding writersAfter
 after-few c s st w e l =
@@ -195,7 +205,8 @@ lost-few takeLost s st e l = omega arith
 lost-few takeStatus s st e l = l
 lost-few acknowledge s st e l = l
 
-lost-fit : (c : TrackerCall) (gone lost : List Guid) → All FitsGuid gone → All FitsGuid lost → All FitsGuid (lostAfter c gone lost)
+lost-fit : (c : TrackerCall) (gone lost : List Guid) → All FitsGuid gone → All FitsGuid lost →
+    All FitsGuid (lostAfter c gone lost)
 lost-fit matched gone lost f l = l
 lost-fit unmatched gone lost f l = l
 lost-fit lostWithParticipant gone lost f l = l
@@ -212,7 +223,8 @@ near-count : (n : ℕ) → n ≤ 128 → within (pos n) ≡ true
 unfolding within
 near-count n l = le-leb n 1_073_741_824 (omega arith)
 
-near-after : (c : TrackerCall) (n part : ℕ) (z : ℤ) → n ≤ 128 → within z ≡ true → (c ≡ acknowledge → within (z +ℤ toZ w32 part) ≡ true) →
+near-after : (c : TrackerCall) (n part : ℕ) (z : ℤ) → n ≤ 128 → within z ≡ true →
+    (c ≡ acknowledge → within (z +ℤ toZ w32 part) ≡ true) →
     within (acknowledgedAfter c n part z) ≡ true
 near-after matched n part z l e d = e
 near-after unmatched n part z l e d = e
@@ -237,20 +249,28 @@ pub record SoundWriters (st : State) : Type 0 where
 pub guids-sound : (ws : List Writer) → All SoundWriter ws → All FitGuid ws
 guids-sound ws a = all-weaken SoundWriter FitGuid (λ w m. m .guid) ws a
 
-pub tracker-sound : (c : TrackerCall) (s : Sheet) (st : State) → ClockFits c s → acknowledgeable c s st ≡ true → eqb (trackerLate c s st) 0 ≡ true →
+pub tracker-sound : (c : TrackerCall) (s : Sheet) (st : State) → ClockFits c s → acknowledgeable c s st ≡ true →
+    eqb (trackerLate c s st) 0 ≡ true →
     Within writerKey 0 bound (st .writers) → SoundWriters st → SoundWriters (trackerState c s st)
 unfolding trackerState aliveCount notAliveCount
 tracker-sound c s st f ok late w m =
     record {
-      nearAlive = near-after c _ (s .first) (st .acknowledgedAlive) (omega (arith, length-pick countsAlive (st .writers), m .few)) (m .nearAlive)
+      nearAlive =
+          near-after c _ (s .first) (st .acknowledgedAlive) (omega (arith, length-pick countsAlive (st .writers), m .few))
+          (m .nearAlive)
           (λ e. parts e .0);
-      nearNotAlive = near-after c _ (s .second) (st .acknowledgedNotAlive) (omega (arith, length-pick countsNotAlive (st .writers), m .few)) (m .nearNotAlive)
+      nearNotAlive =
+          near-after c _ (s .second) (st .acknowledgedNotAlive)
+          (omega (arith, length-pick countsNotAlive (st .writers), m .few)) (m .nearNotAlive)
           (λ e. parts e .1);
       few = after-few c s st w late (m .few);
       each = after-sound c s (st .writers) f (m .each);
       fewLost = lost-few c s st late (m .fewLost);
-      lost = lost-fit c _ (st .lost) (movers-fit c s (st .writers) (f .guid) (guids-sound (st .writers) (m .each))) (m .lost);
+      lost =
+          lost-fit c _ (st .lost) (movers-fit c s (st .writers) (f .guid) (guids-sound (st .writers) (m .each))) (m .lost);
     }
   where
-    parts : c ≡ acknowledge → (within (st .acknowledgedAlive +ℤ toZ w32 (s .first)) ≡ true) × (within (st .acknowledgedNotAlive +ℤ toZ w32 (s .second)) ≡ true)
+    parts : c ≡ acknowledge →
+        (within (st .acknowledgedAlive +ℤ toZ w32 (s .first)) ≡ true) ×
+        (within (st .acknowledgedNotAlive +ℤ toZ w32 (s .second)) ≡ true)
     parts e = both _ _ (subst (λ (d : TrackerCall). acknowledgeable d s st ≡ true) e ok)

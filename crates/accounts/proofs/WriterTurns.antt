@@ -73,7 +73,8 @@ some-cond false x y = refl
 
 -- an assertion that names a writer or not
 asserted-is : (named manual : Bool) (s : Sheet) (w : Writer) →
-    some (asserted (assertion named manual s) w) ≡ asserts (named && isNamed s (writerKey w)) (isNear s (writerKey w)) manual (s .a) (some w)
+    some (asserted (assertion named manual s) w) ≡ asserts (named && isNamed s (writerKey w))
+    (isNear s (writerKey w)) manual (s .a) (some w)
 unfolding asserted covers renews asserts prefix
 asserted-is named manual s w =
     rw (
@@ -90,7 +91,8 @@ unfolding expired expires lapses
 expired-is clock w =
     rw (
       states-alive (w .liveliness .state),
-      and-assoc (S.aliveIn (w .liveliness .state)) (w .liveliness .lease .present) (leb (w .liveliness .«last_assertion» + w .liveliness .lease .nanos) clock),
+      and-assoc (S.aliveIn (w .liveliness .state)) (w .liveliness .lease .present)
+          (leb (w .liveliness .«last_assertion» + w .liveliness .lease .nanos) clock),
     )
     (some-cond (runOut clock w) (became NotAlive (w .liveliness .«last_assertion») w) w)
 
@@ -209,7 +211,8 @@ step-keeps lostWithParticipant s ws w y e =
     go Alive q = kept-guid (M.departed (w .guid)) w y refl q
     go NotAlive q = kept-guid (M.departed (w .guid)) w y refl q
     go Departed q = kept-guid (M.departed (w .guid)) w y refl q
-step-keeps writerAsserted s ws w y e = kept-guid (asserted (assertion true true s) w) w y (asserted-key (assertion true true s) w) e
+step-keeps writerAsserted s ws w y e =
+    kept-guid (asserted (assertion true true s) w) w y (asserted-key (assertion true true s) w) e
 step-keeps participantAsserted s ws w y e =
     kept-guid (asserted (assertion false (s .manual) s) w) w y (asserted-key (assertion false (s .manual) s) w) e
 step-keeps expire s ws w y e = kept-guid (expired (s .a) w) w y (expired-key (s .a) w) e
@@ -249,10 +252,12 @@ matched-found s j o f w e =
     (λ d.
     let q : some (matches s o) ≡ some w = rw d at e in
     let p : matches s o ≡ w = cc in
-    ap writerKey (sym p) ∙ ap writerKey (sym (matched-is s o)) ∙ ap num (matched-guid s o) ∙ sym (eqb-true j (num (s .guid)) d))
+    ap writerKey (sym p) ∙ ap writerKey (sym (matched-is s o)) ∙ ap num (matched-guid s o) ∙ sym
+    (eqb-true j (num (s .guid)) d))
     (λ d. f w (rw d at e))
 
-named-at : (s : Sheet) (j : ℕ) (f g : Writer → Option Writer) (h : Option Writer → Option Writer) (o : Option Writer) → Found j o →
+named-at : (s : Sheet) (j : ℕ) (f g : Writer → Option Writer) (h : Option Writer → Option Writer) (o : Option Writer) →
+    Found j o →
     ((w : Writer) → f w ≡ cond (hasGuid (s .guid) w) (g w) (some w)) → h none ≡ none → ((w : Writer) → g w ≡ h (some w)) →
     bind f o ≡ cond (isNamed s j) (h o) o
 named-at s j f g h none found e n d = split (isNamed s j) (λ t. rw t (sym n)) (λ t. rw t)
@@ -262,14 +267,17 @@ pub writers-at : (c : TrackerCall) (s : Sheet) (ws : List Writer) (j : ℕ) →
     bind (writerStep c s ws) (begunAt writerKey (start c s ws) j (lookup writerKey j ws))
     ≡ onWriter c s (lookup writerKey (num (s .guid)) ws) j (lookup writerKey j ws)
 writers-at matched s ws j =
-    let found : Found j (matchedAt s j (lookup writerKey j ws)) = matched-found s j (lookup writerKey j ws) (lookup-key writerKey j ws) in
+    let found : Found j (matchedAt s j (lookup writerKey j ws)) = matched-found s j (lookup writerKey j ws)
+    (lookup-key writerKey j ws) in
     rw (matched-at s j ws)
     (matched-acts (M.matchAsserts s ws) s j (matchedAt s j (lookup writerKey j ws)) found
     ∙ rw (automatic-is (livelinessNumbered (s .kind)), untracked-is (find (hasGuid (s .guid)) ws)))
 writers-at unmatched s ws j =
-    named-at s j (writerStep unmatched s ws) unmatchedFrom leaves (lookup writerKey j ws) (lookup-key writerKey j ws) (λ w. refl) refl unmatched-is
+    named-at s j (writerStep unmatched s ws) unmatchedFrom leaves (lookup writerKey j ws) (lookup-key writerKey j ws)
+    (λ w. refl) refl unmatched-is
 writers-at lostWithParticipant s ws j =
-    named-at s j (writerStep lostWithParticipant s ws) (λ w. lostAs (w .liveliness .state) w) departs (lookup writerKey j ws)
+    named-at s j (writerStep lostWithParticipant s ws) (λ w. lostAs (w .liveliness .state) w) departs
+    (lookup writerKey j ws)
     (lookup-key writerKey j ws) (λ w. refl) refl (λ w. lost-is (w .liveliness .state) w)
 writers-at writerAsserted s ws j = go (lookup writerKey j ws) (lookup-key writerKey j ws)
   where
@@ -323,7 +331,8 @@ after-stands (some w) = states-stand (w .liveliness .state)
 moves-are : (f : Writer → Option Writer) (o : Option Writer) → test (moves f) o ≡ moved o (bind f o)
 moves-are f none = refl
 moves-are f (some w) =
-    classes-differ (classOf (w .liveliness .state)) (classAfter (f w)) ∙ rw (states-stand (w .liveliness .state), after-stands (f w))
+    classes-differ (classOf (w .liveliness .state)) (classAfter (f w)) ∙ rw
+    (states-stand (w .liveliness .state), after-stands (f w))
 
 -- the put moves nobody
 taking-stands : (s : Sheet) (st : WriterState) (last : ℕ) → standing (some (takingFrom s st last)) ≡ standingIn st
@@ -369,9 +378,11 @@ guids-fit : (ws : List Writer) → All FitGuid ws → All FitsGuid (map guidIn w
 guids-fit [] f = tt
 guids-fit (w ∷ ws) f = (f .0, guids-fit ws (f .1))
 
-begun-fit : (c : TrackerCall) (s : Sheet) (ws : List Writer) → FitsGuid (s .guid) → All FitGuid ws → All FitGuid (writersBegun c s ws)
+begun-fit : (c : TrackerCall) (s : Sheet) (ws : List Writer) → FitsGuid (s .guid) → All FitGuid ws →
+    All FitGuid (writersBegun c s ws)
 begun-fit matched s ws g f =
-    all-put writerKey FitGuid (matchedWriter s (find (hasGuid (s .guid)) ws)) ws (rw (matched-guid s (find (hasGuid (s .guid)) ws)) g) f
+    all-put writerKey FitGuid (matchedWriter s (find (hasGuid (s .guid)) ws)) ws
+    (rw (matched-guid s (find (hasGuid (s .guid)) ws)) g) f
 begun-fit unmatched s ws g f = f
 begun-fit lostWithParticipant s ws g f = f
 begun-fit writerAsserted s ws g f = f
@@ -381,26 +392,32 @@ begun-fit takeLost s ws g f = f
 begun-fit takeStatus s ws g f = f
 begun-fit acknowledge s ws g f = f
 
-pub movers-fit : (c : TrackerCall) (s : Sheet) (ws : List Writer) → FitsGuid (s .guid) → All FitGuid ws → All FitsGuid (movers c s ws)
+pub movers-fit : (c : TrackerCall) (s : Sheet) (ws : List Writer) → FitsGuid (s .guid) → All FitGuid ws →
+    All FitsGuid (movers c s ws)
 unfolding movers
 movers-fit c s ws g f =
     guids-fit (pick (moves (writerStep c s ws)) (writersBegun c s ws))
     (all-pick FitGuid (moves (writerStep c s ws)) (writersBegun c s ws) (begun-fit c s ws g f))
 
-module _ (c : TrackerCall) (s : Sheet) (ws : List Writer) (acc : Writers) (fits : FitsGuid (s .guid)) (rises : Within writerKey 0 bound ws) (agree : (j : ℕ) → lookup writerKey j ws ≡ acc j) where
+module _ (c : TrackerCall) (s : Sheet) (ws : List Writer) (acc : Writers) (fits : FitsGuid (s .guid))
+    (rises : Within writerKey 0 bound ws) (agree : (j : ℕ) → lookup writerKey j ws ≡ acc j) where
   pub after-rises : Within writerKey 0 bound (M.writersAfter c s ws)
   unfolding M.writersAfter
   after-rises =
-      rw (begun-is c s ws) (turn-within writerKey bound (start c s ws) (writerStep c s ws) ws (start-below c s ws fits) (step-keeps c s ws) rises)
+      rw (begun-is c s ws)
+      (turn-within writerKey bound (start c s ws) (writerStep c s ws) ws (start-below c s ws fits)
+      (step-keeps c s ws) rises)
 
   pub after-agrees : (j : ℕ) → lookup writerKey j (M.writersAfter c s ws) ≡ writersAfter c s acc j
   unfolding M.writersAfter writersAfter
   after-agrees j =
-      rw (begun-is c s ws) (turn-at writerKey bound (start c s ws) (writerStep c s ws) ws (start-below c s ws fits) (step-keeps c s ws) rises j)
+      rw (begun-is c s ws)
+      (turn-at writerKey bound (start c s ws) (writerStep c s ws) ws (start-below c s ws fits) (step-keeps c s ws) rises j)
       ∙ writers-at c s ws j
       ∙ rw (agree (num (s .guid)), agree j)
 
-  begun-moves : (j : ℕ) → test (moves (writerStep c s ws)) (lookup writerKey j (writersBegun c s ws)) ≡ movedAt acc (writersAfter c s acc) j
+  begun-moves : (j : ℕ) →
+      test (moves (writerStep c s ws)) (lookup writerKey j (writersBegun c s ws)) ≡ movedAt acc (writersAfter c s acc) j
   unfolding writersAfter
   begun-moves j =
       ap (λ (l : List Writer). test (moves (writerStep c s ws)) (lookup writerKey j l)) (begun-is c s ws)
@@ -409,7 +426,8 @@ module _ (c : TrackerCall) (s : Sheet) (ws : List Writer) (acc : Writers) (fits 
       ∙ rw (quiet c s ws j, writers-at c s ws j, agree (num (s .guid)), agree j)
 
   begun-rises : Within writerKey 0 (0 + bound) (writersBegun c s ws)
-  begun-rises = rw (zero-add bound, begun-is c s ws) (within-begin writerKey bound (start c s ws) ws (start-below c s ws fits) rises)
+  begun-rises =
+      rw (zero-add bound, begun-is c s ws) (within-begin writerKey bound (start c s ws) ws (start-below c s ws fits) rises)
 
   movers-numbered : map num (movers c s ws) ≡ between 0 bound (movedAt acc (writersAfter c s acc))
   unfolding movers
@@ -419,29 +437,37 @@ module _ (c : TrackerCall) (s : Sheet) (ws : List Writer) (acc : Writers) (fits 
       ∙ between-ext writerKey 0 bound (λ j. test (moves (writerStep c s ws)) (lookup writerKey j (writersBegun c s ws)))
       (movedAt acc (writersAfter c s acc)) (λ j l. begun-moves j)
 
-  movers-are : All FitsGuid (movers c s ws) → movers c s ws ≡ map guidNumbered (between 0 bound (movedAt acc (writersAfter c s acc)))
+  movers-are : All FitsGuid (movers c s ws) →
+      movers c s ws ≡ map guidNumbered (between 0 bound (movedAt acc (writersAfter c s acc)))
   movers-are f = sym (renumbered (movers c s ws) f) ∙ ap (map guidNumbered) movers-numbered
 
   pub movers-count : length (movers c s ws) ≡ sumOver 0 bound (λ j. bit (movedAt acc (writersAfter c s acc) j))
   movers-count =
-      sym (length-map num (movers c s ws)) ∙ ap length movers-numbered ∙ length-between 0 bound (movedAt acc (writersAfter c s acc))
+      sym (length-map num (movers c s ws)) ∙ ap length movers-numbered ∙ length-between 0 bound
+      (movedAt acc (writersAfter c s acc))
 
-  pub last-are : All FitsGuid (movers c s ws) → (last : _) → lastAfter (movers c s ws) last ≡ lastIn acc (writersAfter c s acc) last
+  pub last-are : All FitsGuid (movers c s ws) → (last : _) →
+      lastAfter (movers c s ws) last ≡ lastIn acc (writersAfter c s acc) last
   unfolding lastIn
-  last-are f last = ap (λ (l : List Guid). lastAfter l last) (movers-are f) ∙ last-greatest bound (movedAt acc (writersAfter c s acc)) last
+  last-are f last =
+      ap (λ (l : List Guid). lastAfter l last) (movers-are f) ∙ last-greatest bound
+      (movedAt acc (writersAfter c s acc)) last
 
 -- in code 37 those that change class are those that were alive and are not alive
-lapsed-is : (clock : ℕ) (o : Option Writer) → moved o (lapses clock o) ≡ (isAlive (standing o) && isNotAlive (standing (lapses clock o)))
+lapsed-is : (clock : ℕ) (o : Option Writer) →
+    moved o (lapses clock o) ≡ (isAlive (standing o) && isNotAlive (standing (lapses clock o)))
 unfolding lapses
 lapsed-is clock none = refl
 lapsed-is clock (some w) =
-    split (runOut clock w) (λ e. rw e (alive-now (w .liveliness .state) (left-true _ _ e))) (λ e. rw e (unmoved (standingIn (w .liveliness .state))))
+    split (runOut clock w) (λ e. rw e (alive-now (w .liveliness .state) (left-true _ _ e)))
+    (λ e. rw e (unmoved (standingIn (w .liveliness .state))))
   where
     left-true : (a b : Bool) → (a && b) ≡ true → a ≡ true
     left-true true b e = refl
     left-true false b e = e
 
-    alive-now : (st : WriterState) → S.aliveIn st ≡ true → differ (standingIn st) S.notAlive ≡ (isAlive (standingIn st) && true)
+    alive-now : (st : WriterState) → S.aliveIn st ≡ true →
+        differ (standingIn st) S.notAlive ≡ (isAlive (standingIn st) && true)
     alive-now Unasserted e = sym e
     alive-now Alive e = refl
     alive-now NotAlive e = refl
@@ -459,7 +485,8 @@ unfolding expiredIn writersAfter
 expired-are s ws acc f rises agree g =
     movers-are expire s ws acc f rises agree g
     ∙ ap (map guidNumbered)
-    (between-ext writerKey 0 bound (movedAt acc (writersAfter expire s acc)) (expiredAt acc (writersAfter expire s acc)) (λ j l. lapsed-is (s .a) (acc j)))
+    (between-ext writerKey 0 bound (movedAt acc (writersAfter expire s acc)) (expiredAt acc (writersAfter expire s acc))
+    (λ j l. lapsed-is (s .a) (acc j)))
 
 -- ---- both counts
 
@@ -473,7 +500,8 @@ not-alive-class alive = refl
 not-alive-class notAlive = refl
 not-alive-class neither = refl
 
-module _ (ws : List Writer) (acc : Writers) (rises : Within writerKey 0 bound ws) (agree : (j : ℕ) → lookup writerKey j ws ≡ acc j) where
+module _ (ws : List Writer) (acc : Writers) (rises : Within writerKey 0 bound ws)
+    (agree : (j : ℕ) → lookup writerKey j ws ≡ acc j) where
   -- a count over the table is a count over all GUIDs
   counted : (p : Class → Bool) (q : Standing → Bool) → ((c : Class) → p c ≡ q (standingOf c)) → p neither ≡ false →
       length (pick (λ w. p (classOf (w .liveliness .state))) ws) ≡ length (between 0 bound (λ g. q (standing (acc g))))
@@ -481,7 +509,8 @@ module _ (ws : List Writer) (acc : Writers) (rises : Within writerKey 0 bound ws
       sym (length-map writerKey (pick (λ w. p (classOf (w .liveliness .state))) ws))
       ∙ ap length
       (pick-between writerKey 0 bound (λ w. p (classOf (w .liveliness .state))) ws (rw (zero-add bound) rises)
-      ∙ between-ext writerKey 0 bound (λ j. test (λ w. p (classOf (w .liveliness .state))) (lookup writerKey j ws)) (λ g. q (standing (acc g)))
+      ∙ between-ext writerKey 0 bound (λ j. test (λ w. p (classOf (w .liveliness .state))) (lookup writerKey j ws))
+      (λ g. q (standing (acc g)))
       (λ j l. one (lookup writerKey j ws) ∙ ap (λ (o : Option Writer). q (standing o)) (agree j)))
     where
       one : (o : Option Writer) → test (λ w. p (classOf (w .liveliness .state))) o ≡ q (standing o)
@@ -535,9 +564,11 @@ writer-heard c s st acc f g m =
       agree = after-agrees c s (st .writers) (acc .at) f (m .rising) (m .agree);
       lost = lost-are c _ _ _ _ lapsed (m .lost);
       acknowledgedAlive =
-          acknowledged-are c _ _ (s .first) _ _ (alive-are (st .writers) (acc .at) (m .rising) (m .agree)) (m .acknowledgedAlive);
+          acknowledged-are c _ _ (s .first) _ _ (alive-are (st .writers) (acc .at) (m .rising) (m .agree))
+          (m .acknowledgedAlive);
       acknowledgedNotAlive =
-          acknowledged-are c _ _ (s .second) _ _ (not-alive-are (st .writers) (acc .at) (m .rising) (m .agree)) (m .acknowledgedNotAlive);
+          acknowledged-are c _ _ (s .second) _ _ (not-alive-are (st .writers) (acc .at) (m .rising) (m .agree))
+          (m .acknowledgedNotAlive);
       last =
           last-are c s (st .writers) (acc .at) f (m .rising) (m .agree) g (st .lastWriter)
           ∙ ap (lastIn (acc .at) (writersAfter c s (acc .at))) (m .last);
