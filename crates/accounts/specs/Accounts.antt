@@ -34,11 +34,13 @@ seenJoined lapse = some expire
 seenJoined part = some unmatched
 seenJoined depart = some lostWithParticipant
 
+-- the tracker call that writers see in a call
 abbrev pub seenAs : Call → Option TrackerCall
 seenAs (instances c) = none
 seenAs (tracker c) = some c
 seenAs (joined c) = seenJoined c
 
+-- none where the call was refused
 abbrev pub seen : Option Call → Option TrackerCall
 seen none = none
 seen (some c) = seenAs c
@@ -50,17 +52,20 @@ goneJoined lapse s expired = expired
 goneJoined part s expired = s .guid ∷ []
 goneJoined depart s expired = s .guid ∷ []
 
+-- no other call has writers gone
 abbrev pub goneBy : Call → Sheet → List Guid → List Guid
 goneBy (instances c) s expired = []
 goneBy (tracker c) s expired = []
 goneBy (joined c) s expired = goneJoined c s expired
 
+-- none where the call was refused
 abbrev pub gone : Option Call → Sheet → List Guid → List Guid
 gone none s expired = []
 gone (some c) s expired = goneBy c s expired
 
 -- ---- both accounts, fed one event after the other
 
+-- the two accounts
 pub record Accounts : Type 0 where
   pub writers : WriterAccounts
   pub instances : InstanceAccounts
@@ -69,29 +74,36 @@ pub record Accounts : Type 0 where
 abbrev pub absent : Accounts
 absent = record { writers = noWriters; instances = noInstances }
 
+-- the instances hear a call after the writers, for code 49
 abbrev pub advanceBy : Option Call → Event → Accounts → WriterAccounts → Accounts
 advanceBy c e acc after =
     record { writers = after; instances = reach c e (gone c (e .sheet) (expiredIn (acc .writers .at) (after .at))) (acc .instances) }
 
+-- one event
 unfoldable pub advance : Event → Accounts → Accounts
 advance e acc = advanceBy (accepted e) e acc (hear (seen (accepted e)) (e .sheet) (acc .writers))
 
+-- a list of events, in order
 unfoldable pub accountsFrom : List Event → Accounts → Accounts
 accountsFrom [] acc = acc
 accountsFrom (e ∷ h) acc = accountsFrom h (advance e acc)
 
+-- the accounts of a list of events, from absent
 unfoldable pub accountsOf : List Event → Accounts
 accountsOf h = accountsFrom h absent
 
 -- ---- the list of calls: any sheet and any Out, each call lent what the one before left
 
+-- what is lent anew to a call
 pub record Lending : Type 0 where
   pub sheet : List ℕ
   pub out : List ℕ
 
+-- what the call before left, with the Out of this one
 abbrev pub withOut : List ℕ → Lent → Lent
 withOut out l = lentOf (l .head) (l .pens) (l .writers) (l .lost) out
 
+-- what the accounts are fed of a call
 abbrev pub eventOf : List ℕ → Answer → Event
 eventOf sheet a =
     record { sheet = sheetOf sheet; number = a .number; handle = a .handle .0; outcome = a .outcome }
@@ -122,9 +134,11 @@ SheetBytes i = Bytes (i .sheet)
 unfoldable pub instancesIn : Accounts → List Instance
 instancesIn acc = present 0 bound (acc .instances .at)
 
+-- the writers not absent, rising
 unfoldable pub writersIn : Accounts → List Writer
 writersIn acc = present 0 bound (acc .writers .at)
 
+-- what is claimed of the final head and buffers
 pub record Told (places : ℕ) (l : Lent) (acc : Accounts) : Type 0 where
   -- pens and writers hold, in section 2's layout, exactly the accounts not absent
   pub pens : l .pens ≡ pensOf places (instancesIn acc)

@@ -23,6 +23,7 @@ use Rattle.accounts.specs.WriterAccounts.{expiredIn, writersAfter}
 
 -- ---- a sheet in order: used times, clocks, leases and holder within 4 to 6 and, in code 32, kind not 3
 
+-- these four
 pub record Ordered (c : Call) (s : Sheet) : Type 0 where
   pub times : all nanosecondsOk (timesUsed c s) ≡ true
   pub clocks : all clockOk (clocksUsed c s) ≡ true
@@ -72,6 +73,7 @@ busyAcknowledge s acc =
     cond (not (within (acc .writers .acknowledgedAlive +ℤ toZ w32 (s .first))
     && within (acc .writers .acknowledgedNotAlive +ℤ toZ w32 (s .second)))) 8 0
 
+-- tracker calls
 abbrev pub busyTracker : TrackerCall → Sheet → Accounts → ℕ
 busyTracker matched s acc = busyMatch s acc
 busyTracker unmatched s acc = 0
@@ -95,12 +97,14 @@ busyAdmit places s acc =
     (cond (isNew s acc && handlesSpent acc) 13
     (cond (crowds s (acc .instances .at (num (s .key)))) 10 0)))))
 
+-- codes 49 to 51 meet what 37, 33 and 34 meet
 abbrev pub busyJoined : ℕ → JoinedCall → Sheet → Accounts → ℕ
 busyJoined places admit s acc = busyAdmit places s acc
 busyJoined places lapse s acc = busyExpire s acc
 busyJoined places part s acc = 0
 busyJoined places depart s acc = 0
 
+-- any call
 abbrev pub busy : ℕ → Call → Sheet → Accounts → ℕ
 busy places (instances c) s acc = busyInstance places c s acc
 busy places (tracker c) s acc = busyTracker c s acc

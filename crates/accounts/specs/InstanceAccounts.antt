@@ -16,9 +16,11 @@ use Rattle.model.specs.Times.{ifPresent}
 
 -- ---- a call reaches it by key, by present handle, or as a call on every instance (7, 17, 18, 19, 21, 49 to 51)
 
+-- the three ways
 pub data Way : Type 0 where
   byKey byHandle onEvery : Way
 
+-- how each call of section 3 reaches
 abbrev pub wayOf : InstanceCall → Way
 wayOf register = byKey
 wayOf ensureRegisteredLimited = byKey
@@ -46,6 +48,7 @@ wayOf autopurge = onEvery
 abbrev pub isKeyed : Sheet → ℕ → Bool
 isKeyed s k = eqb k (num (s .key))
 
+-- whether a call that reaches in a way reaches the instance x of key number k
 abbrev pub reachedBy : Way → Sheet → ℕ → Instance → Bool
 reachedBy byKey s k x = isKeyed s k
 reachedBy byHandle s k x = eqb (x .handle .0) (s .handle .0)
@@ -53,6 +56,7 @@ reachedBy onEvery s k x = true
 
 -- ---- what a list's call tells: its sheet and, from the answer, refusal number, handle and outcome
 
+-- one call of the list
 pub record Event : Type 0 where
   pub sheet : Sheet
   pub number : ℕ
@@ -88,6 +92,7 @@ onPresent (joined depart) e gone k x = losing gone (e .sheet) x
 -- ---- a call that answers a handle starts an absent instance with it before it acts (code 48: after its code 16); no
 -- other call alters an absent one
 
+-- what the call does to the instance that it started
 abbrev pub onStarted : Call → Sheet → Instance → Option Instance
 onStarted (instances c) s x = leaving x (effect c s (x .state))
 onStarted (tracker c) s x = some x
@@ -96,30 +101,37 @@ onStarted (joined lapse) s x = some x
 onStarted (joined part) s x = some x
 onStarted (joined depart) s x = some x
 
+-- the answer has a handle, which is never 0
 abbrev pub answersHandle : Event → Bool
 answersHandle e = not (eqb (e .handle) 0)
 
+-- an absent instance: started where the call is by its key and answers a handle
 abbrev pub onAbsent : Call → Event → ℕ → Option Instance
 onAbsent c e k =
     cond (isKeyed (e .sheet) k && answersHandle e) (onStarted c (e .sheet) (started (e .sheet .key) (e .handle))) none
 
+-- the account of key number k in an accepted call
 abbrev pub onInstance : Call → Event → List Guid → ℕ → Option Instance → Option Instance
 onInstance c e gone k none = onAbsent c e k
 onInstance c e gone k (some x) = onPresent c e gone k x
 
 -- ---- the instances' accounts, and the handles with which calls have started them, in order
 
+-- the accounts of all keys, and the handles started
 pub record InstanceAccounts : Type 0 where
   pub at : ℕ → Option Instance
   pub handles : List ℕ
 
+-- all absent, and none started
 abbrev pub noInstances : InstanceAccounts
 noInstances = record { at = λ k. none; handles = [] }
 
+-- the handle with which a call starts the instance of its key, where that is absent
 abbrev pub startsAt : Event → Option Instance → List ℕ
 startsAt e none = cond (answersHandle e) (e .handle ∷ []) []
 startsAt e (some x) = []
 
+-- an accepted call, or none
 abbrev pub reach : Option Call → Event → List Guid → InstanceAccounts → InstanceAccounts
 reach none e gone acc = acc
 reach (some c) e gone acc =

@@ -34,16 +34,19 @@ trackedIn Alive = true
 trackedIn NotAlive = true
 trackedIn Departed = false
 
+-- so is an account in one of them; an absent one is not
 abbrev pub tracked : Option Writer → Bool
 tracked none = false
 tracked (some w) = trackedIn (w .liveliness .state)
 
+-- the state alive
 abbrev pub aliveIn : WriterState → Bool
 aliveIn Unasserted = false
 aliveIn Alive = true
 aliveIn NotAlive = false
 aliveIn Departed = false
 
+-- the state not alive
 abbrev pub notAliveIn : WriterState → Bool
 notAliveIn Unasserted = false
 notAliveIn Alive = false
@@ -68,6 +71,7 @@ departedAs g =
 
 -- ---- matched: it takes kind and lease; absent becomes unasserted at the clock; departed becomes not alive at 0
 
+-- the lease that a match gives: B, where its presence bit is set
 abbrev pub leaseGiven : Sheet → MaybeLease
 leaseGiven s = cond (s .«lease_present») record { present = true; nanos = s .b } record { present = false; nanos = 0 }
 
@@ -79,12 +83,14 @@ taking s state last =
       liveliness = record { kind = livelinessNumbered (s .kind); state = state; lease = leaseGiven s; «last_assertion» = last };
     }
 
+-- from each state: only departed changes, to not alive at 0
 abbrev pub takingFrom : Sheet → WriterState → ℕ → Writer
 takingFrom s Unasserted last = taking s Unasserted last
 takingFrom s Alive last = taking s Alive last
 takingFrom s NotAlive last = taking s NotAlive last
 takingFrom s Departed last = taking s NotAlive 0
 
+-- the account of the matched GUID: absent becomes unasserted at the clock
 abbrev pub matches : Sheet → Option Writer → Writer
 matches s none = taking s Unasserted (s .a)
 matches s (some w) = takingFrom s (w .liveliness .state) (w .liveliness .«last_assertion»)
@@ -92,16 +98,19 @@ matches s (some w) = takingFrom s (w .liveliness .state) (w .liveliness .«last_
 -- ---- an assertion covers the named writer and, at the same 12-byte prefix, automatic ones and, if manual, by-participant
 -- ones
 
+-- automatic ones
 abbrev pub automatic : LivelinessKind → Bool
 automatic Automatic = true
 automatic ManualByParticipant = false
 automatic ManualByTopic = false
 
+-- by-participant ones
 abbrev pub byParticipant : LivelinessKind → Bool
 byParticipant Automatic = false
 byParticipant ManualByParticipant = true
 byParticipant ManualByTopic = false
 
+-- whether it is covered: `named` and `near` say that it is the named writer, or has its prefix
 abbrev pub covered : Bool → Bool → Bool → LivelinessKind → Bool
 covered named near manual kind = named || (near && (automatic kind || (byParticipant kind && manual)))
 
@@ -119,35 +128,41 @@ asserts named near manual clock (some w) =
 
 -- ---- expire: alive with lease and clock ≥ last + lease becomes not alive
 
+-- alive, with a lease, and the clock at last + lease or later
 abbrev pub runOut : ℕ → Writer → Bool
 runOut clock w =
     aliveIn (w .liveliness .state) && (w .liveliness .lease .present
     && leb (w .liveliness .«last_assertion» + w .liveliness .lease .nanos) clock)
 
+-- an account in an expire at the clock
 unfoldable pub lapses : ℕ → Option Writer → Option Writer
 lapses clock none = none
 lapses clock (some w) = cond (runOut clock w) (some (became NotAlive (w .liveliness .«last_assertion») w)) (some w)
 
 -- ---- unmatched: absent unless departed
 
+-- from each state
 abbrev pub leavesFrom : WriterState → Writer → Option Writer
 leavesFrom Unasserted w = none
 leavesFrom Alive w = none
 leavesFrom NotAlive w = none
 leavesFrom Departed w = some w
 
+-- the account of the unmatched GUID
 abbrev pub leaves : Option Writer → Option Writer
 leaves none = none
 leaves (some w) = leavesFrom (w .liveliness .state) w
 
 -- ---- lost: unasserted becomes absent; alive and not alive become departed
 
+-- from each state; a departed one stays, which is its GUID and that it is
 abbrev pub departsFrom : WriterState → Writer → Option Writer
 departsFrom Unasserted w = none
 departsFrom Alive w = some (departedAs (w .guid))
 departsFrom NotAlive w = some (departedAs (w .guid))
 departsFrom Departed w = some (departedAs (w .guid))
 
+-- the account of the GUID lost with its participant
 abbrev pub departs : Option Writer → Option Writer
 departs none = none
 departs (some w) = departsFrom (w .liveliness .state) w
@@ -158,12 +173,15 @@ departs (some w) = departsFrom (w .liveliness .state) w
 abbrev pub prefixOf : ℕ → ℕ
 prefixOf g = g / 2 ^ 32
 
+-- g is the GUID that the sheet names
 abbrev pub isNamed : Sheet → ℕ → Bool
 isNamed s g = eqb g (num (s .guid))
 
+-- g has the prefix of the GUID that the sheet names
 abbrev pub isNear : Sheet → ℕ → Bool
 isNear s g = eqb (prefixOf g) (prefixOf (num (s .guid)))
 
+-- what a match takes to the account of g
 abbrev pub matchedAt : Sheet → ℕ → Option Writer → Option Writer
 matchedAt s g acc = cond (isNamed s g) (some (matches s acc)) acc
 
@@ -183,6 +201,7 @@ onWriter takeLost s own g acc = acc
 onWriter takeStatus s own g acc = acc
 onWriter acknowledge s own g acc = acc
 
+-- the accounts of all GUIDs
 abbrev pub Writers : Type 0
 Writers = ℕ → Option Writer
 
@@ -192,24 +211,29 @@ writersAfter c s acc g = onWriter c s (acc (num (s .guid))) g (acc g)
 
 -- ---- classes: alive; not alive with departed; neither
 
+-- the three classes
 pub data Standing : Type 0 where
   alive notAlive neither : Standing
 
+-- the class of each state
 abbrev pub standingIn : WriterState → Standing
 standingIn Unasserted = neither
 standingIn Alive = alive
 standingIn NotAlive = notAlive
 standingIn Departed = notAlive
 
+-- the class of an account; an absent one is in neither
 abbrev pub standing : Option Writer → Standing
 standing none = neither
 standing (some w) = standingIn (w .liveliness .state)
 
+-- the class alive
 abbrev pub isAlive : Standing → Bool
 isAlive alive = true
 isAlive notAlive = false
 isAlive neither = false
 
+-- the class not alive with departed
 abbrev pub isNotAlive : Standing → Bool
 isNotAlive alive = false
 isNotAlive notAlive = true
@@ -227,9 +251,11 @@ differ neither alive = true
 differ neither notAlive = true
 differ neither neither = false
 
+-- an account before a call and after it
 abbrev pub moved : Option Writer → Option Writer → Bool
 moved before after = differ (standing before) (standing after)
 
+-- the account of g, among all before and all after
 abbrev pub movedAt : Writers → Writers → ℕ → Bool
 movedAt before after g = moved (before g) (after g)
 
@@ -241,21 +267,25 @@ expiredAt before after g = isAlive (standing (before g)) && isNotAlive (standing
 unfoldable pub expiredIn : Writers → Writers → List Guid
 expiredIn before after = map guidNumbered (between 0 bound (expiredAt before after))
 
--- how many GUIDs are in a class
+-- the account of g is in the class alive
 abbrev pub standsAlive : Writers → ℕ → Bool
 standsAlive acc g = isAlive (standing (acc g))
 
+-- the account of g is in the class not alive with departed
 abbrev pub standsNotAlive : Writers → ℕ → Bool
 standsNotAlive acc g = isNotAlive (standing (acc g))
 
+-- the number of GUIDs that are alive
 unfoldable pub aliveAmong : Writers → ℕ
 aliveAmong acc = length (between 0 bound (standsAlive acc))
 
+-- the number of GUIDs that are not alive or departed
 unfoldable pub notAliveAmong : Writers → ℕ
 notAliveAmong acc = length (between 0 bound (standsNotAlive acc))
 
 -- ---- the writers' accounts with what is told of them all
 
+-- the accounts of all GUIDs, and what section 6 tells of them together
 pub record WriterAccounts : Type 0 where
   pub at : Writers
   -- how often each GUID has changed class
@@ -282,6 +312,7 @@ abbrev pub lastOr : Option ℕ → LastWriter → LastWriter
 lastOr none last = last
 lastOr (some g) last = Is (guidNumbered g)
 
+-- the last writer after a call
 unfoldable pub lastIn : Writers → Writers → LastWriter → LastWriter
 lastIn before after last = lastOr (greatest bound (movedAt before after)) last
 
@@ -309,9 +340,11 @@ acknowledgedBy takeLost part change z = z
 acknowledgedBy takeStatus part change z = z +ℤ change
 acknowledgedBy acknowledge part change z = z +ℤ part
 
+-- a change field: its count less what was acknowledged
 abbrev pub changeOf : ℕ → ℤ → ℤ
 changeOf count acknowledged = pos count -ℤ acknowledged
 
+-- what a call leaves, once each account has heard it
 abbrev pub heardBy : TrackerCall → Sheet → WriterAccounts → Writers → WriterAccounts
 heardBy c s acc after =
     record {
