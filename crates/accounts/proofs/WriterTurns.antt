@@ -37,7 +37,7 @@ use Rattle.model.specs.Writers.{hasGuid, isTracked, covers, coversKind, renews,
 use Rattle.model.proofs.Fits.{FitsGuid}
 use Rattle.accounts.specs.Ranges.{bound, guidNumbered, between, sumOver}
 use Rattle.accounts.specs.WriterAccounts as S
-use Rattle.accounts.specs.WriterAccounts.{trackedIn, became, matches, takingFrom, covered, automatic, byParticipant, timely, runOut, asserts, lapses, leaves, departs, departsFrom, isNamed, isNear, matchedAt, onWriter, Writers, writersAfter, Standing, standingIn, standing, isAlive, isNotAlive, differ, moved, movedAt, expiredAt, expiredIn, aliveAmong, notAliveAmong, WriterAccounts, lastIn, lostBy, acknowledgedBy, changeOf, heardBy}
+use Rattle.accounts.specs.WriterAccounts.{trackedIn, became, matches, takingFrom, covered, automatic, byParticipant, timely, runOut, asserts, lapses, leaves, departs, departsFrom, isNamed, isNear, matchedAt, onWriter, Writers, writersAfter, classIn, class, isAlive, isNotAlive, differ, moved, movedAt, expiredAt, expiredIn, aliveAmong, notAliveAmong, WriterAccounts, lastIn, lostBy, acknowledgedBy, changeOf, heardBy}
 use Rattle.accounts.proofs.Basics.{split, and-assoc, eqb-sym}
 use Rattle.accounts.proofs.RangeLaws.{sum-add, length-between, length-map, last-greatest, num-below, renumbered}
 use Rattle.accounts.proofs.TurnLaws.{bind, test, lookup, Within, Keeps, lookup-key, begin, begunAt, Below, lookup-begin, within-begin, turn-within, turn-at, between-ext, pick-between, all-put, all-pick}
@@ -302,18 +302,13 @@ writers-at acknowledge s ws j = bind-some (lookup writerKey j ws)
 
 -- ---- classes
 
-abbrev standingOf : Class → Standing
-standingOf alive = S.alive
-standingOf notAlive = S.notAlive
-standingOf neither = S.neither
+states-class : (st : WriterState) → classOf st ≡ classIn st
+states-class Unasserted = refl
+states-class Alive = refl
+states-class NotAlive = refl
+states-class Departed = refl
 
-states-stand : (st : WriterState) → standingOf (classOf st) ≡ standingIn st
-states-stand Unasserted = refl
-states-stand Alive = refl
-states-stand NotAlive = refl
-states-stand Departed = refl
-
-classes-differ : (a b : Class) → not (sameClass a b) ≡ differ (standingOf a) (standingOf b)
+classes-differ : (a b : Class) → not (sameClass a b) ≡ differ a b
 classes-differ alive alive = refl
 classes-differ alive notAlive = refl
 classes-differ alive neither = refl
@@ -324,32 +319,32 @@ classes-differ neither alive = refl
 classes-differ neither notAlive = refl
 classes-differ neither neither = refl
 
-after-stands : (o : Option Writer) → standingOf (classAfter o) ≡ standing o
-after-stands none = refl
-after-stands (some w) = states-stand (w .liveliness .state)
+after-class : (o : Option Writer) → classAfter o ≡ class o
+after-class none = refl
+after-class (some w) = states-class (w .liveliness .state)
 
 moves-are : (f : Writer → Option Writer) (o : Option Writer) → test (moves f) o ≡ moved o (bind f o)
 moves-are f none = refl
 moves-are f (some w) =
     classes-differ (classOf (w .liveliness .state)) (classAfter (f w)) ∙ rw
-    (states-stand (w .liveliness .state), after-stands (f w))
+    (states-class (w .liveliness .state), after-class (f w))
 
 -- the put moves nobody
-taking-stands : (s : Sheet) (st : WriterState) (last : ℕ) → standing (some (takingFrom s st last)) ≡ standingIn st
-taking-stands s Unasserted last = refl
-taking-stands s Alive last = refl
-taking-stands s NotAlive last = refl
-taking-stands s Departed last = refl
+taking-class : (s : Sheet) (st : WriterState) (last : ℕ) → class (some (takingFrom s st last)) ≡ classIn st
+taking-class s Unasserted last = refl
+taking-class s Alive last = refl
+taking-class s NotAlive last = refl
+taking-class s Departed last = refl
 
-matches-stands : (s : Sheet) (o : Option Writer) → standing (some (matches s o)) ≡ standing o
-matches-stands s none = refl
-matches-stands s (some w) = taking-stands s (w .liveliness .state) (w .liveliness .«last_assertion»)
+matches-class : (s : Sheet) (o : Option Writer) → class (some (matches s o)) ≡ class o
+matches-class s none = refl
+matches-class s (some w) = taking-class s (w .liveliness .state) (w .liveliness .«last_assertion»)
 
 quiet : (c : TrackerCall) (s : Sheet) (ws : List Writer) (j : ℕ) →
-    standing (begunAt writerKey (start c s ws) j (lookup writerKey j ws)) ≡ standing (lookup writerKey j ws)
+    class (begunAt writerKey (start c s ws) j (lookup writerKey j ws)) ≡ class (lookup writerKey j ws)
 quiet matched s ws j =
-    ap standing (matched-at s j ws)
-    ∙ split (isNamed s j) (λ e. rw e (matches-stands s (lookup writerKey j ws))) (λ e. rw e)
+    ap class (matched-at s j ws)
+    ∙ split (isNamed s j) (λ e. rw e (matches-class s (lookup writerKey j ws))) (λ e. rw e)
 quiet unmatched s ws j = refl
 quiet lostWithParticipant s ws j = refl
 quiet writerAsserted s ws j = refl
@@ -455,28 +450,28 @@ module _ (c : TrackerCall) (s : Sheet) (ws : List Writer) (acc : Writers) (fits 
 
 -- in code 37 those that change class are those that were alive and are not alive
 lapsed-is : (clock : ℕ) (o : Option Writer) →
-    moved o (lapses clock o) ≡ (isAlive (standing o) && isNotAlive (standing (lapses clock o)))
+    moved o (lapses clock o) ≡ (isAlive (class o) && isNotAlive (class (lapses clock o)))
 unfolding lapses
 lapsed-is clock none = refl
 lapsed-is clock (some w) =
     split (runOut clock w) (λ e. rw e (alive-now (w .liveliness .state) (left-true _ _ e)))
-    (λ e. rw e (unmoved (standingIn (w .liveliness .state))))
+    (λ e. rw e (unmoved (classIn (w .liveliness .state))))
   where
     left-true : (a b : Bool) → (a && b) ≡ true → a ≡ true
     left-true true b e = refl
     left-true false b e = e
 
     alive-now : (st : WriterState) → S.aliveIn st ≡ true →
-        differ (standingIn st) S.notAlive ≡ (isAlive (standingIn st) && true)
+        differ (classIn st) notAlive ≡ (isAlive (classIn st) && true)
     alive-now Unasserted e = sym e
     alive-now Alive e = refl
     alive-now NotAlive e = refl
     alive-now Departed e = refl
 
-    unmoved : (a : Standing) → differ a a ≡ (isAlive a && isNotAlive a)
-    unmoved S.alive = refl
-    unmoved S.notAlive = refl
-    unmoved S.neither = refl
+    unmoved : (a : Class) → differ a a ≡ (isAlive a && isNotAlive a)
+    unmoved alive = refl
+    unmoved notAlive = refl
+    unmoved neither = refl
 
 pub expired-are : (s : Sheet) (ws : List Writer) (acc : Writers) → FitsGuid (s .guid) → Within writerKey 0 bound ws →
     ((j : ℕ) → lookup writerKey j ws ≡ acc j) → All FitsGuid (movers expire s ws) →
@@ -490,12 +485,12 @@ expired-are s ws acc f rises agree g =
 
 -- ---- both counts
 
-alive-class : (c : Class) → isAliveClass c ≡ isAlive (standingOf c)
+alive-class : (c : Class) → isAliveClass c ≡ isAlive c
 alive-class alive = refl
 alive-class notAlive = refl
 alive-class neither = refl
 
-not-alive-class : (c : Class) → isNotAliveClass c ≡ isNotAlive (standingOf c)
+not-alive-class : (c : Class) → isNotAliveClass c ≡ isNotAlive c
 not-alive-class alive = refl
 not-alive-class notAlive = refl
 not-alive-class neither = refl
@@ -503,19 +498,19 @@ not-alive-class neither = refl
 module _ (ws : List Writer) (acc : Writers) (rises : Within writerKey 0 bound ws)
     (agree : (j : ℕ) → lookup writerKey j ws ≡ acc j) where
   -- a count over the table is a count over all GUIDs
-  counted : (p : Class → Bool) (q : Standing → Bool) → ((c : Class) → p c ≡ q (standingOf c)) → p neither ≡ false →
-      length (pick (λ w. p (classOf (w .liveliness .state))) ws) ≡ length (between 0 bound (λ g. q (standing (acc g))))
+  counted : (p : Class → Bool) (q : Class → Bool) → ((c : Class) → p c ≡ q c) → p neither ≡ false →
+      length (pick (λ w. p (classOf (w .liveliness .state))) ws) ≡ length (between 0 bound (λ g. q (class (acc g))))
   counted p q e n =
       sym (length-map writerKey (pick (λ w. p (classOf (w .liveliness .state))) ws))
       ∙ ap length
       (pick-between writerKey 0 bound (λ w. p (classOf (w .liveliness .state))) ws (rw (zero-add bound) rises)
       ∙ between-ext writerKey 0 bound (λ j. test (λ w. p (classOf (w .liveliness .state))) (lookup writerKey j ws))
-      (λ g. q (standing (acc g)))
-      (λ j l. one (lookup writerKey j ws) ∙ ap (λ (o : Option Writer). q (standing o)) (agree j)))
+      (λ g. q (class (acc g)))
+      (λ j l. one (lookup writerKey j ws) ∙ ap (λ (o : Option Writer). q (class o)) (agree j)))
     where
-      one : (o : Option Writer) → test (λ w. p (classOf (w .liveliness .state))) o ≡ q (standing o)
+      one : (o : Option Writer) → test (λ w. p (classOf (w .liveliness .state))) o ≡ q (class o)
       one none = sym n ∙ e neither
-      one (some w) = e (classOf (w .liveliness .state)) ∙ ap q (states-stand (w .liveliness .state))
+      one (some w) = e (classOf (w .liveliness .state)) ∙ ap q (states-class (w .liveliness .state))
 
   pub alive-are : aliveCount ws ≡ aliveAmong acc
   unfolding aliveCount aliveAmong

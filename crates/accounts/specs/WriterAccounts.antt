@@ -22,6 +22,7 @@ use Rattle.model.specs.declared.WriterState.the-variants.{Unasserted, Alive, No
 use Rattle.model.specs.Calls.{TrackerCall, matched, unmatched, lostWithParticipant, writerAsserted, participantAsserted, expire, takeLost, takeStatus, acknowledge}
 use Rattle.model.specs.Guids.{num}
 use Rattle.model.specs.InstanceRecord.{bit}
+use Rattle.model.specs.State.{Class, alive, notAlive, neither}
 use Rattle.model.specs.WriterRecord.{livelinessNumbered}
 use Rattle.accounts.specs.Ranges.{bound, guidNumbered, between, greatest}
 
@@ -211,36 +212,32 @@ writersAfter c s acc g = onWriter c s (acc (num (s .guid))) g (acc g)
 
 -- ---- classes: alive; not alive with departed; neither
 
--- the three classes
-pub data Standing : Type 0 where
-  alive notAlive neither : Standing
-
 -- the class of each state
-abbrev pub standingIn : WriterState → Standing
-standingIn Unasserted = neither
-standingIn Alive = alive
-standingIn NotAlive = notAlive
-standingIn Departed = notAlive
+abbrev pub classIn : WriterState → Class
+classIn Unasserted = neither
+classIn Alive = alive
+classIn NotAlive = notAlive
+classIn Departed = notAlive
 
 -- the class of an account; an absent one is in neither
-abbrev pub standing : Option Writer → Standing
-standing none = neither
-standing (some w) = standingIn (w .liveliness .state)
+abbrev pub class : Option Writer → Class
+class none = neither
+class (some w) = classIn (w .liveliness .state)
 
 -- the class alive
-abbrev pub isAlive : Standing → Bool
+abbrev pub isAlive : Class → Bool
 isAlive alive = true
 isAlive notAlive = false
 isAlive neither = false
 
 -- the class not alive with departed
-abbrev pub isNotAlive : Standing → Bool
+abbrev pub isNotAlive : Class → Bool
 isNotAlive alive = false
 isNotAlive notAlive = true
 isNotAlive neither = false
 
 -- a class move: from one class into another
-abbrev pub differ : Standing → Standing → Bool
+abbrev pub differ : Class → Class → Bool
 differ alive alive = false
 differ alive notAlive = true
 differ alive neither = true
@@ -253,7 +250,7 @@ differ neither neither = false
 
 -- an account before a call and after it
 abbrev pub moved : Option Writer → Option Writer → Bool
-moved before after = differ (standing before) (standing after)
+moved before after = differ (class before) (class after)
 
 -- the account of g, among all before and all after
 abbrev pub movedAt : Writers → Writers → ℕ → Bool
@@ -261,27 +258,27 @@ movedAt before after g = moved (before g) (after g)
 
 -- it was alive before a call and is not alive after it: in code 37, the call expired it
 abbrev pub expiredAt : Writers → Writers → ℕ → Bool
-expiredAt before after g = isAlive (standing (before g)) && isNotAlive (standing (after g))
+expiredAt before after g = isAlive (class (before g)) && isNotAlive (class (after g))
 
 -- these GUIDs, rising
 unfoldable pub expiredIn : Writers → Writers → List Guid
 expiredIn before after = map guidNumbered (between 0 bound (expiredAt before after))
 
 -- the account of g is in the class alive
-abbrev pub standsAlive : Writers → ℕ → Bool
-standsAlive acc g = isAlive (standing (acc g))
+abbrev pub inAlive : Writers → ℕ → Bool
+inAlive acc g = isAlive (class (acc g))
 
 -- the account of g is in the class not alive with departed
-abbrev pub standsNotAlive : Writers → ℕ → Bool
-standsNotAlive acc g = isNotAlive (standing (acc g))
+abbrev pub inNotAlive : Writers → ℕ → Bool
+inNotAlive acc g = isNotAlive (class (acc g))
 
 -- the number of GUIDs that are alive
 unfoldable pub aliveAmong : Writers → ℕ
-aliveAmong acc = length (between 0 bound (standsAlive acc))
+aliveAmong acc = length (between 0 bound (inAlive acc))
 
 -- the number of GUIDs that are not alive or departed
 unfoldable pub notAliveAmong : Writers → ℕ
-notAliveAmong acc = length (between 0 bound (standsNotAlive acc))
+notAliveAmong acc = length (between 0 bound (inNotAlive acc))
 
 -- ---- the writers' accounts with what is told of them all
 
