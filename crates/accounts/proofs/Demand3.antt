@@ -1,0 +1,242 @@
+-- Demand 3: one claim on the whole list of calls.
+--     demand3            for every list of sheets and Outs, from the fresh state: the final head and buffers are those of
+--                        the accounts
+--     demand3-128        the same of `callOf`, with 128 places
+--     always-formed      each call of the list is lent a well-formed state: no run meets refusal 3
+-- Assumes nothing.
+use mathlib.Core.Bool.{Bool, true, false, cond}
+use mathlib.Core.List.{List, [], _∷_}
+use mathlib.Core.Option.{Option, none, some}
+use mathlib.Core.Path.{_≡_, refl, sym, ap, _∙_, subst}
+use Prim.Native.Nat.{ℕ}
+use native.Mathlib.Nat.{zero-add}
+use borrow.Author.Tests.{eqb-true}
+use lib.Dec.{eqb}
+use lib.ListN.{length}
+use Rattle.octets.specs.Bounds.{Bytes}
+use Rattle.octets.specs.Lay.{All}
+use Rattle.model.specs.declared.Answer.{Answer}
+use Rattle.model.specs.Answers.{refusedWith}
+use Rattle.model.specs.Call.{Left, refuse, turn, listIn, settle, judged, coded, callIn, callOf}
+use Rattle.model.specs.Calls.{Call, callOfCode}
+use Rattle.model.specs.Handles.{handle}
+use Rattle.model.specs.InstanceCalls.{Turned}
+use Rattle.model.specs.Refusals.{lengthsOk, sheetRefusal}
+use Rattle.model.specs.Sheets.{sheetOf}
+use Rattle.model.specs.State.{Lent, State, headOf, layOut, pensOf, writersOf, lostOf, fresh, freshState, instanceKey, writerKey}
+use Rattle.model.specs.WellFormed.{wellFormed}
+use Rattle.model.proofs.RowLaws.{both}
+use Rattle.model.proofs.StateLaws.{read-back, laid-valid, fresh-laid}
+use Rattle.accounts.specs.Accounts.{Accounts, absent, accepted, advance, accountsFrom, accountsOf, Lending, withOut, eventOf, next, final, history, SheetBytes, instancesIn, writersIn, Told}
+use Rattle.accounts.specs.Ranges.{bound}
+use Rattle.accounts.proofs.Basics.{split}
+use Rattle.accounts.proofs.Held.{Held, held-turn, held-valid, held-fits, held-fresh}
+use Rattle.accounts.proofs.SheetLaws.{sheet-fits}
+use Rattle.accounts.proofs.Steps.{advanced}
+use Rattle.accounts.proofs.TurnLaws.{lookup, within-present, present-ext}
+use Rattle.accounts.proofs.WriterTurns.{alive-are, not-alive-are}
+
+-- ---- the accounts of an answer
+
+-- refused calls are skipped
+refused-unheard : (sheet : List ℕ) (n : ℕ) → eqb n 0 ≡ false → accepted (eventOf sheet (refusedWith n)) ≡ none
+refused-unheard sheet n e = ap (λ (b : Bool). cond b (callOfCode (sheetOf sheet .code)) none) e
+
+skipped : (sheet : List ℕ) (n : ℕ) (acc : Accounts) → eqb n 0 ≡ false → advance (eventOf sheet (refusedWith n)) acc ≡ acc
+unfolding advance
+skipped sheet n acc e = rw (refused-unheard sheet n e)
+
+heard : (sheet : List ℕ) (a : Answer) (c : Call) (acc : Accounts) → a .number ≡ 0 →
+    callOfCode (sheetOf sheet .code) ≡ some c →
+    advance (eventOf sheet a) acc ≡ advanced c (sheetOf sheet) a acc
+unfolding advance
+heard sheet a c acc e q = rw (e, q)
+
+-- ---- one call of the list
+
+pub record Next (places : ℕ) (sheet : List ℕ) (r : Left) (acc : Accounts) : Type 0 where
+  pub state : State
+  pub held : Held places state (advance (eventOf sheet (r .answer)) acc)
+  pub laid : r .lent ≡ layOut places state (r .lent .out)
+
+refused-next : (places n : ℕ) (sheet : List ℕ) (st : State) (out : List ℕ) (acc : Accounts) → eqb n 0 ≡ false →
+    Held places st acc →
+    Next places sheet (refuse n (layOut places st out)) acc
+unfolding layOut
+refused-next places n sheet st out acc e m =
+    record { state = st; held = subst (Held places st) (sym (skipped sheet n acc e)) m; laid = refl }
+
+settled-next : (places : ℕ) (sheet : List ℕ) (c : Call) (st : State) (out : List ℕ) (acc : Accounts) → Bytes sheet →
+    length sheet ≡ 256 →
+    callOfCode (sheetOf sheet .code) ≡ some c → eqb (sheetRefusal c (sheetOf sheet) st) 0 ≡ true → Held places st acc →
+    Next places sheet (settle places (turn places c (sheetOf sheet) st) (layOut places st out)) acc
+unfolding settle
+settled-next places sheet c st out acc b n q a m =
+    split (eqb (t .answer .number) 0)
+    (λ e. rw e (done e))
+    (λ e. rw e (refused-next places (t .answer .number) sheet st out acc e m))
+  where
+    t : Turned
+    t = turn places c (sheetOf sheet) st
+
+    done : eqb (t .answer .number) 0 ≡ true →
+        Next places sheet record {
+          answer = t .answer;
+          lent = layOut places (t .state)
+              (listIn (t .list) (layOut places st out .out));
+        } acc
+    done e =
+        unfold layOut in
+        record {
+          state = t .state;
+          held =
+              subst (Held places (t .state)) (sym (heard sheet (t .answer) c acc (eqb-true (t .answer .number) 0 e) q))
+              (held-turn places c (sheetOf sheet) st acc (sheet-fits sheet b n) a e m);
+          laid = refl;
+        }
+
+judged-next : (places : ℕ) (sheet : List ℕ) (c : Call) (st : State) (out : List ℕ) (acc : Accounts) → Bytes sheet →
+    length sheet ≡ 256 →
+    callOfCode (sheetOf sheet .code) ≡ some c → Held places st acc →
+    Next places sheet (judged places c (sheetOf sheet) (layOut places st out)) acc
+unfolding judged
+judged-next places sheet c st out acc b n q m =
+    rw (read-back places st out (held-fits places st acc m))
+    (split (eqb (sheetRefusal c (sheetOf sheet) st) 0)
+    (λ e. rw e (settled-next places sheet c st out acc b n q e m))
+    (λ e. rw e (refused-next places (sheetRefusal c (sheetOf sheet) st) sheet st out acc e m)))
+
+pub formed : (places : ℕ) (st : State) (out : List ℕ) (acc : Accounts) → Held places st acc →
+    wellFormed places (layOut places st out) ≡ true
+formed places st out acc m = laid-valid places st out (held-fits places st acc m) ∙ held-valid places st acc m
+
+coded-next : (places : ℕ) (sheet : List ℕ) (o : Option Call) (st : State) (out : List ℕ) (acc : Accounts) → Bytes sheet →
+    length sheet ≡ 256 →
+    callOfCode (sheetOf sheet .code) ≡ o → Held places st acc →
+    Next places sheet (coded places o (sheetOf sheet) (layOut places st out)) acc
+coded-next places sheet none st out acc b n q m = refused-next places 2 sheet st out acc refl m
+coded-next places sheet (some c) st out acc b n q m =
+    rw (formed places st out acc m) (judged-next places sheet c st out acc b n q m)
+
+call-next : (places : ℕ) (sheet : List ℕ) (st : State) (out : List ℕ) (acc : Accounts) → Bytes sheet → Held places st acc →
+    Next places sheet (callIn places sheet (layOut places st out)) acc
+unfolding callIn
+call-next places sheet st out acc b m =
+    split (lengthsOk places sheet (layOut places st out))
+    (λ e. rw e (coded-next places sheet (callOfCode (sheetOf sheet .code)) st out acc b (size e) refl m))
+    (λ e. rw e (refused-next places 1 sheet st out acc refl m))
+  where
+    size : lengthsOk places sheet (layOut places st out) ≡ true → length sheet ≡ 256
+    size e = unfold lengthsOk in eqb-true (length sheet) 256 (both _ _ e .0)
+
+-- ---- a list of calls
+
+pub out-replaced : (places : ℕ) (st : State) (out new : List ℕ) → withOut new (layOut places st out) ≡ layOut places st new
+unfolding layOut
+out-replaced places st out new = refl
+
+pub record After (places : ℕ) (l : Lent) (acc : Accounts) : Type 0 where
+  pub state : State
+  pub held : Held places state acc
+  pub laid : l ≡ layOut places state (l .out)
+
+after-list : (places : ℕ) (is : List Lending) (l : Lent) (acc : Accounts) → All SheetBytes is → After places l acc →
+    After places (final (callIn places) is l) (accountsFrom (history (callIn places) is l) acc)
+unfolding final history accountsFrom
+after-list places [] l acc b m = m
+after-list places (i ∷ is) l acc b m =
+    after-list places is (next (callIn places) i l .lent)
+    (advance (eventOf (i .sheet) (next (callIn places) i l .answer)) acc) (b .1) after
+  where
+    same : withOut (i .out) l ≡ layOut places (m .state) (i .out)
+    same = ap (withOut (i .out)) (m .laid) ∙ out-replaced places (m .state) (l .out) (i .out)
+
+    one : Next places (i .sheet) (next (callIn places) i l) acc
+    one =
+        subst (λ (k : Lent). Next places (i .sheet) (callIn places (i .sheet) k) acc) (sym same)
+        (call-next places (i .sheet) (m .state) (i .out) acc (b .0) (m .held))
+
+    after : After places (next (callIn places) i l .lent)
+        (advance (eventOf (i .sheet) (next (callIn places) i l .answer)) acc)
+    after = record { state = one .state; held = one .held; laid = one .laid }
+
+-- after every list, from the fresh state
+pub after-fresh : (places : ℕ) (is : List Lending) (out : List ℕ) → All SheetBytes is →
+    After places (final (callIn places) is (fresh places out)) (accountsOf (history (callIn places) is (fresh places out)))
+unfolding accountsOf
+after-fresh places is out b =
+    after-list places is (fresh places out) absent b
+    record {
+      state = freshState;
+      held = held-fresh places;
+      laid = sym (fresh-laid places out) ∙ ap
+          (layOut places freshState) outs;
+    }
+  where
+    outs : out ≡ fresh places out .out
+    outs = unfold fresh in refl
+
+-- ---- the claim
+
+-- the tables are the accounts not absent
+pub instances-are : (places : ℕ) (st : State) (acc : Accounts) → Held places st acc → st .instances ≡ instancesIn acc
+unfolding instancesIn
+instances-are places st acc m =
+    within-present instanceKey 0 bound (st .instances) (rw (zero-add bound) (m .sim .instances .rising))
+    ∙ present-ext instanceKey 0 bound (λ j. lookup instanceKey j (st .instances)) (acc .instances .at)
+    (λ j l. m .sim .instances .agree j)
+
+pub writers-are : (places : ℕ) (st : State) (acc : Accounts) → Held places st acc → st .writers ≡ writersIn acc
+unfolding writersIn
+writers-are places st acc m =
+    within-present writerKey 0 bound (st .writers) (rw (zero-add bound) (m .sim .writers .rising))
+    ∙ present-ext writerKey 0 bound (λ j. lookup writerKey j (st .writers)) (acc .writers .at)
+    (λ j l. m .sim .writers .agree j)
+
+told-laid : (places : ℕ) (st : State) (out : List ℕ) (acc : Accounts) → Held places st acc →
+    Told places (layOut places st out) acc
+unfolding layOut headOf
+told-laid places st out acc m =
+    let xs : st .instances ≡ instancesIn acc = instances-are places st acc m in
+    let ws : st .writers ≡ writersIn acc = writers-are places st acc m in
+    let v = m .sim .writers in
+    let alive = alive-are (st .writers) (acc .writers .at) (v .rising) (v .agree) in
+    let notAlive = not-alive-are (st .writers) (acc .writers .at) (v .rising) (v .agree) in
+    record {
+      pens = ap (pensOf places) xs;
+      writers = ap writersOf ws;
+      lost = ap lostOf (v .lost);
+      instanceCount = ap length xs;
+      writerCount = ap length ws;
+      lostCount = ap length (v .lost);
+      alive = alive;
+      notAlive = notAlive;
+      aliveChange = rw (alive, v .acknowledgedAlive);
+      notAliveChange = rw (notAlive, v .acknowledgedNotAlive);
+      lastWriter = v .last;
+      changes = v .changes;
+      startedHandles = m .sim .instances .handles;
+      nextHandle = ap handle (m .sim .instances .next);
+    }
+
+told-after : (places : ℕ) (l : Lent) (acc : Accounts) → After places l acc → Told places l acc
+told-after places l acc m =
+    subst (λ (k : Lent). Told places k acc) (sym (m .laid)) (told-laid places (m .state) (l .out) acc (m .held))
+
+pub demand3 : (places : ℕ) (is : List Lending) (out : List ℕ) → All SheetBytes is →
+    Told places (final (callIn places) is (fresh places out)) (accountsOf (history (callIn places) is (fresh places out)))
+demand3 places is out b = told-after places _ _ (after-fresh places is out b)
+
+pub demand3-128 : (is : List Lending) (out : List ℕ) → All SheetBytes is →
+    Told 128 (final callOf is (fresh 128 out)) (accountsOf (history callOf is (fresh 128 out)))
+unfolding callOf
+demand3-128 is out b = demand3 128 is out b
+
+-- ---- not vacuous: no call of a run meets refusal 3
+
+pub always-formed : (places : ℕ) (is : List Lending) (out new : List ℕ) → All SheetBytes is →
+    wellFormed places (withOut new (final (callIn places) is (fresh places out))) ≡ true
+always-formed places is out new b =
+    let m = after-fresh places is out b in
+    ap (wellFormed places) (ap (withOut new) (m .laid) ∙ out-replaced places (m .state) _ new) ∙ formed places
+    (m .state) new _ (m .held)

@@ -1,0 +1,387 @@
+-- Demand 3 is not vacuous: a sheet in order is refused by nothing but 8 and 9 to 13, each exactly where section 8 says on
+-- the accounts.
+--     answered-number    the number of a turn
+--     only-busy          the number of a call of a list, whose sheet is in order
+--     never-3            no call of a list is refused by 3
+-- Assumes nothing.
+use mathlib.Core.Bool.{Bool, true, false, not, _&&_, cond}
+use mathlib.Core.List.{List, [], _∷_}
+use mathlib.Core.Logic.{_≢_}
+use mathlib.Core.Option.{Option, none, some}
+use mathlib.Core.Path.{_≡_, refl, sym, ap, _∙_, subst}
+use Prim.Native.Nat.{ℕ, _+_, _*_}
+use native.Mathlib.Nat.{mul-le-mul-right}
+use native.Mathlib.Omega.{arith}
+use borrow.Author.Tests.{eqb-true, eqb-false, eq-eqb}
+use lib.Dec.{eqb, leb, ltb}
+use lib.IntN.{_+ℤ_}
+use lib.ListN.{length}
+use mir.Syntax.{w32}
+use mir.Val.{toZ}
+use Rattle.octets.specs.Bounds.{Bytes}
+use Rattle.octets.specs.Lay.{All, length-lay}
+use Rattle.model.specs.declared.Guid.{Guid}
+use Rattle.model.specs.declared.Instance.{Instance}
+use Rattle.model.specs.declared.Sheet.{Sheet}
+use Rattle.model.specs.Call.{turn, settle, judged, coded, callIn}
+use Rattle.model.specs.declared.InstanceCall.{InstanceCall}
+use Rattle.model.specs.declared.TrackerCall.{TrackerCall}
+use Rattle.model.specs.declared.JoinedCall.{JoinedCall}
+use Rattle.model.specs.declared.InstanceCall.the-variants.{Register as register, EnsureRegisteredLimited as ensureRegisteredLimited, Dispose as dispose, Unregister as unregister, UnregisterWriter as unregisterWriter, NoteWriter as noteWriter, DropWriter as dropWriter, ObserveLifecycle as observeLifecycle, ObserveAdmitted as observeAdmitted, NoteAdmitted as noteAdmitted, RecordDelivery as recordDelivery, NoteTaken as noteTaken, MarkViewSeen as markViewSeen, MarkViewNew as markViewNew, DrainSamples as drainSamples, AcceptUnderExclusiveOwnership as acceptUnderExclusiveOwnership, UpdateOwnerStrength as updateOwnerStrength, ClearOwnerForWriter as clearOwnerForWriter, ClearOwnerForWriterPrefix as clearOwnerForWriterPrefix, ReleaseOwnerOf as releaseOwnerOf, Autopurge as autopurge}
+use Rattle.model.specs.declared.TrackerCall.the-variants.{Matched as matched, Unmatched as unmatched, LostWithParticipant as lostWithParticipant, WriterAsserted as writerAsserted, ParticipantAsserted as participantAsserted, Expire as expire, TakeLost as takeLost, TakeStatus as takeStatus, Acknowledge as acknowledge}
+use Rattle.model.specs.declared.JoinedCall.the-variants.{Admit as admit, Lapse as lapse, Part as part, Depart as depart}
+use Rattle.model.specs.Calls.{Call, instances, tracker, joined, callOfCode}
+use Rattle.model.specs.Guids.{num, guidBytes}
+use Rattle.model.specs.InstanceCalls.{Turned, known, begins, full, spent, crowds, accepted, atLimit, reached, lateRefusal, instanceTurn, instanceCall, told, handleAnswer, samplesAnswer, infoAnswer}
+use Rattle.model.specs.InstanceRecord.{instanceBytes}
+use Rattle.model.specs.Instances.{rule, limitedBy, hasKey}
+use Rattle.model.specs.Joined.{inOrder, passesFilter, admitted, admitWith, afterLoss, lossCall}
+use Rattle.model.specs.Refusals.{lengthsOk, timesUsed, clocksUsed, holderFits, kindOk, acknowledgeOk, nanosecondsOk, sheetRefusal}
+use Rattle.model.specs.Sheets.{sheetOf}
+use Rattle.model.specs.State.{Lent, State, fresh, instanceKey, layOut}
+use Rattle.model.specs.Tables.{all, isSome, find}
+use Rattle.model.specs.WellFormed.{clockOk, within}
+use Rattle.model.specs.WriterRecord.{writerBytes}
+use Rattle.model.specs.Writers.{hasGuid, movers, trackerTold, trackerLate, trackerTurn, trackerCall}
+use Rattle.model.proofs.Fits.{FitsGuid, FitsInstance, FitsWriter}
+use Rattle.model.proofs.GuidLaws.{length-guid}
+use Rattle.model.proofs.InstanceLaws.{length-instance}
+use Rattle.model.proofs.StateLaws.{Fitting, read-back}
+use Rattle.model.proofs.WriterLaws.{length-writer}
+use Rattle.accounts.specs.Accounts.{Accounts, accountsOf, Lending, withOut, next, final, history, SheetBytes}
+use Rattle.accounts.specs.Busy.{Ordered, busyInstance, busyTracker, busyMatch, busyExpire, busyAdmit, busyJoined, busy}
+use Rattle.accounts.proofs.Basics.{split, either}
+use Rattle.accounts.proofs.Demand3.{formed, out-replaced, after-fresh, instances-are, writers-are}
+use Rattle.accounts.proofs.Held.{Held, held-fits}
+use Rattle.accounts.proofs.SheetLaws.{SheetFits, sheet-fits}
+use Rattle.accounts.proofs.TurnLaws.{any-lookup}
+use Rattle.accounts.proofs.WriterSound.{guids-sound}
+use Rattle.accounts.proofs.WriterTurns.{movers-fit, expired-are}
+
+-- ---- accepted calls answer 0
+
+handle-accepted : (o : Option Instance) → handleAnswer o .number ≡ 0
+handle-accepted none = refl
+handle-accepted (some x) = refl
+
+samples-accepted : (o : Option Instance) → samplesAnswer o .number ≡ 0
+samples-accepted none = refl
+samples-accepted (some x) = refl
+
+info-accepted : (o : Option Instance) → infoAnswer o .number ≡ 0
+info-accepted none = refl
+info-accepted (some x) = refl
+
+told-accepted : (c : InstanceCall) (s : Sheet) (before after : List Instance) → told c s before after .number ≡ 0
+told-accepted register s before after = handle-accepted (reached register s before)
+told-accepted ensureRegisteredLimited s before after = handle-accepted (reached ensureRegisteredLimited s before)
+told-accepted dispose s before after = refl
+told-accepted unregister s before after = refl
+told-accepted unregisterWriter s before after = refl
+told-accepted noteWriter s before after = refl
+told-accepted dropWriter s before after = refl
+told-accepted observeLifecycle s before after = handle-accepted (reached observeLifecycle s before)
+told-accepted observeAdmitted s before after = samples-accepted (reached observeAdmitted s after)
+told-accepted noteAdmitted s before after = info-accepted (reached noteAdmitted s after)
+told-accepted recordDelivery s before after = refl
+told-accepted noteTaken s before after = refl
+told-accepted markViewSeen s before after = refl
+told-accepted markViewNew s before after = refl
+told-accepted drainSamples s before after = refl
+told-accepted acceptUnderExclusiveOwnership s before after = refl
+told-accepted updateOwnerStrength s before after = refl
+told-accepted clearOwnerForWriter s before after = refl
+told-accepted clearOwnerForWriterPrefix s before after = refl
+told-accepted releaseOwnerOf s before after = refl
+told-accepted autopurge s before after = refl
+
+turn-accepted : (c : InstanceCall) (s : Sheet) (st : State) → instanceTurn c s st .answer .number ≡ 0
+unfolding instanceTurn
+turn-accepted c s st = told-accepted c s _ _
+
+tracker-accepted : (c : TrackerCall) (s : Sheet) (st : State) → trackerTold c s st .number ≡ 0
+tracker-accepted matched s st = refl
+tracker-accepted unmatched s st = refl
+tracker-accepted lostWithParticipant s st = refl
+tracker-accepted writerAsserted s st = refl
+tracker-accepted participantAsserted s st = refl
+tracker-accepted expire s st = refl
+tracker-accepted takeLost s st = refl
+tracker-accepted takeStatus s st = refl
+tracker-accepted acknowledge s st = refl
+
+-- ---- the number of a turn, from the state
+
+instance-number : (places : ℕ) (c : InstanceCall) (s : Sheet) (st : State) →
+    instanceCall places c s st .answer .number ≡ cond (limitedBy (rule c .reach) && atLimit s st) 0
+    (lateRefusal places c s st)
+unfolding instanceCall
+instance-number places c s st =
+    split (limitedBy (rule c .reach) && atLimit s st)
+    (λ l. rw l)
+    (λ l. split (eqb (lateRefusal places c s st) 0)
+    (λ e. rw (l, e) (turn-accepted c s st ∙ sym (eqb-true (lateRefusal places c s st) 0 e)))
+    (λ e. rw (l, e)))
+
+tracker-number : (c : TrackerCall) (s : Sheet) (st : State) → trackerCall c s st .answer .number ≡ trackerLate c s st
+unfolding trackerCall trackerTurn
+tracker-number c s st =
+    split (eqb (trackerLate c s st) 0)
+    (λ e. rw e (tracker-accepted c s st ∙ sym (eqb-true (trackerLate c s st) 0 e)))
+    (λ e. rw e)
+
+loss-number : (c : TrackerCall) (gs : List Guid) (s : Sheet) (st : State) →
+    lossCall c gs s st .answer .number ≡ trackerLate c s st
+unfolding lossCall afterLoss
+loss-number c gs s st =
+    split (eqb (trackerLate c s st) 0) (λ e. rw e (sym (eqb-true (trackerLate c s st) 0 e))) (λ e. rw e)
+
+admit-number : (places : ℕ) (s : Sheet) (st : State) (x : Option Instance) →
+    admitWith places s st x .answer .number
+    ≡ cond (not (inOrder s x)) 0
+    (cond (not (passesFilter s x)) 0
+    (cond (atLimit s st) 0
+    (cond (not (known s st) && full places st) 9 (cond (not (known s st) && spent st) 13 (cond (crowds s x) 10 0)))))
+unfolding admitWith
+admit-number places s st x =
+    split (not (inOrder s x))
+    (λ e. rw e)
+    (λ e1. split (not (passesFilter s x))
+    (λ e. rw (e1, e))
+    (λ e2. split (atLimit s st)
+    (λ e. rw (e1, e2, e))
+    (λ e3. split (not (known s st) && full places st)
+    (λ e. rw (e1, e2, e3, e))
+    (λ e4. split (not (known s st) && spent st)
+    (λ e. rw (e1, e2, e3, e4, e))
+    (λ e5. split (crowds s x)
+    (λ e. rw (e1, e2, e3, e4, e5, e))
+    (λ e6. split (not (accepted s x))
+    (λ e. rw (e1, e2, e3, e4, e5, e6, e))
+    (λ e7. rw (e1, e2, e3, e4, e5, e6, e7) taken)))))))
+  where
+    taken : admitted s st .answer .number ≡ 0
+    taken = unfold admitted in refl
+
+-- ---- the same, from the accounts
+
+module _ (places : ℕ) (s : Sheet) (st : State) (acc : Accounts) (fits : SheetFits s) (m : Held places st acc) where
+  known-is : known s st ≡ isSome (acc .instances .at (num (s .key)))
+  known-is = any-lookup instanceKey (num (s .key)) (st .instances) ∙ ap isSome (m .sim .instances .agree (num (s .key)))
+
+  instance-busy : (c : InstanceCall) → instanceCall places c s st .answer .number ≡ busyInstance places c s acc
+  unfolding lateRefusal busyInstance
+  instance-busy c = instance-number places c s st ∙ rw (known-is, instances-are places st acc m, m .sim .instances .next)
+
+  admit-busy : admitWith places s st (find (hasKey (s .key)) (st .instances)) .answer .number ≡ busyAdmit places s acc
+  unfolding busyAdmit
+  admit-busy =
+      admit-number places s st (find (hasKey (s .key)) (st .instances))
+      ∙ rw (known-is, m .sim .instances .agree (num (s .key)), instances-are places st acc m, m .sim .instances .next)
+
+  expire-busy : trackerLate expire s st ≡ busyExpire s acc
+  expire-busy =
+      rw (
+        expired-are s (st .writers) (acc .writers .at) (fits .guid) (m .sim .writers .rising) (m .sim .writers .agree)
+            (movers-fit expire s (st .writers) (fits .guid) (guids-sound (st .writers) (m .writers .each))),
+        m .sim .writers .lost,
+      )
+
+  match-busy : trackerLate matched s st ≡ busyMatch s acc
+  match-busy = rw (m .sim .writers .agree (num (s .guid)), writers-are places st acc m)
+
+  -- what is left once a sheet has passed 4 to 7
+  passing : (c : Call) → Ordered c s → sheetRefusal c s st ≡ cond (not (acknowledgeOk c s st)) 8 0
+  unfolding sheetRefusal
+  passing c o = rw (o .times, o .clocks, o .holder, o .kind)
+
+  -- the number of a call that is judged
+  abbrev judgedNumber : Call → ℕ
+  judgedNumber c = cond (eqb (sheetRefusal c s st) 0) (turn places c s st .answer .number) (sheetRefusal c s st)
+
+  ordered-number : (c : Call) → Ordered c s → acknowledgeOk c s st ≡ true →
+      judgedNumber c ≡ turn places c s st .answer .number
+  ordered-number c o a = rw (passing c o, a)
+
+  tracker-busy : (c : TrackerCall) → Ordered (tracker c) s → judgedNumber (tracker c) ≡ busyTracker c s acc
+  tracker-busy matched o = ordered-number (tracker matched) o refl ∙ tracker-number matched s st ∙ match-busy
+  tracker-busy unmatched o = ordered-number (tracker unmatched) o refl ∙ tracker-number unmatched s st
+  tracker-busy lostWithParticipant o =
+      ordered-number (tracker lostWithParticipant) o refl ∙ tracker-number lostWithParticipant s st
+  tracker-busy writerAsserted o = ordered-number (tracker writerAsserted) o refl ∙ tracker-number writerAsserted s st
+  tracker-busy participantAsserted o =
+      ordered-number (tracker participantAsserted) o refl ∙ tracker-number participantAsserted s st
+  tracker-busy expire o = ordered-number (tracker expire) o refl ∙ tracker-number expire s st ∙ expire-busy
+  tracker-busy takeLost o = ordered-number (tracker takeLost) o refl ∙ tracker-number takeLost s st
+  tracker-busy takeStatus o = ordered-number (tracker takeStatus) o refl ∙ tracker-number takeStatus s st
+  tracker-busy acknowledge o =
+      rw (
+        passing
+            (tracker acknowledge) o,
+        tracker-number acknowledge s st,
+        m .sim .writers .acknowledgedAlive,
+        m .sim .writers .acknowledgedNotAlive,
+      )
+      (eight (not
+      (within (acc .writers .acknowledgedAlive +ℤ toZ w32 (s .first)) && within
+      (acc .writers .acknowledgedNotAlive +ℤ toZ w32 (s .second)))))
+    where
+      eight : (b : Bool) → _≡_ {A = ℕ} (cond (eqb (cond b 8 0) 0) 0 (cond b 8 0)) (cond b 8 0)
+      eight true = refl
+      eight false = refl
+
+  joined-busy : (c : JoinedCall) → turn places (joined c) s st .answer .number ≡ busyJoined places c s acc
+  joined-busy admit = admit-busy
+  joined-busy lapse = loss-number expire (movers expire s (st .writers)) s st ∙ expire-busy
+  joined-busy part = loss-number unmatched (s .guid ∷ []) s st
+  joined-busy depart = loss-number lostWithParticipant (s .guid ∷ []) s st
+
+  judged-busy : (c : Call) → Ordered c s → judgedNumber c ≡ busy places c s acc
+  judged-busy (instances c) o = ordered-number (instances c) o refl ∙ instance-busy c
+  judged-busy (tracker c) o = tracker-busy c o
+  judged-busy (joined c) o = ordered-number (joined c) o refl ∙ joined-busy c
+
+-- ---- on bytes
+
+-- the buffers of the accounts have their lengths
+laid-lengths : (places : ℕ) (sheet : List ℕ) (st : State) (out : List ℕ) → Fitting places st → length sheet ≡ 256 →
+    length out ≡ 4096 →
+    lengthsOk places sheet (layOut places st out) ≡ true
+unfolding lengthsOk layOut
+laid-lengths places sheet st out f n o =
+    let pens = length-lay instanceBytes 512 FitsInstance length-instance (places * 512) (st .instances) (f .instances)
+    (mul-le-mul-right 512 (f .fewInstances)) in
+    let writers = length-lay writerBytes 40 FitsWriter (λ w q. length-writer w) 5120 (st .writers) (f .writers)
+    (omega (arith, f .fewWriters)) in
+    let lost = length-lay guidBytes 16 FitsGuid (λ g q. length-guid g) 4096 (st .lost) (f .lost)
+    (omega (arith, f .fewLost)) in
+    rw (pens, writers, lost, n, o, eq-eqb (places * 512) (places * 512) refl)
+
+settled-number : (places : ℕ) (t : Turned) (l : Lent) → settle places t l .answer .number ≡ t .answer .number
+unfolding settle
+settled-number places t l = split (eqb (t .answer .number) 0) (λ e. rw e) (λ e. rw e)
+
+judged-number : (places : ℕ) (c : Call) (s : Sheet) (st : State) (out : List ℕ) → Fitting places st →
+    judged places c s (layOut places st out) .answer .number
+    ≡ cond (eqb (sheetRefusal c s st) 0) (turn places c s st .answer .number) (sheetRefusal c s st)
+unfolding judged
+judged-number places c s st out f =
+    rw (read-back places st out f)
+    (split (eqb (sheetRefusal c s st) 0) (λ e. rw e (settled-number places (turn places c s st) (layOut places st out)))
+    (λ e. rw e))
+
+call-busy : (places : ℕ) (sheet : List ℕ) (st : State) (out : List ℕ) (acc : Accounts) (c : Call) → Bytes sheet →
+    length sheet ≡ 256 → length out ≡ 4096 →
+    callOfCode (sheetOf sheet .code) ≡ some c → Ordered c (sheetOf sheet) → Held places st acc →
+    callIn places sheet (layOut places st out) .answer .number ≡ busy places c (sheetOf sheet) acc
+unfolding callIn
+call-busy places sheet st out acc c b n o q d m =
+    rw (laid-lengths places sheet st out (held-fits places st acc m) n o, q, formed places st out acc m)
+    (judged-number places c (sheetOf sheet) st out (held-fits places st acc m) ∙ judged-busy places (sheetOf sheet) st acc
+    (sheet-fits sheet b n) m c d)
+
+-- after any list, a sheet of 256 bytes with an Out of 4,096, a valid code and all in order is refused by nothing but 8 and
+-- 9 to 13, each where section 8 says on the accounts
+pub only-busy : (places : ℕ) (is : List Lending) (out : List ℕ) (i : Lending) (c : Call) → All SheetBytes is →
+    SheetBytes i →
+    length (i .sheet) ≡ 256 → length (i .out) ≡ 4096 → callOfCode (sheetOf (i .sheet) .code) ≡ some c →
+    Ordered c (sheetOf (i .sheet)) →
+    next (callIn places) i (final (callIn places) is (fresh places out)) .answer .number
+    ≡ busy places c (sheetOf (i .sheet)) (accountsOf (history (callIn places) is (fresh places out)))
+only-busy places is out i c b bytes n o q d =
+    let m = after-fresh places is out b in
+    ap (λ (l : Lent). callIn places (i .sheet) l .answer .number)
+    (ap (withOut (i .out)) (m .laid) ∙ out-replaced places (m .state) _ (i .out))
+    ∙ call-busy places (i .sheet) (m .state) (i .out) _ c bytes n o q d (m .held)
+
+-- ---- no call is refused by 3, whatever its sheet and Out
+
+pub record NotThree (n : ℕ) : Type 0 where
+  pub is : eqb n 3 ≡ false
+
+zero-other : NotThree 0
+zero-other = record { is = refl }
+
+-- a refusal by n where b holds, else what comes after it
+link : (b : Bool) (n m : ℕ) → eqb n 3 ≡ false → NotThree m → NotThree (cond b n m)
+link b n m p q = either NotThree b n m (λ e. record { is = p }) (λ e. q)
+
+late-other : (c : TrackerCall) (s : Sheet) (st : State) → NotThree (trackerLate c s st)
+late-other matched s st =
+    link (not (isSome (find (hasGuid (s .guid)) (st .writers))) && leb 128 (length (st .writers))) 11 0 refl zero-other
+late-other unmatched s st = zero-other
+late-other lostWithParticipant s st = zero-other
+late-other writerAsserted s st = zero-other
+late-other participantAsserted s st = zero-other
+late-other expire s st = link (ltb 256 (length (st .lost) + length (movers expire s (st .writers)))) 12 0 refl zero-other
+late-other takeLost s st = zero-other
+late-other takeStatus s st = zero-other
+late-other acknowledge s st = zero-other
+
+instance-other : (places : ℕ) (c : InstanceCall) (s : Sheet) (st : State) →
+    NotThree (instanceCall places c s st .answer .number)
+unfolding lateRefusal
+instance-other places c s st =
+    subst NotThree (sym (instance-number places c s st))
+    (link (limitedBy (rule c .reach) && atLimit s st) 0 _ refl
+    (link (begins c s st && full places st) 9 _ refl
+    (link (begins c s st && spent st) 13 _ refl
+    (link (rule c .addsWriter && crowds s (reached c s (st .instances))) 10 0 refl zero-other))))
+
+admit-other : (places : ℕ) (s : Sheet) (st : State) (x : Option Instance) →
+    NotThree (admitWith places s st x .answer .number)
+admit-other places s st x =
+    subst NotThree (sym (admit-number places s st x))
+    (link (not (inOrder s x)) 0 _ refl
+    (link (not (passesFilter s x)) 0 _ refl
+    (link (atLimit s st) 0 _ refl
+    (link (not (known s st) && full places st) 9 _ refl
+    (link (not (known s st) && spent st) 13 _ refl
+    (link (crowds s x) 10 0 refl zero-other))))))
+
+joined-other : (places : ℕ) (c : JoinedCall) (s : Sheet) (st : State) →
+    NotThree (turn places (joined c) s st .answer .number)
+joined-other places admit s st = admit-other places s st (find (hasKey (s .key)) (st .instances))
+joined-other places lapse s st =
+    subst NotThree (sym (loss-number expire (movers expire s (st .writers)) s st)) (late-other expire s st)
+joined-other places part s st = subst NotThree (sym (loss-number unmatched (s .guid ∷ []) s st)) zero-other
+joined-other places depart s st = subst NotThree (sym (loss-number lostWithParticipant (s .guid ∷ []) s st)) zero-other
+
+turn-other : (places : ℕ) (c : Call) (s : Sheet) (st : State) → NotThree (turn places c s st .answer .number)
+turn-other places (instances c) s st = instance-other places c s st
+turn-other places (tracker c) s st = subst NotThree (sym (tracker-number c s st)) (late-other c s st)
+turn-other places (joined c) s st = joined-other places c s st
+
+sheet-other : (c : Call) (s : Sheet) (st : State) → NotThree (sheetRefusal c s st)
+unfolding sheetRefusal
+sheet-other c s st =
+    link (not (all nanosecondsOk (timesUsed c s))) 4 _ refl
+    (link (not (all clockOk (clocksUsed c s))) 5 _ refl
+    (link (not (holderFits c s)) 6 _ refl
+    (link (not (kindOk c s)) 7 _ refl (link (not (acknowledgeOk c s st)) 8 0 refl zero-other))))
+
+coded-other : (places : ℕ) (o : Option Call) (s : Sheet) (st : State) (out : List ℕ) (acc : Accounts) → Held places st acc →
+    NotThree (coded places o s (layOut places st out) .answer .number)
+coded-other places none s st out acc m = record { is = refl }
+coded-other places (some c) s st out acc m =
+    rw (formed places st out acc m)
+    (subst NotThree (sym (judged-number places c s st out (held-fits places st acc m)))
+    (either NotThree (eqb (sheetRefusal c s st) 0) (turn places c s st .answer .number) (sheetRefusal c s st)
+    (λ e. turn-other places c s st) (λ e. sheet-other c s st)))
+
+call-other : (places : ℕ) (sheet : List ℕ) (st : State) (out : List ℕ) (acc : Accounts) → Held places st acc →
+    NotThree (callIn places sheet (layOut places st out) .answer .number)
+unfolding callIn
+call-other places sheet st out acc m =
+    split (lengthsOk places sheet (layOut places st out))
+    (λ e. rw e (coded-other places (callOfCode (sheetOf sheet .code)) (sheetOf sheet) st out acc m))
+    (λ e. rw e record { is = refl })
+
+pub never-3 : (places : ℕ) (is : List Lending) (out : List ℕ) (i : Lending) → All SheetBytes is →
+    next (callIn places) i (final (callIn places) is (fresh places out)) .answer .number ≢ 3
+never-3 places is out i b =
+    let m = after-fresh places is out b in
+    eqb-false _ 3
+    (ap (λ (l : Lent). eqb (callIn places (i .sheet) l .answer .number) 3)
+    (ap (withOut (i .out)) (m .laid) ∙ out-replaced places (m .state) _ (i .out))
+    ∙ call-other places (i .sheet) (m .state) (i .out) _ (m .held) .is)

@@ -1,0 +1,277 @@
+-- A tracker call leaves the writers' part of the state well formed.
+--     ok-writer, fits-writer     a sound writer passes section 2's test and fits
+--     tracker-sound              an accepted tracker call
+-- Assumes nothing.
+use mathlib.Core.Bool.{Bool, true, false, not, _&&_, _||_, cond}
+use mathlib.Core.List.{List, [], _∷_}
+use mathlib.Core.Option.{Option, none, some}
+use mathlib.Core.Path.{_≡_, refl, ap, subst}
+use Prim.Native.Nat.{ℕ, _+_, _^_, _≤_, _<_}
+use native.Mathlib.Omega.{arith}
+use borrow.Author.Tests.{eqb-true, ltb-true, ltb-false, lt-ltb, le-leb}
+use lib.Dec.{eqb}
+use lib.IntN.{ℤ, pos, _+ℤ_}
+use lib.ListN.{length, length-append}
+use mir.Syntax.{w32}
+use mir.Val.{toZ}
+use Rattle.octets.specs.Lay.{All, all-append}
+use Rattle.model.specs.declared.Guid.{Guid}
+use Rattle.model.specs.declared.MaybeLease.{MaybeLease}
+use Rattle.model.specs.declared.Sheet.{Sheet}
+use Rattle.model.specs.declared.Writer.{Writer}
+use Rattle.model.specs.declared.WriterState.{WriterState}
+use Rattle.model.specs.declared.WriterState.the-variants.{Unasserted, Alive, NotAlive, Departed}
+use Rattle.model.specs.declared.TrackerCall.{TrackerCall}
+use Rattle.model.specs.declared.TrackerCall.the-variants.{Matched as matched, Unmatched as unmatched, LostWithParticipant as lostWithParticipant, WriterAsserted as writerAsserted, ParticipantAsserted as participantAsserted, Expire as expire, TakeLost as takeLost, TakeStatus as takeStatus, Acknowledge as acknowledge}
+use Rattle.model.specs.Guids.{num}
+use Rattle.model.specs.Refusals.{clocksUsedBy}
+use Rattle.model.specs.State.{State, writerKey, countsAlive, countsNotAlive, aliveCount, notAliveCount}
+use Rattle.model.specs.Tables.{all, isSome, find}
+use Rattle.model.specs.WellFormed.{clockOk, leaseOk, isDeparted, onlyState, writerOk, within}
+use Rattle.model.specs.Writers.{Assertion, assertion, tracked, withState, leaseOn, matchedFrom, matchedWriter, covers, renews, asserted, expires, expired, unmatchedFrom, departed, lostAs, hasGuid, writersBegun, writerStep, writerActs, writersAfter, matchAsserts, movers, lostAfter, acknowledgedAfter, trackerLate, trackerState, acknowledgeable}
+use Rattle.model.proofs.Fits.{FitsGuid, FitsWriter}
+use Rattle.model.proofs.RowLaws.{both}
+use Rattle.accounts.specs.Ranges.{bound}
+use Rattle.accounts.proofs.Basics.{split, either, all-weaken, one-more}
+use Rattle.accounts.proofs.Steps.{passed}
+use Rattle.accounts.proofs.TurnLaws.{Within, lookup-all, all-put, all-sift, length-put, length-sift, length-pick}
+use Rattle.accounts.proofs.WriterTurns.{FitGuid, matched-guid, movers-fit}
+
+pub record SoundWriter (w : Writer) : Type 0 where
+  pub guid : FitsGuid (w .guid)
+  pub lease : leaseOk (w .liveliness .lease) ≡ true
+  pub last : w .liveliness .«last_assertion» < 2 ^ 62
+  pub only : (not (isDeparted (w .liveliness .state)) || onlyState (w .liveliness)) ≡ true
+
+-- ---- sound writers are well formed and fit
+
+lease-small : (l : MaybeLease) → leaseOk l ≡ true → l .nanos < 256 ^ 8
+unfolding leaseOk
+lease-small l e =
+    split (l .present)
+    (λ p. let n : l .nanos < 2 ^ 62 = ltb-true (l .nanos) (2 ^ 62) (rw p at e) in omega arith)
+    (λ p. let n : l .nanos ≡ 0 = eqb-true (l .nanos) 0 (rw p at e) in omega arith)
+
+pub ok-writer : (w : Writer) → SoundWriter w → writerOk w ≡ true
+unfolding writerOk
+ok-writer w m = rw (m .lease, lt-ltb (w .liveliness .«last_assertion») (2 ^ 62) (m .last)) (m .only)
+
+pub fits-writer : (w : Writer) → SoundWriter w → FitsWriter w
+fits-writer w m =
+    record { guid = m .guid; lease = lease-small (w .liveliness .lease) (m .lease); last = omega (arith, m .last) }
+
+-- ---- one writer
+
+pub record ClockFits (c : TrackerCall) (s : Sheet) : Type 0 where
+  pub clocks : all clockOk (clocksUsedBy c s) ≡ true
+  pub guid : FitsGuid (s .guid)
+
+one-clock : (n : ℕ) → all clockOk (n ∷ []) ≡ true → n < 2 ^ 62
+unfolding all
+one-clock n e = ltb-true n (2 ^ 62) (both (clockOk n) true e .0)
+
+-- a match's clock, and its lease
+match-clock : (s : Sheet) → all clockOk (clocksUsedBy matched s) ≡ true → (s .a < 2 ^ 62) × (leaseOk (leaseOn s) ≡ true)
+unfolding all leaseOk
+match-clock s e =
+    let p = both (clockOk (s .a)) (all clockOk (cond (s .«lease_present») (s .b ∷ []) [])) e in (
+      ltb-true (s .a) (2 ^ 62) (p .0),
+      split (s .«lease_present») (λ l. rw l (both (clockOk (s .b)) true (rw l at (p .1)) .0)) (λ l. rw l),
+    )
+
+matched-from : (s : Sheet) (st : WriterState) (last : ℕ) → FitsGuid (s .guid) → leaseOk (leaseOn s) ≡ true →
+    last < 2 ^ 62 → SoundWriter (matchedFrom s st last)
+matched-from s Unasserted last g l h = record { guid = g; lease = l; last = h; only = refl }
+matched-from s Alive last g l h = record { guid = g; lease = l; last = h; only = refl }
+matched-from s NotAlive last g l h = record { guid = g; lease = l; last = h; only = refl }
+matched-from s Departed last g l h = record { guid = g; lease = l; last = omega arith; only = refl }
+
+matched-sound : (s : Sheet) (ws : List Writer) → ClockFits matched s → All SoundWriter ws →
+    SoundWriter (matchedWriter s (find (hasGuid (s .guid)) ws))
+matched-sound s ws f a = go (find (hasGuid (s .guid)) ws) refl
+  where
+    go : (o : Option Writer) → find (hasGuid (s .guid)) ws ≡ o → SoundWriter (matchedWriter s o)
+    go none e =
+        record { guid = f .guid; lease = match-clock s (f .clocks) .1; last = match-clock s (f .clocks) .0; only = refl }
+    go (some w) e =
+        matched-from s (w .liveliness .state) (w .liveliness .«last_assertion») (f .guid) (match-clock s (f .clocks) .1)
+        (lookup-all writerKey SoundWriter (num (s .guid)) ws w a e .last)
+
+asserted-sound : (a : Assertion) (w : Writer) → a .clock < 2 ^ 62 → SoundWriter w → SoundWriter (asserted a w)
+unfolding asserted
+asserted-sound a w l m =
+    either SoundWriter (covers a w && renews a w) (withState Alive (a .clock) w) w
+    (λ e. record { guid = m .guid; lease = m .lease; last = l; only = refl })
+    (λ e. m)
+
+expired-sound : (clock : ℕ) (w : Writer) → SoundWriter w → SoundWriter (expired clock w)
+unfolding expired
+expired-sound clock w m =
+    either SoundWriter (expires clock w) (withState NotAlive (w .liveliness .«last_assertion») w) w
+    (λ e. record { guid = m .guid; lease = m .lease; last = m .last; only = refl })
+    (λ e. m)
+
+departed-sound : (g : Guid) → FitsGuid g → SoundWriter (departed g)
+unfolding leaseOk
+departed-sound g f = record { guid = f; lease = refl; last = omega arith; only = refl }
+
+abbrev SoundAfter : Option Writer → Type 0
+SoundAfter none = Unit {0}
+SoundAfter (some w) = SoundWriter w
+
+lost-sound : (st : WriterState) (w : Writer) → SoundWriter w → SoundAfter (lostAs st w)
+lost-sound Unasserted w m = tt
+lost-sound Alive w m = departed-sound (w .guid) (m .guid)
+lost-sound NotAlive w m = departed-sound (w .guid) (m .guid)
+lost-sound Departed w m = departed-sound (w .guid) (m .guid)
+
+unmatched-sound : (w : Writer) → SoundWriter w → SoundAfter (unmatchedFrom w)
+unfolding unmatchedFrom
+unmatched-sound w m = either SoundAfter (tracked w) none (some w) (λ e. tt) (λ e. m)
+
+acts-sound : (c : TrackerCall) (s : Sheet) (b : Bool) (w : Writer) → ClockFits c s → SoundWriter w →
+    SoundAfter (writerActs c s b w)
+acts-sound matched s b w f m =
+    either SoundWriter b (asserted (assertion true false s) w) w
+    (λ e. asserted-sound (assertion true false s) w (match-clock s (f .clocks) .0) m) (λ e. m)
+acts-sound unmatched s b w f m =
+    either SoundAfter (hasGuid (s .guid) w) (unmatchedFrom w) (some w) (λ e. unmatched-sound w m) (λ e. m)
+acts-sound lostWithParticipant s b w f m =
+    either SoundAfter (hasGuid (s .guid) w) (lostAs (w .liveliness .state) w) (some w)
+    (λ e. lost-sound (w .liveliness .state) w m) (λ e. m)
+acts-sound writerAsserted s b w f m = asserted-sound (assertion true true s) w (one-clock (s .a) (f .clocks)) m
+acts-sound participantAsserted s b w f m = asserted-sound (assertion false (s .manual) s) w (one-clock (s .a) (f .clocks)) m
+acts-sound expire s b w f m = expired-sound (s .a) w m
+acts-sound takeLost s b w f m = m
+acts-sound takeStatus s b w f m = m
+acts-sound acknowledge s b w f m = m
+
+begun-sound : (c : TrackerCall) (s : Sheet) (ws : List Writer) → ClockFits c s → All SoundWriter ws →
+    All SoundWriter (writersBegun c s ws)
+begun-sound matched s ws f a =
+    all-put writerKey SoundWriter (matchedWriter s (find (hasGuid (s .guid)) ws)) ws (matched-sound s ws f a) a
+begun-sound unmatched s ws f a = a
+begun-sound lostWithParticipant s ws f a = a
+begun-sound writerAsserted s ws f a = a
+begun-sound participantAsserted s ws f a = a
+begun-sound expire s ws f a = a
+begun-sound takeLost s ws f a = a
+begun-sound takeStatus s ws f a = a
+begun-sound acknowledge s ws f a = a
+
+after-sound : (c : TrackerCall) (s : Sheet) (ws : List Writer) → ClockFits c s → All SoundWriter ws →
+    All SoundWriter (writersAfter c s ws)
+unfolding writersAfter
+after-sound c s ws f a =
+    all-sift SoundWriter SoundWriter (writerStep c s ws) (writersBegun c s ws)
+    (λ w y m e. subst SoundAfter e (acts-sound c s (matchAsserts s ws) w f m)) (begun-sound c s ws f a)
+
+-- ---- how many
+
+begun-few : (c : TrackerCall) (s : Sheet) (st : State) → Within writerKey 0 bound (st .writers) →
+    eqb (trackerLate c s st) 0 ≡ true →
+    length (st .writers) ≤ 128 → length (writersBegun c s (st .writers)) ≤ 128
+begun-few matched s st w e l =
+    let k : num (matchedWriter s (find (hasGuid (s .guid)) (st .writers)) .guid) ≡ num (s .guid) =
+    ap num (matched-guid s (find (hasGuid (s .guid)) (st .writers))) in
+    rw (length-put writerKey 0 bound (matchedWriter s (find (hasGuid (s .guid)) (st .writers))) (st .writers) w, k)
+    (one-more 128 (isSome (find (hasGuid (s .guid)) (st .writers))) (length (st .writers)) l (passed _ 11 0 refl e .0))
+begun-few unmatched s st w e l = l
+begun-few lostWithParticipant s st w e l = l
+begun-few writerAsserted s st w e l = l
+begun-few participantAsserted s st w e l = l
+begun-few expire s st w e l = l
+begun-few takeLost s st w e l = l
+begun-few takeStatus s st w e l = l
+begun-few acknowledge s st w e l = l
+
+after-few : (c : TrackerCall) (s : Sheet) (st : State) → Within writerKey 0 bound (st .writers) →
+    eqb (trackerLate c s st) 0 ≡ true →
+    length (st .writers) ≤ 128 → length (writersAfter c s (st .writers)) ≤ 128
+unfolding writersAfter
+after-few c s st w e l =
+    omega (arith, length-sift (writerStep c s (st .writers)) (writersBegun c s (st .writers)), begun-few c s st w e l)
+
+lost-few : (c : TrackerCall) (s : Sheet) (st : State) → eqb (trackerLate c s st) 0 ≡ true → length (st .lost) ≤ 256 →
+    length (lostAfter c (movers c s (st .writers)) (st .lost)) ≤ 256
+lost-few matched s st e l = l
+lost-few unmatched s st e l = l
+lost-few lostWithParticipant s st e l = l
+lost-few writerAsserted s st e l = l
+lost-few participantAsserted s st e l = l
+lost-few expire s st e l =
+    rw (length-append (st .lost) (movers expire s (st .writers)))
+    (ltb-false 256 (length (st .lost) + length (movers expire s (st .writers))) (passed _ 12 0 refl e .0))
+lost-few takeLost s st e l = omega arith
+lost-few takeStatus s st e l = l
+lost-few acknowledge s st e l = l
+
+lost-fit : (c : TrackerCall) (gone lost : List Guid) → All FitsGuid gone → All FitsGuid lost →
+    All FitsGuid (lostAfter c gone lost)
+lost-fit matched gone lost f l = l
+lost-fit unmatched gone lost f l = l
+lost-fit lostWithParticipant gone lost f l = l
+lost-fit writerAsserted gone lost f l = l
+lost-fit participantAsserted gone lost f l = l
+lost-fit expire gone lost f l = all-append FitsGuid lost gone l f
+lost-fit takeLost gone lost f l = tt
+lost-fit takeStatus gone lost f l = l
+lost-fit acknowledge gone lost f l = l
+
+-- ---- what is acknowledged
+
+near-count : (n : ℕ) → n ≤ 128 → within (pos n) ≡ true
+unfolding within
+near-count n l = le-leb n 1_073_741_824 (omega arith)
+
+near-after : (c : TrackerCall) (n part : ℕ) (z : ℤ) → n ≤ 128 → within z ≡ true →
+    (c ≡ acknowledge → within (z +ℤ toZ w32 part) ≡ true) →
+    within (acknowledgedAfter c n part z) ≡ true
+near-after matched n part z l e d = e
+near-after unmatched n part z l e d = e
+near-after lostWithParticipant n part z l e d = e
+near-after writerAsserted n part z l e d = e
+near-after participantAsserted n part z l e d = e
+near-after expire n part z l e d = e
+near-after takeLost n part z l e d = e
+near-after takeStatus n part z l e d = near-count n l
+near-after acknowledge n part z l e d = d refl
+
+-- ---- the writers' part of the state
+
+pub record SoundWriters (st : State) : Type 0 where
+  pub nearAlive : within (st .acknowledgedAlive) ≡ true
+  pub nearNotAlive : within (st .acknowledgedNotAlive) ≡ true
+  pub few : length (st .writers) ≤ 128
+  pub each : All SoundWriter (st .writers)
+  pub fewLost : length (st .lost) ≤ 256
+  pub lost : All FitsGuid (st .lost)
+
+pub guids-sound : (ws : List Writer) → All SoundWriter ws → All FitGuid ws
+guids-sound ws a = all-weaken SoundWriter FitGuid (λ w m. m .guid) ws a
+
+pub tracker-sound : (c : TrackerCall) (s : Sheet) (st : State) → ClockFits c s → acknowledgeable c s st ≡ true →
+    eqb (trackerLate c s st) 0 ≡ true →
+    Within writerKey 0 bound (st .writers) → SoundWriters st → SoundWriters (trackerState c s st)
+unfolding trackerState aliveCount notAliveCount
+tracker-sound c s st f ok late w m =
+    record {
+      nearAlive =
+          near-after c _ (s .first) (st .acknowledgedAlive) (omega (arith, length-pick countsAlive (st .writers), m .few))
+          (m .nearAlive)
+          (λ e. parts e .0);
+      nearNotAlive =
+          near-after c _ (s .second) (st .acknowledgedNotAlive)
+          (omega (arith, length-pick countsNotAlive (st .writers), m .few)) (m .nearNotAlive)
+          (λ e. parts e .1);
+      few = after-few c s st w late (m .few);
+      each = after-sound c s (st .writers) f (m .each);
+      fewLost = lost-few c s st late (m .fewLost);
+      lost =
+          lost-fit c _ (st .lost) (movers-fit c s (st .writers) (f .guid) (guids-sound (st .writers) (m .each))) (m .lost);
+    }
+  where
+    parts : c ≡ acknowledge →
+        (within (st .acknowledgedAlive +ℤ toZ w32 (s .first)) ≡ true) ×
+        (within (st .acknowledgedNotAlive +ℤ toZ w32 (s .second)) ≡ true)
+    parts e = both _ _ (subst (λ (d : TrackerCall). acknowledgeable d s st ≡ true) e ok)

@@ -1,0 +1,116 @@
+-- Section 8 on the accounts: where a call whose sheet is in order is refused still, by 8 and by 9 to 13. Each is the number,
+-- 0 for none.
+use Prim.Native.Nat.{ℕ, _+_, _^_}
+use mathlib.Core.Path.{_≡_}
+use mathlib.Core.Bool.{Bool, true, not, _&&_, cond}
+use lib.Dec.{leb, ltb}
+use lib.IntN.{_+ℤ_}
+use lib.ListN.{length}
+use mir.Syntax.{w32}
+use mir.Val.{toZ}
+use Rattle.model.specs.declared.Sheet.{Sheet}
+use Rattle.model.specs.declared.InstanceCall.{InstanceCall}
+use Rattle.model.specs.declared.TrackerCall.{TrackerCall}
+use Rattle.model.specs.declared.JoinedCall.{JoinedCall}
+use Rattle.model.specs.declared.TrackerCall.the-variants.{Matched as matched, Unmatched as unmatched, LostWithParticipant as lostWithParticipant, WriterAsserted as writerAsserted, ParticipantAsserted as participantAsserted, Expire as expire, TakeLost as takeLost, TakeStatus as takeStatus, Acknowledge as acknowledge}
+use Rattle.model.specs.declared.JoinedCall.the-variants.{Admit as admit, Lapse as lapse, Part as part, Depart as depart}
+use Rattle.model.specs.Calls.{Call, instances, tracker, joined}
+use Rattle.model.specs.Guids.{num}
+use Rattle.model.specs.InstanceCalls.{crowds, reached}
+use Rattle.model.specs.Instances.{rule, startsBy, limitedBy}
+use Rattle.model.specs.Joined.{inOrder, passesFilter}
+use Rattle.model.specs.Refusals.{nanosecondsOk, timesUsed, clocksUsed, holderFits, kindOk}
+use Rattle.model.specs.Tables.{all, isSome}
+use Rattle.model.specs.Times.{negative}
+use Rattle.model.specs.WellFormed.{clockOk, within}
+use Rattle.accounts.specs.Accounts.{Accounts, instancesIn, writersIn}
+use Rattle.accounts.specs.WriterAccounts.{expiredIn, writersAfter}
+
+-- ---- a sheet in order: used times, clocks, leases and holder within 4 to 6 and, in code 32, kind not 3
+
+-- these four
+pub record Ordered (c : Call) (s : Sheet) : Type 0 where
+  pub times : all nanosecondsOk (timesUsed c s) ≡ true
+  pub clocks : all clockOk (clocksUsed c s) ≡ true
+  pub holder : holderFits c s ≡ true
+  pub kind : kindOk c s ≡ true
+
+-- ---- 9, 13 and 10
+
+-- a new instance: the account of the sheet's key is absent
+abbrev pub isNew : Sheet → Accounts → Bool
+isNew s acc = not (isSome (acc .instances .at (num (s .key))))
+
+-- a negative limit is none; a known key never meets it
+abbrev pub limitMet : Sheet → Accounts → Bool
+limitMet s acc = isNew s acc && (not (negative (s .first)) && leb (s .first) (length (instancesIn acc)))
+
+-- 9: every place taken
+abbrev pub placesTaken : ℕ → Accounts → Bool
+placesTaken places acc = leb places (length (instancesIn acc))
+
+-- 13: the next handle is 2^63
+abbrev pub handlesSpent : Accounts → Bool
+handlesSpent acc = leb (2 ^ 63) (1 + length (acc .instances .handles))
+
+-- in codes 2 and 9 none at the limit comes before 9 and 13; 10 is a new writer with 16 in the set of the instance reached
+unfoldable pub busyInstance : ℕ → InstanceCall → Sheet → Accounts → ℕ
+busyInstance places c s acc =
+    cond (limitedBy (rule c .reach) && limitMet s acc) 0
+    (cond ((startsBy (rule c .reach) && isNew s acc) && placesTaken places acc) 9
+    (cond ((startsBy (rule c .reach) && isNew s acc) && handlesSpent acc) 13
+    (cond (rule c .addsWriter && crowds s (reached c s (instancesIn acc))) 10 0)))
+
+-- ---- 11, 12 and 8
+
+-- 11: new GUID, 128 writer records
+abbrev pub busyMatch : Sheet → Accounts → ℕ
+busyMatch s acc = cond (not (isSome (acc .writers .at (num (s .guid)))) && leb 128 (length (writersIn acc))) 11 0
+
+-- 12: expiries beyond 256 in Lost
+abbrev pub busyExpire : Sheet → Accounts → ℕ
+busyExpire s acc =
+    cond (ltb 256 (length (acc .writers .lost) + length (expiredIn (acc .writers .at) (writersAfter expire s (acc .writers .at))))) 12 0
+
+-- 8: acknowledge taking count minus change beyond ±2^30
+abbrev pub busyAcknowledge : Sheet → Accounts → ℕ
+busyAcknowledge s acc =
+    cond (not (within (acc .writers .acknowledgedAlive +ℤ toZ w32 (s .first))
+    && within (acc .writers .acknowledgedNotAlive +ℤ toZ w32 (s .second)))) 8 0
+
+-- tracker calls
+abbrev pub busyTracker : TrackerCall → Sheet → Accounts → ℕ
+busyTracker matched s acc = busyMatch s acc
+busyTracker unmatched s acc = 0
+busyTracker lostWithParticipant s acc = 0
+busyTracker writerAsserted s acc = 0
+busyTracker participantAsserted s acc = 0
+busyTracker expire s acc = busyExpire s acc
+busyTracker takeLost s acc = 0
+busyTracker takeStatus s acc = 0
+busyTracker acknowledge s acc = busyAcknowledge s acc
+
+-- ---- joined calls
+
+-- outcomes 1, 2 and 3 come before 9, 13 and 10
+unfoldable pub busyAdmit : ℕ → Sheet → Accounts → ℕ
+busyAdmit places s acc =
+    cond (not (inOrder s (acc .instances .at (num (s .key))))) 0
+    (cond (not (passesFilter s (acc .instances .at (num (s .key))))) 0
+    (cond (limitMet s acc) 0
+    (cond (isNew s acc && placesTaken places acc) 9
+    (cond (isNew s acc && handlesSpent acc) 13
+    (cond (crowds s (acc .instances .at (num (s .key)))) 10 0)))))
+
+-- codes 49 to 51 meet what 37, 33 and 34 meet
+abbrev pub busyJoined : ℕ → JoinedCall → Sheet → Accounts → ℕ
+busyJoined places admit s acc = busyAdmit places s acc
+busyJoined places lapse s acc = busyExpire s acc
+busyJoined places part s acc = 0
+busyJoined places depart s acc = 0
+
+-- any call
+abbrev pub busy : ℕ → Call → Sheet → Accounts → ℕ
+busy places (instances c) s acc = busyInstance places c s acc
+busy places (tracker c) s acc = busyTracker c s acc
+busy places (joined c) s acc = busyJoined places c s acc

@@ -1,0 +1,1 @@
+// Section 6 of the scope document as definitions, and the proof of demand 3. No function stands here.
