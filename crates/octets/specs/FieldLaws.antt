@@ -3,6 +3,7 @@
 --     getD-puts-out     a byte outside of the layout is as it was
 --     be-puts-out       so is a number
 --     reads-puts        what was written is read back, field by field
+--     reads-part        fields are the same in a part of the list that has them all
 --     reads-out         fields apart from what was written are as they were
 -- Assumes nothing.
 use mathlib.Core.Path.{_≡_, refl, _∙_}
@@ -10,10 +11,10 @@ use mathlib.Core.Logic.{_⊎_, inl, inr, ⊎-elim}
 use mathlib.Core.List.{List, [], _∷_}
 use Prim.Native.Nat.{ℕ, _+_, _≤_, _<_}
 use native.Mathlib.Omega.{arith}
-use lib.ListN.{length, getD}
+use lib.ListN.{length, getD, take, drop}
 use Rattle.octets.specs.Octets.{be, put}
 use Rattle.octets.specs.Fields.{total, reads, puts, Fit}
-use Rattle.octets.specs.Laws.{length-put, getD-put-out, be-same, be-put}
+use Rattle.octets.specs.Laws.{length-put, getD-put-out, be-same, be-part, be-put}
 
 pub length-puts : (ks vs s : List ℕ) (at o : ℕ) → length (puts ks vs s at o) ≡ length s
 length-puts [] vs s at o = refl
@@ -51,4 +52,12 @@ reads-out (j ∷ js) ks vs s i p at o h =
     be-puts-out j ks vs s at o (i + p) (⊎-elim (λ l. inl (omega arith)) (λ r. inr (omega arith)) h) in
     let rest : reads js (puts ks vs s at o) i (p + j) ≡ reads js s i (p + j) =
     reads-out js ks vs s i (p + j) at o (⊎-elim (λ l. inl (omega arith)) (λ r. inr (omega arith)) h) in
+    cc
+
+pub reads-part : (ks : List ℕ) (n : ℕ) (t : List ℕ) (at o : ℕ) → o + total ks ≤ n → reads ks (take n (drop at t)) 0 o ≡ reads ks t at o
+reads-part [] n t at o h = refl
+reads-part (k ∷ ks) n t at o h =
+    let e : 0 + o ≡ o = omega arith in
+    let first : be k (take n (drop at t)) (0 + o) ≡ be k t (at + o) = rw e (be-part k n t at o (omega arith)) in
+    let rest : reads ks (take n (drop at t)) 0 (o + k) ≡ reads ks t at (o + k) = reads-part ks n t at (o + k) (omega arith) in
     cc

@@ -3,19 +3,20 @@
 --     be-room, room-8       it fits, up to 8 bytes in 64 bits
 --     length-put            a write keeps the length
 --     getD-put-out          a byte outside of what was written is as it was
---     be-same               a number is read from its own bytes alone
+--     be-agree, be-same     a number is read from its own bytes alone
+--     be-part               so it is the same in a part of the list
 --     be-put-out            a number apart from what was written is as it was
 --     be-put                what was written is read back
 -- Assumes nothing.
-use mathlib.Core.Path.{_≡_, refl, _∙_}
+use mathlib.Core.Path.{_≡_, refl, sym, ap, _∙_}
 use mathlib.Core.Logic.{_⊎_, inl, inr, ⊎-elim}
 use mathlib.Core.List.{List}
 use Prim.Native.Nat.{ℕ, zero, suc, _+_, _*_, _/_, _%_, _^_, _≤_, _<_}
-use native.Mathlib.Nat.{pow-suc, pow-zero, pow-le-pow-right, div-lt-iff-lt-mul}
+use native.Mathlib.Nat.{add-assoc, pow-suc, pow-zero, pow-le-pow-right, div-lt-iff-lt-mul}
 use native.Mathlib.Numerals.{add-one}
 use native.Mathlib.Omega.{arith}
-use lib.ListN.{length, getD, set, length-set}
-use lib.Seq.{getD-set-same, getD-set-other}
+use lib.ListN.{length, getD, set, take, drop, length-set}
+use lib.Seq.{getD-set-same, getD-set-other, getD-take, getD-drop}
 use Rattle.octets.specs.Octets.{be, put}
 
 pub be-step : (k : ℕ) (s : List ℕ) (at : ℕ) → be (k + 1) s at ≡ be k s at * 256 + getD s (at + k) 0
@@ -44,13 +45,21 @@ getD-put-out (suc k) s at v i h =
     getD-put-out k (set s (at + k) (v % 256)) at (v / 256) i (⊎-elim (λ l. inl l) (λ r. inr (omega arith)) h)
     ∙ getD-set-other s (at + k) i (v % 256) 0 (λ e. ⊎-elim (λ l. omega arith) (λ r. omega arith) h)
 
-pub be-same : (k : ℕ) (s t : List ℕ) (at : ℕ) → ((i : ℕ) → at ≤ i → i < at + k → getD s i 0 ≡ getD t i 0) → be k s at ≡ be k t at
+pub be-agree : (k : ℕ) (s t : List ℕ) (at o : ℕ) → ((i : ℕ) → i < k → getD s (at + i) 0 ≡ getD t (o + i) 0) → be k s at ≡ be k t o
 unfolding be
-be-same zero s t at h = refl
-be-same (suc k) s t at h =
-    let p : be k s at ≡ be k t at = be-same k s t at (λ i a b. h i a (omega arith)) in
-    let q : getD s (at + k) 0 ≡ getD t (at + k) 0 = h (at + k) (omega arith) (omega arith) in
+be-agree zero s t at o h = refl
+be-agree (suc k) s t at o h =
+    let p : be k s at ≡ be k t o = be-agree k s t at o (λ i l. h i (omega arith)) in
+    let q : getD s (at + k) 0 ≡ getD t (o + k) 0 = h k (omega arith) in
     cc
+
+pub be-same : (k : ℕ) (s t : List ℕ) (at : ℕ) → ((i : ℕ) → at ≤ i → i < at + k → getD s i 0 ≡ getD t i 0) → be k s at ≡ be k t at
+be-same k s t at h = be-agree k s t at at (λ i l. h (at + i) (omega arith) (omega arith))
+
+pub be-part : (k n : ℕ) (t : List ℕ) (o i : ℕ) → i + k ≤ n → be k (take n (drop o t)) i ≡ be k t (o + i)
+be-part k n t o i h =
+    be-agree k (take n (drop o t)) t i (o + i)
+    (λ j l. getD-take n (drop o t) (i + j) 0 (omega arith) ∙ getD-drop o t (i + j) 0 ∙ ap (λ (x : ℕ). getD t x 0) (sym (add-assoc o i j)))
 
 pub be-put-out : (j : ℕ) (s : List ℕ) (i k at v : ℕ) → (i + j ≤ at) ⊎ (at + k ≤ i) → be j (put k s at v) i ≡ be j s i
 be-put-out j s i k at v h =

@@ -1,0 +1,2 @@
+-- Laws that the proofs of tables cite.
+pub mod Search

@@ -1,0 +1,104 @@
+-- `lower_bound` meets its contract: lo and hi close in on the place. Assumes nothing.
+use Prim.Native.Nat.{ℕ, _+_, _-_, _*_, _/_, _≤_, _<_}
+use mathlib.Core.List.{List}
+use mathlib.Core.Path.{_≡_, sym, ap, _∙_}
+use native.Mathlib.Omega.{arith}
+use borrow.Author.Tests.{ltb-true, ltb-false}
+use lib.ListN.{length, getD}
+use Rattle.model.specs.Guids.{num}
+use Rattle.tables.specs.Keys.{keys}
+use Rattle.tables.specs.KeyLaws.{length-keys, getD-keys}
+use Rattle.tables.proofs.Search.{record-le, Bracket, bracket-start, bracket-up, bracket-down, bracket-end}
+use Rattle.tables.proofs.lower_bound.Statement.{statement}
+use Rattle.tables.proofs.lower_bound.Tie as tie
+
+abbrev Inv-loop : tie.InvT-loop
+Inv-loop t size count key lo₀ hi₀ lo hi = Bracket (keys size count t) (num key) lo hi
+
+abbrev μ-loop : tie.MeasureT-loop
+μ-loop t size count key lo₀ hi₀ lo hi = hi - lo
+
+-- the keys
+abbrev K : tie.Start Inv-loop μ-loop → List ℕ
+K s = keys (s .args .size) (s .args .count) (s .args .t .now)
+
+-- the middle of a turn, which is a place
+abbrev Mid : tie.In-loop Inv-loop μ-loop → ℕ
+Mid c = c .before .loop .lo + (c .before .loop .hi - c .before .loop .lo) / 2
+
+mid-lt : (c : tie.In-loop Inv-loop μ-loop) → Mid c < c .before .before .before .args .count
+mid-lt c =
+    let a = c .before .before .before .args in
+    omega (arith, length-keys (a .size) (a .count) (a .t .now))
+
+room : (c : tie.In-loop Inv-loop μ-loop)
+    → (let a = c .before .before .before .args in Mid c * a .size + a .size ≤ length (a .t .now))
+room c = omega (arith, record-le (c .before .before .before .args .size) (mid-lt c))
+
+key-is : (c : tie.After-key-at Inv-loop μ-loop) → getD (K (c .before .before .before .before)) (Mid (c .before)) 0 ≡ num (c .key-at .result)
+key-is c =
+    let a = c .before .before .before .before .args in
+    getD-keys (a .size) (a .count) (a .t .now) (Mid (c .before)) (mid-lt (c .before)) ∙ sym (ap num (c .key-at .ensures))
+
+loop-holds : tie.Need-loop-holds Inv-loop μ-loop
+loop-holds c = bracket-start _ _ _ (length-keys (c .before .args .size) (c .before .args .count) (c .before .args .t .now))
+
+sub-mid : tie.Need-sub-mid Inv-loop μ-loop
+sub-mid c = omega arith
+
+add-mid : tie.Need-add-mid Inv-loop μ-loop
+add-mid c = omega (arith, mid-lt c)
+
+mul-key-at : tie.Need-mul-key-at Inv-loop μ-loop
+mul-key-at c = omega (arith, room c)
+
+key-at-requires : tie.Need-key-at-requires Inv-loop μ-loop
+key-at-requires c κs = omega (arith, room c)
+
+is-less-requires : tie.Need-is-less-requires Inv-loop μ-loop
+is-less-requires c κs = tt
+
+add-lo : tie.Need-add-lo Inv-loop μ-loop
+add-lo c = omega (arith, mid-lt (c .before .before .before))
+
+loop-less : tie.Need-loop-less Inv-loop μ-loop
+loop-less c = omega arith
+
+loop-again : tie.Need-loop-again Inv-loop μ-loop
+loop-again c =
+    let i = c .before .before .before in
+    bracket-up (i .before .before .before .pre .2) (i .before .loop .inv) (Mid i) (omega arith) (omega arith)
+    (rw (key-is (c .before .before)) (ltb-true _ _ (sym (c .before .is-less .ensures) ∙ c .if1 .taken)))
+
+loop-less-2 : tie.Need-loop-less-2 Inv-loop μ-loop
+loop-less-2 c = omega arith
+
+loop-again-2 : tie.Need-loop-again-2 Inv-loop μ-loop
+loop-again-2 c =
+    let i = c .before .before .before in
+    bracket-down (i .before .before .before .pre .2) (i .before .loop .inv) (Mid i) (omega arith) (omega arith)
+    (rw (key-is (c .before .before)) (ltb-false _ _ (sym (c .before .is-less .ensures) ∙ c .if1 .left)))
+
+returns : tie.Need-returns Inv-loop μ-loop
+returns c =
+    let s = c .before .before .before in
+    bracket-end (K s) (num (s .args .key)) (c .before .loop .lo) (c .before .loop .hi) (c .before .loop .inv) (c .loop-test .left)
+
+pub lower-bound-spec : {M : Type 1} → statement M
+lower-bound-spec =
+    tie.close
+    (tie.spec
+    Inv-loop
+    μ-loop
+    loop-holds
+    sub-mid
+    add-mid
+    mul-key-at
+    key-at-requires
+    is-less-requires
+    add-lo
+    loop-less
+    loop-again
+    loop-less-2
+    loop-again-2
+    returns)
