@@ -50,7 +50,7 @@ pub sheet-made : (s : List ℕ) (bits : ℕ) (key guid : Guid) (h : ℕ) (t u : 
       «by_source» = y;
       kind = bits % 4;
       code = code;
-      holder = holder
+      holder = holder;
     } (sheetOf s)
 unfolding sheetOf
 sheet-made s bits key guid h t u a b first second p q d l m y code holder eb ek eg eh ep et eu ea e1 e2 e3 ed el em ey ec eq eo =

@@ -1,5 +1,8 @@
 // A call's sheet: its 256 bytes as fields, and the refusals that the sheet alone decides. Rests on octets, tables and model.
-use model::{Holder, InstanceHandle, MaybeTime, Sheet};
+use model::Holder;
+use model::InstanceHandle;
+use model::MaybeTime;
+use model::Sheet;
 ghost use mathlib.Core.Path.{_≡_};
 ghost use mathlib.Core.Bool.{true};
 ghost use Prim.Native.Nat.{_+_, _*_, _≤_, _<_, min};
@@ -14,7 +17,11 @@ fn read_time(s: &[u8], at: usize, present: bool) -> MaybeTime
 {
     let sec = octets::get_u32(s, at);
     let nanosec = octets::get_u32(s, at + 4);
-    MaybeTime { present: present, sec: sec, nanosec: nanosec }
+    MaybeTime {
+        present: present,
+        sec: sec,
+        nanosec: nanosec,
+    }
 }
 
 // The first n bytes from index 84, zeros behind them.
@@ -42,7 +49,11 @@ fn read_holder(s: &[u8], present: bool) -> Holder
     let len = octets::get_u16(s, 82);
     let n = held(len);
     let bytes = holder_bytes(s, n);
-    Holder { present: present, len: len, bytes: bytes }
+    Holder {
+        present: present,
+        len: len,
+        bytes: bytes,
+    }
 }
 
 // The bit of weight w, a divisor of 128.
