@@ -1,0 +1,2 @@
+-- Laws that the proofs of liveliness_counts cite.
+pub mod Laws

@@ -1,0 +1,2 @@
+-- What the contracts of liveliness_counts cite.
+pub mod Turns

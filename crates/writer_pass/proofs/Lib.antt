@@ -1,0 +1,4 @@
+-- Laws that the proofs of writer_pass and of the crates above cite.
+pub mod Picks
+pub mod Passing
+pub mod Reading

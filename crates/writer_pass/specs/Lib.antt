@@ -1,0 +1,2 @@
+-- What the contracts of writer_pass cite.
+pub mod Passes

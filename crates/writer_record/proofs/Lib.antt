@@ -1,0 +1,2 @@
+-- Laws that the proofs of writer_record cite.
+pub mod Laws

@@ -1,0 +1,2 @@
+-- What the contracts of writer_record cite.
+pub mod Records

@@ -1,0 +1,244 @@
+// A writer's record: 40 bytes of the table on one side, a struct by value on the other; and whether such bytes are a
+// record. What the bytes mean stands in model's WriterRecord and WellFormed. Rests on octets, model and guid.
+//
+// Derives from liveliness_tracker.rs of ZeroDDS.
+// Copyright 2026 ZeroDDS Contributors. SPDX-License-Identifier: Apache-2.0. Changed: written anew in Rattle, the map of
+// tracked writers as ordered records in lent bytes.
+use model::Guid;
+use model::Liveliness;
+use model::LivelinessKind;
+use model::MaybeLease;
+use model::Writer;
+use model::WriterState;
+ghost use mathlib.Core.Bool.{_&&_};
+ghost use mathlib.Core.Path.{_≡_};
+ghost use Prim.Native.Nat.{_+_, _*_, _/_, _%_, _≤_, _<_};
+ghost use lib.ListN.{length, take, drop};
+ghost use Rattle.octets.specs.Patch.{patch};
+ghost use Rattle.model.specs.Guids.{guidBytes};
+ghost use Rattle.model.specs.InstanceRecord.{bit, flag};
+ghost use Rattle.model.specs.WellFormed.{leaseOk, onlyState, writerOk};
+ghost use Rattle.model.specs.WriterRecord.{livelinessNumber, livelinessNumbered, stateNumber, stateNumbered, writerOf, writerFlags, writerBytes};
+ghost use Rattle.writer_record.specs.Records.{sparesIn, writerFrom};
+
+// The kind that a number stands for.
+pub fn kind_numbered(n: u8) -> LivelinessKind
+    ensures { λ r. ⌜ r ≡ livelinessNumbered n ⌝ }
+{
+    match n {
+        0 => LivelinessKind::Automatic,
+        1 => LivelinessKind::ManualByParticipant,
+        _ => LivelinessKind::ManualByTopic,
+    }
+}
+
+// The state that a number stands for.
+fn state_numbered(n: u8) -> WriterState
+    ensures { λ r. ⌜ r ≡ stateNumbered n ⌝ }
+{
+    match n {
+        0 => WriterState::Unasserted,
+        1 => WriterState::Alive,
+        2 => WriterState::NotAlive,
+        _ => WriterState::Departed,
+    }
+}
+
+// The number of a kind.
+pub fn kind_number(k: LivelinessKind) -> u8
+    ensures { λ r. ⌜ (r ≡ livelinessNumber k) × (r < 3) ⌝ }
+{
+    match k {
+        LivelinessKind::Automatic => 0,
+        LivelinessKind::ManualByParticipant => 1,
+        LivelinessKind::ManualByTopic => 2,
+    }
+}
+
+// The number of a state.
+pub fn state_number(s: WriterState) -> u8
+    ensures { λ r. ⌜ (r ≡ stateNumber s) × (r < 4) ⌝ }
+{
+    match s {
+        WriterState::Unasserted => 0,
+        WriterState::Alive => 1,
+        WriterState::NotAlive => 2,
+        WriterState::Departed => 3,
+    }
+}
+
+// A flag as a bit.
+fn bit_of(b: bool) -> u8
+    ensures { λ r. ⌜ (r ≡ bit b) × (r < 2) ⌝ }
+{
+    if b { 1 } else { 0 }
+}
+
+// The byte of kind, state and lease present.
+fn flags_of(w: Writer) -> u8
+    ensures { λ r. ⌜ r ≡ writerFlags w ⌝ }
+{
+    let l = w.liveliness;
+    let k = l.kind;
+    let s = l.state;
+    let p = w.liveliness.lease.present;
+    let kind = kind_number(k);
+    let state = state_number(s);
+    let lease = bit_of(p);
+    ((kind * 4 + state) * 2 + lease) * 8
+}
+
+// The writer of a GUID, the flags, a lease and a last assertion.
+fn writer_from(guid: Guid, flags: u8, nanos: u64, last: u64) -> Writer
+    ensures { λ r. ⌜ r ≡ writerFrom guid flags nanos last ⌝ }
+{
+    let k = kind_numbered(flags / 64);
+    let s = state_numbered(flags / 16 % 4);
+    let lease = MaybeLease {
+        present: flags / 8 % 2 == 1,
+        nanos: nanos,
+    };
+    let l = Liveliness {
+        kind: k,
+        state: s,
+        lease: lease,
+        last_assertion: last,
+    };
+    Writer {
+        guid: guid,
+        liveliness: l,
+    }
+}
+
+// The writer of a record's bytes.
+pub fn read_writer(r: &[u8]) -> Writer
+    requires { ⌜ length (now r) ≡ 40 ⌝ }
+    ensures { λ w. ⌜ w ≡ writerOf (now (r .entry)) ⌝ }
+{
+    let hi = octets::get_u64(r, 0);
+    let lo = octets::get_u64(r, 8);
+    let flags = octets::get_u8(r, 16);
+    let nanos = octets::get_u64(r, 24);
+    let last = octets::get_u64(r, 32);
+    let guid = Guid { hi: hi, lo: lo };
+    writer_from(guid, flags, nanos, last)
+}
+
+// The writer of record i of a table.
+pub fn writer_at(t: &[u8], i: usize) -> Writer
+    requires { ⌜ i * 40 + 40 ≤ length (now t) ⌝ }
+    ensures { λ w. ⌜ w ≡ writerOf (take 40 (drop (i * 40) (now (t .entry)))) ⌝ }
+{
+    let from = i * 40;
+    let end = from + 40;
+    read_writer(&t[from..end])
+}
+
+// The record of w is written from index at.
+pub fn put_record(t: &mut [u8], at: usize, w: Writer)
+    requires { ⌜ at + 40 ≤ length (now t) ⌝ }
+    ensures { λ _. ⌜ now (t .exit) ≡ patch (now (t .entry)) at 40 (writerBytes w) ⌝ }
+{
+    let flags = flags_of(w);
+    octets::put_u64(t, at, w.guid.hi);
+    octets::put_u64(t, at + 8, w.guid.lo);
+    octets::put_u8(t, at + 16, flags);
+    octets::store(t, at + 17, 7, 0);
+    octets::put_u64(t, at + 24, w.liveliness.lease.nanos);
+    octets::put_u64(t, at + 32, w.liveliness.last_assertion);
+}
+
+// The bytes of a record become those of w.
+pub fn write_writer(r: &mut [u8], w: Writer)
+    requires { ⌜ length (now r) ≡ 40 ⌝ }
+    ensures { λ _. ⌜ now (r .exit) ≡ writerBytes w ⌝ }
+{
+    put_record(r, 0, w);
+}
+
+// Record i of a table becomes that of w.
+pub fn put_writer(t: &mut [u8], i: usize, w: Writer)
+    requires { ⌜ i * 40 + 40 ≤ length (now t) ⌝ }
+    ensures { λ _. ⌜ now (t .exit) ≡ patch (now (t .entry)) (i * 40) 40 (writerBytes w) ⌝ }
+{
+    put_record(t, i * 40, w);
+}
+
+// The GUID g is written from index at, as Lost holds it.
+pub fn put_guid(t: &mut [u8], at: usize, g: Guid)
+    requires { ⌜ at + 16 ≤ length (now t) ⌝ }
+    ensures { λ _. ⌜ now (t .exit) ≡ patch (now (t .entry)) at 16 (guidBytes g) ⌝ }
+{
+    octets::put_u64(t, at, g.hi);
+    octets::put_u64(t, at + 8, g.lo);
+}
+
+// Whether kind is no 3 and the spare bits and bytes are zero.
+fn spares_ok(r: &[u8]) -> bool
+    requires { ⌜ length (now r) ≡ 40 ⌝ }
+    ensures { λ b. ⌜ b ≡ sparesIn (now (r .entry)) ⌝ }
+{
+    let flags = octets::get_u8(r, 16);
+    if 192 <= flags {
+        return false;
+    }
+    if flags % 8 != 0 {
+        return false;
+    }
+    octets::get(r, 17, 7) == 0
+}
+
+// Whether a lease is below 2^62, and zero where it is absent.
+fn lease_ok(l: MaybeLease) -> bool
+    ensures { λ b. ⌜ b ≡ leaseOk l ⌝ }
+{
+    if l.present {
+        l.nanos < 0x4000_0000_0000_0000
+    } else {
+        l.nanos == 0
+    }
+}
+
+// Whether nothing but the state is there.
+fn only_state(l: Liveliness) -> bool
+    ensures { λ b. ⌜ b ≡ onlyState l ⌝ }
+{
+    let k = l.kind;
+    if kind_number(k) != 0 {
+        return false;
+    }
+    if l.lease.present {
+        return false;
+    }
+    l.last_assertion == 0
+}
+
+// Whether the values of a writer are within their bounds, and a departed one has only GUID and state.
+fn values_ok(w: Writer) -> bool
+    ensures { λ b. ⌜ b ≡ writerOk w ⌝ }
+{
+    let l = w.liveliness;
+    let s = l.state;
+    let lease = l.lease;
+    if !lease_ok(lease) {
+        return false;
+    }
+    if 0x4000_0000_0000_0000 <= w.liveliness.last_assertion {
+        return false;
+    }
+    if state_number(s) != 3 {
+        return true;
+    }
+    only_state(l)
+}
+
+// Whether the bytes are a writer's record.
+pub fn writer_ok(r: &[u8]) -> bool
+    requires { ⌜ length (now r) ≡ 40 ⌝ }
+    ensures { λ b. ⌜ b ≡ (sparesIn (now (r .entry)) && writerOk (writerOf (now (r .entry)))) ⌝ }
+{
+    if !spares_ok(r) {
+        return false;
+    }
+    values_ok(read_writer(r))
+}

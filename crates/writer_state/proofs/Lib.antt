@@ -1,0 +1,2 @@
+-- Laws that the proofs of writer_state cite.
+pub mod Laws

@@ -1,0 +1,18 @@
+-- `writer_state::same_class` meets its contract. Assumes nothing.
+use borrow.Author.Needs.{needs}
+use Rattle.model.specs.State.{classOf}
+use Rattle.writer_state.proofs.Laws.{same-number}
+use Rattle.writer_state.proofs.same_class.Statement.{statement}
+use Rattle.writer_state.proofs.same_class.Tie as tie
+
+class-number-requires : tie.Need-class-number-requires
+class-number-requires c κs = search needs
+
+class-number-requires-2 : tie.Need-class-number-requires-2
+class-number-requires-2 c κs = search needs
+
+returns : tie.Need-returns
+returns c = rw ((c .before .class-number .ensures), (c .class-number2 .ensures)) (same-number (classOf (c .before .before .args .a)) (classOf (c .before .before .args .b)))
+
+pub same-class-spec : {M : Type 1} → statement M
+same-class-spec = tie.close (tie.spec class-number-requires class-number-requires-2 returns)

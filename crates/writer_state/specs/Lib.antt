@@ -1,0 +1,2 @@
+-- What the contracts of writer_state cite.
+pub mod Acts
