@@ -18,7 +18,6 @@ use model::Times;
 use model::WriterSet;
 ghost use mathlib.Core.Path.{_≡_};
 ghost use mathlib.Core.Bool.{_&&_};
-ghost use mathlib.Core.List.{[], _∷_};
 ghost use Prim.Native.Nat.{_+_, _*_, _≤_, _<_};
 ghost use lib.Dec.{ltb};
 ghost use lib.ListN.{length, drop};
@@ -29,7 +28,7 @@ ghost use Rattle.octets.specs.Patch.{patch};
 ghost use Rattle.model.specs.Guids.{num, guidAt, guidsIn, guidsBytes};
 ghost use Rattle.model.specs.InstanceRecord.{bit, kindNumber, kindNumbered, timeAt, lifeOf, timesOf, ownerOf, holderOf, writerSetOf, stateBy, instanceOf, instanceBytes, instanceWidths, instanceValues, flagsOf};
 ghost use Rattle.model.specs.Tables.{rising};
-ghost use Rattle.model.specs.WellFormed.{timeOk, timesOk, ownerOk, holderOk, setOk, lifeOk, instanceStateOk};
+ghost use Rattle.model.specs.WellFormed.{timeOk, timesOk, ownerOk, holderOk, setOk, lifeOk};
 ghost use Rattle.instance_record.specs.Parts.{recordOk, recordAt, lifeWidths, lifeValues, timesWidths, timesValues};
 
 // ---- reading
