@@ -1,5 +1,4 @@
 -- `flags_of` meets its contract: a chain of bits. Assumes nothing.
-use native.Mathlib.Omega.{arith}
 use Rattle.model.specs.InstanceRecord.{flagsOf}
 use borrow.Author.Needs.{needs}
 use Rattle.instance_record.proofs.flags_of.Statement.{statement}
@@ -49,7 +48,19 @@ add-result c = search needs
 
 returns : tie.Need-returns
 unfolding flagsOf
-returns c = omega arith
+returns c =
+    rw (
+      c .push9 .ensures .0,
+      c .before .push8 .ensures .0,
+      c .before .before .push7 .ensures .0,
+      c .before .before .before .push6 .ensures .0,
+      c .before .before .before .before .push5 .ensures .0,
+      c .before .before .before .before .before .push4 .ensures .0,
+      c .before .before .before .before .before .before .push3 .ensures .0,
+      c .before .before .before .before .before .before .before .push2 .ensures .0,
+      c .before .before .before .before .before .before .before .before .push .ensures .0,
+      c .before .before .before .before .before .before .before .before .before .kind-number .ensures .0,
+    )
 
 pub flags-of-spec : {M : Type 1} → statement M
 flags-of-spec =
