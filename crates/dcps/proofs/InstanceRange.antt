@@ -1,6 +1,7 @@
 -- From what a call on the instance table leaves to what the call on head and buffers leaves.
 --     told-accepts        an answer of an accepted call has number 0
 --     instance-outcome, admit-outcome     a call is accepted, or refused with nothing changed
+--     range-left          from what the code returns and leaves to the call on bytes
 --     graft-left          what such a call on the table leaves is, in head and buffers, what model says
 -- Assumes nothing.
 use Prim.Native.Nat.{ℕ, zero, suc}
@@ -17,14 +18,20 @@ use Rattle.model.specs.declared.InstanceCall.the-variants.{Register, EnsureRegi
 use Rattle.model.specs.declared.InstanceHandle.{InstanceHandle}
 use Rattle.model.specs.declared.Sheet.{Sheet}
 use Rattle.model.specs.Answers.{refusedWith, silent, stopping}
-use Rattle.model.specs.Call.{Left, lentOf, settle, listIn}
+use Rattle.model.specs.declared.Answer.{Answer}
+use Rattle.model.specs.Call.{Left, lentOf, settle, listIn, turn, callIn}
+use Rattle.model.specs.Calls.{Call, callOfCode}
 use Rattle.model.specs.Handles.{handle}
 use Rattle.model.specs.InstanceCalls.{Turned, refused, unchanged, withInstances, atLimit, lateRefusal, handleAnswer, samplesAnswer, infoAnswer, reached, told, instanceTurn, instanceCall, known, full, spent, crowds, accepted}
 use Rattle.model.specs.Instances.{rule, limitedBy, hasKey}
 use Rattle.model.specs.Joined.{inOrder, passesFilter, admitted, admitWith, admitCall}
 use Rattle.model.specs.State.{Lent, State, stateOf, layOut, headOf, pensOf}
+use Rattle.model.specs.Refusals.{lengthsOk, sheetRefusal}
+use Rattle.model.specs.Sheets.{sheetOf}
 use Rattle.model.specs.Tables.{find}
-use Rattle.model.proofs.StateLaws.{Buffers, Formed, lay-back}
+use Rattle.model.specs.WellFormed.{wellFormed}
+use Rattle.model.proofs.StateLaws.{Buffers, Formed, formed-facts, lay-back}
+use Rattle.dcps.proofs.Chain.{chain-turn}
 use Rattle.dcps.proofs.Graft.{tableOf, graft}
 
 -- ---- numbers of answers
@@ -66,10 +73,10 @@ told-accepts Autopurge s b a = refl
 
 -- ---- accepted, or refused with nothing changed
 
-picked : {A : Type 0} (n : ℕ) (x y : A) → n ≡ 0 → cond (eqb n 0) x y ≡ x
+pub picked : {A : Type 0} (n : ℕ) (x y : A) → n ≡ 0 → cond (eqb n 0) x y ≡ x
 picked n x y e = rw e
 
-unpicked : {A : Type 0} (n : ℕ) (x y : A) → cond (eqb (suc n) 0) x y ≡ y
+pub unpicked : {A : Type 0} (n : ℕ) (x y : A) → cond (eqb (suc n) 0) x y ≡ y
 unpicked n x y = rw (eqb·suc-zero n)
 
 pub data Outcome (st : State) (t : Turned) : Type 0 where
@@ -171,3 +178,21 @@ module _ (places : ℕ) (l : Lent) (b : Buffers places l) (f : Formed places l) 
   pub graft-left : (t : Turned) → Outcome (tableOf (stateOf l)) t → settle places (graft (stateOf l) t) l ≡ leftIn places l t
   graft-left t (accepts e) = settled t e
   graft-left t (refuses n e) = rw e (unsettled n)
+
+-- ---- a call on instances, whole
+
+abbrev pub lefts : Answer → Lent → Left
+lefts a l = record { answer = a; lent = l }
+
+module _ (places : ℕ) (sheet : List ℕ) (l : Lent) (b : Buffers places l) (lengths : lengthsOk places sheet l ≡ true) (formed : wellFormed places l ≡ true)
+    (c : Call) (known-code : callOfCode (sheetOf sheet .code) ≡ some c) (fine : sheetRefusal c (sheetOf sheet) (stateOf l) ≡ 0) (t : Turned)
+    (grafted : turn places c (sheetOf sheet) (stateOf l) ≡ graft (stateOf l) t) (outcome : Outcome (tableOf (stateOf l)) t) where
+  -- what the code returns and leaves, from what the call on the table leaves
+  pub range-left : (a : Answer) (n : ℕ) (h : InstanceHandle) (pens out : List ℕ) → a ≡ t .answer → n ≡ length (t .state .instances) → h .0 ≡ t .state .nextHandle →
+      pens ≡ pensOf places (t .state .instances) → out ≡ listIn (t .list) (l .out) →
+      lefts a (lentOf (headWith (l .head) n h) pens (l .writers) (l .lost) out) ≡ callIn places sheet l
+  range-left a n h pens out ea en eh ep eo =
+      let h' : h ≡ handle (t .state .nextHandle) = ap handle eh in
+      let left : lefts a (lentOf (headWith (l .head) n h) pens (l .writers) (l .lost) out) ≡ leftIn places l t = rw (ea, en, h', ep, eo) in
+      left ∙ sym (graft-left places l b (formed-facts places l formed) t outcome) ∙ ap (λ (u : Turned). settle places u l) (sym grafted)
+      ∙ sym (chain-turn places sheet l lengths c known-code formed fine)

@@ -4,3 +4,4 @@ pub mod Graft
 pub mod InstanceRange
 pub mod Chain
 pub mod Admit
+pub mod Whole

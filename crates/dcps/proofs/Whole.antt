@@ -1,0 +1,70 @@
+-- From what a call leaves of the whole state to the call on bytes.
+--     tracker-outcome, loss-outcome     a call is accepted, or refused with nothing changed
+--     whole-range                       from what the code returns and leaves, laid out, to the call on bytes
+-- Assumes nothing.
+use Prim.Native.Nat.{ℕ, zero, suc}
+use mathlib.Core.Bool.{true, cond}
+use mathlib.Core.Option.{some}
+use mathlib.Core.Path.{_≡_, refl, sym, ap, _∙_}
+use mathlib.Core.List.{List}
+use lib.Dec.{eqb}
+use Rattle.model.specs.declared.Answer.{Answer}
+use Rattle.model.specs.declared.Guid.{Guid}
+use Rattle.model.specs.declared.Sheet.{Sheet}
+use Rattle.model.specs.declared.TrackerCall.{TrackerCall}
+use Rattle.model.specs.declared.TrackerCall.the-variants.{Matched, Unmatched, LostWithParticipant, WriterAsserted, ParticipantAsserted, Expire, TakeLost, TakeStatus, Acknowledge}
+use Rattle.model.specs.Answers.{refusedWith}
+use Rattle.model.specs.Call.{settle, listIn, turn, callIn}
+use Rattle.model.specs.Calls.{Call, callOfCode}
+use Rattle.model.specs.InstanceCalls.{Turned, refused}
+use Rattle.model.specs.Joined.{afterLoss, lossCall}
+use Rattle.model.specs.Refusals.{lengthsOk, sheetRefusal}
+use Rattle.model.specs.Sheets.{sheetOf}
+use Rattle.model.specs.State.{Lent, State, stateOf, layOut}
+use Rattle.model.specs.Times.{ifPresent}
+use Rattle.model.specs.WellFormed.{wellFormed}
+use Rattle.model.specs.Writers.{trackerTold, trackerTurn, trackerLate, trackerCall}
+use Rattle.model.proofs.StateLaws.{Buffers, formed-facts, lay-back}
+use Rattle.dcps.proofs.Chain.{chain-turn}
+use Rattle.dcps.proofs.InstanceRange.{Outcome, accepts, refuses, picked, unpicked, lefts}
+
+-- ---- accepted, or refused with nothing changed
+
+tracker-accepts : (c : TrackerCall) (s : Sheet) (st : State) → trackerTold c s st .number ≡ 0
+tracker-accepts Matched s st = refl
+tracker-accepts Unmatched s st = refl
+tracker-accepts LostWithParticipant s st = refl
+tracker-accepts WriterAsserted s st = refl
+tracker-accepts ParticipantAsserted s st = refl
+tracker-accepts Expire s st = refl
+tracker-accepts TakeLost s st = refl
+tracker-accepts TakeStatus s st = refl
+tracker-accepts Acknowledge s st = refl
+
+-- a turn that is taken where the number of its late refusal is 0
+late-outcome : (n : ℕ) (t : Turned) (st : State) → t .answer .number ≡ 0 → Outcome st (cond (eqb n 0) t (refused n st))
+late-outcome zero t st e = accepts e
+late-outcome (suc n) t st e = refuses n (unpicked n t (refused (suc n) st))
+
+pub tracker-outcome : (c : TrackerCall) (s : Sheet) (st : State) → Outcome st (trackerCall c s st)
+unfolding trackerCall trackerTurn
+tracker-outcome c s st = late-outcome (trackerLate c s st) (trackerTurn c s st) st (tracker-accepts c s st)
+
+pub loss-outcome : (c : TrackerCall) (gone : List Guid) (s : Sheet) (st : State) → Outcome st (lossCall c gone s st)
+unfolding lossCall afterLoss
+loss-outcome c gone s st = late-outcome (trackerLate c s st) (afterLoss gone (ifPresent (s .«time_1»)) (trackerTurn c s st)) st refl
+
+-- ---- head and buffers
+
+module _ (places : ℕ) (sheet : List ℕ) (l : Lent) (b : Buffers places l) (lengths : lengthsOk places sheet l ≡ true) (formed : wellFormed places l ≡ true)
+    (c : Call) (known-code : callOfCode (sheetOf sheet .code) ≡ some c) (fine : sheetRefusal c (sheetOf sheet) (stateOf l) ≡ 0) where
+  whole-left : (t : Turned) → Outcome (stateOf l) t → settle places t l ≡ lefts (t .answer) (layOut places (t .state) (listIn (t .list) (l .out)))
+  unfolding settle
+  whole-left t (accepts e) = picked (t .answer .number) _ _ e
+  whole-left t (refuses n e) = rw e (unpicked n _ _ ∙ ap (lefts (refusedWith (suc n))) (sym (lay-back places l b (formed-facts places l formed))))
+
+  pub whole-range : (a : Answer) (left : Lent) (t : Turned) → turn places c (sheetOf sheet) (stateOf l) ≡ t → Outcome (stateOf l) t → a ≡ t .answer →
+      left ≡ layOut places (t .state) (listIn (t .list) (l .out)) → lefts a left ≡ callIn places sheet l
+  whole-range a left t e o ea el =
+      let same : lefts a left ≡ lefts (t .answer) (layOut places (t .state) (listIn (t .list) (l .out))) = rw (ea, el) in
+      same ∙ sym (whole-left t o) ∙ ap (λ (u : Turned). settle places u l) (sym e) ∙ sym (chain-turn places sheet l lengths c known-code formed fine)
