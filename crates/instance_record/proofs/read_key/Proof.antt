@@ -1,0 +1,15 @@
+-- `read_key` meets its contract. Assumes nothing.
+use Rattle.model.specs.InstanceRecord.{instanceOf}
+use borrow.Author.Needs.{needs}
+use Rattle.instance_record.proofs.read_key.Statement.{statement}
+use Rattle.instance_record.proofs.read_key.Tie as tie
+
+read-guid-requires : tie.Need-read-guid-requires
+read-guid-requires c κs = search needs
+
+returns : tie.Need-returns
+unfolding instanceOf
+returns c = c .read-guid .ensures
+
+pub read-key-spec : {M : Type 1} → statement M
+read-key-spec = tie.close (tie.spec read-guid-requires returns)
