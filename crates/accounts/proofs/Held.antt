@@ -41,7 +41,7 @@ use Rattle.accounts.proofs.SheetLaws.{SheetFits, used-time}
 use Rattle.accounts.proofs.Sound.{ok-state, fits-state}
 use Rattle.accounts.proofs.Steps.{admit-cases, Sim, advanced, passed, roomy, turned}
 use Rattle.accounts.proofs.TurnLaws.{lookup, Within, within-rises, any-lookup}
-use Rattle.accounts.proofs.WriterSound.{SoundWriter, ok-writer, fits-writer, SoundWriters, guids-sound, tracker-sound}
+use Rattle.accounts.proofs.WriterSound.{SoundWriter, ok-writer, fits-writer, SoundWriters, all-plain, tracker-sound}
 
 pub record Held (places : ℕ) (st : State) (acc : Accounts) : Type 0 where
   pub sim : Sim st acc
@@ -215,7 +215,7 @@ held-turn places c s st acc f a ok m =
     turn-parts places c s st f (accepted-sheet c s st a) (m .sim .instances .rising)
     (m .sim .writers .rising) ok record { writers = m .writers; instances = m .instances } in
     record {
-      sim = turned places c s st acc (f .key) (f .guid) (guids-sound (st .writers) (m .writers .each)) (m .sim) ok;
+      sim = turned places c s st acc (f .key) (f .guid) (all-plain (st .writers) (m .writers .each)) (m .sim) ok;
       writers = p .writers;
       instances = p .instances;
     }

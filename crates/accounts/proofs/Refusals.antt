@@ -49,8 +49,8 @@ use Rattle.accounts.proofs.Demand3.{formed, out-replaced, after-fresh, 
 use Rattle.accounts.proofs.Held.{Held, held-fits}
 use Rattle.accounts.proofs.SheetLaws.{SheetFits, sheet-fits}
 use Rattle.accounts.proofs.TurnLaws.{any-lookup}
-use Rattle.accounts.proofs.WriterSound.{guids-sound}
-use Rattle.accounts.proofs.WriterTurns.{movers-fit, expired-are}
+use Rattle.accounts.proofs.WriterSound.{all-plain}
+use Rattle.accounts.proofs.WriterTurns.{expired-are}
 
 -- ---- accepted calls answer 0
 
@@ -176,8 +176,8 @@ module _ (places : ℕ) (s : Sheet) (st : State) (acc : Accounts) (fits : SheetF
   expire-busy : trackerLate expire s st ≡ busyExpire s acc
   expire-busy =
       rw (
-        expired-are s (st .writers) (acc .writers .at) (fits .guid) (m .sim .writers .rising) (m .sim .writers .agree)
-            (movers-fit expire s (st .writers) (fits .guid) (guids-sound (st .writers) (m .writers .each))),
+        expired-are s (st .writers) (acc .writers .at) (fits .guid)
+            (all-plain (st .writers) (m .writers .each)) (m .sim .writers .rising) (m .sim .writers .agree),
         m .sim .writers .lost,
       )
 

@@ -156,12 +156,12 @@ leaves (some w) = leavesFrom (w .liveliness .state) w
 
 -- ---- lost: unasserted becomes absent; alive and not alive become departed
 
--- from each state; a departed one stays, which is its GUID and that it is
+-- from each state; a departed one stays
 abbrev pub departsFrom : WriterState → Writer → Option Writer
 departsFrom Unasserted w = none
 departsFrom Alive w = some (departedAs (w .guid))
 departsFrom NotAlive w = some (departedAs (w .guid))
-departsFrom Departed w = some (departedAs (w .guid))
+departsFrom Departed w = some w
 
 -- the account of the GUID lost with its participant
 abbrev pub departs : Option Writer → Option Writer
