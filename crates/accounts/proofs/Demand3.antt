@@ -3,6 +3,8 @@
 --                        the accounts
 --     demand3-128        the same of `callOf`, with 128 places
 --     always-formed      each call of the list is lent a well-formed state: no run meets refusal 3
+--     after-fresh        what holds after any list
+--     instances-are, writers-are      the tables are the accounts not absent
 -- Assumes nothing.
 use mathlib.Core.Bool.{Bool, true, false, cond}
 use mathlib.Core.List.{List, [], _∷_}

@@ -61,7 +61,7 @@ used-fits : (b : Bool) (n : ℕ) → (not b || leb n 144) ≡ true → b ≡ tru
 used-fits true n e d = leb-true n 144 e
 used-fits false n e d = never (sym d)
 
-pub accepted-sheet : (c : Call) (s : Sheet) (st : State) → eqb (sheetRefusal c s st) 0 ≡ true → Accepted c s st
+accepted-sheet : (c : Call) (s : Sheet) (st : State) → eqb (sheetRefusal c s st) 0 ≡ true → Accepted c s st
 unfolding sheetRefusal
 accepted-sheet c s st e =
     let a = passed (not (all nanosecondsOk (timesUsed c s))) 4 _ refl e in

@@ -101,27 +101,27 @@ acts-stay c s x y e =
     (λ d. let q : some x ≡ some y = rw d at e in let p : x ≡ y = cc in
     (sym (ap (λ (i : Instance). i .key) p), sym (ap (λ (i : Instance). i .handle) p)))
 
-pub acts-keeps : (c : InstanceCall) (s : Sheet) → Keeps instanceKey (acts c s)
+acts-keeps : (c : InstanceCall) (s : Sheet) → Keeps instanceKey (acts c s)
 acts-keeps c s x y e = ap num (acts-stay c s x y e .0)
 
 -- ---- the turn
 
-pub startOf : InstanceCall → Sheet → State → Option Instance
+startOf : InstanceCall → Sheet → State → Option Instance
 startOf c s st = cond (begins c s st) (some (started (s .key) (allocated (st .nextHandle) .handle .0))) none
 
-pub begun-is : (c : InstanceCall) (s : Sheet) (st : State) →
+begun-is : (c : InstanceCall) (s : Sheet) (st : State) →
     begun c s st ≡ begin instanceKey (startOf c s st) (st .instances)
 unfolding begun startOf
 begun-is c s st = split (begins c s st) (λ e. rw e) (λ e. rw e)
 
-pub start-below : (c : InstanceCall) (s : Sheet) (st : State) → FitsGuid (s .key) → Below instanceKey bound (startOf c s st)
+start-below : (c : InstanceCall) (s : Sheet) (st : State) → FitsGuid (s .key) → Below instanceKey bound (startOf c s st)
 unfolding startOf started
 start-below c s st f = split (begins c s st) (λ e. rw e (num-below (s .key) f)) (λ e. rw e tt)
 
 pub known-is : (s : Sheet) (st : State) → known s st ≡ isSome (lookup instanceKey (num (s .key)) (st .instances))
 known-is s st = any-lookup instanceKey (num (s .key)) (st .instances)
 
-pub unknown-none : {A : Type 0} (o : Option A) → isSome o ≡ false → o ≡ none
+unknown-none : {A : Type 0} (o : Option A) → isSome o ≡ false → o ≡ none
 unknown-none none e = refl
 unknown-none (some x) e = never e
 
@@ -134,7 +134,7 @@ begins-absent c s st e =
 
 -- ---- the handle that a call answers
 
-abbrev pub handleIn : Option Instance → ℕ
+abbrev handleIn : Option Instance → ℕ
 handleIn none = 0
 handleIn (some x) = x .handle .0
 
@@ -210,7 +210,7 @@ module _ (c : InstanceCall) (s : Sheet) (st : State) (fits : FitsGuid (s .key))
       (num (s .key)))
 
   -- it starts an instance, and answers the handle to come
-  pub answered-new : begins c s st ≡ true → answered ≡ st .nextHandle
+  answered-new : begins c s st ≡ true → answered ≡ st .nextHandle
   answered-new e = answered-is ∙ new
     where
       new : cond (startsBy (rule c .reach))
@@ -313,7 +313,7 @@ pub record InstanceSim (st : State) (acc : InstanceAccounts) : Type 0 where
   pub handles : acc .handles ≡ upFrom 1 (length (acc .handles))
   pub next : st .nextHandle ≡ 1 + length (acc .handles)
 
-pub one-next : (st : State) (acc : InstanceAccounts) → InstanceSim st acc → 1 ≤ st .nextHandle
+one-next : (st : State) (acc : InstanceAccounts) → InstanceSim st acc → 1 ≤ st .nextHandle
 one-next st acc m = omega (arith, m .next)
 
 -- handles after a call that starts one with the handle to come, or none
@@ -329,7 +329,7 @@ handles-more true hs new next after e n d a =
 handles-more false hs new next after e n d a = rw (d, append-nil hs) (e, omega arith)
 
 -- a state whose instances stay, and accounts that no call altered
-pub instances-stay : (st st′ : State) (acc : InstanceAccounts) (c : Call) (e : Event) (gone : List Guid) →
+instances-stay : (st st′ : State) (acc : InstanceAccounts) (c : Call) (e : Event) (gone : List Guid) →
     st′ .instances ≡ st .instances →
     st′ .nextHandle ≡ st .nextHandle → e .handle ≡ 0 →
     ((j : ℕ) (x : Instance) → lookup instanceKey j (st .instances) ≡ some x → onPresent c e gone j x ≡ some x) →
@@ -497,7 +497,7 @@ silent-starts s h none e = rw e
 silent-starts s h (some x) e = refl
 
 -- accounts that agree at each key, with the same handles
-pub same-accounts : (st : State) (acc acc′ : InstanceAccounts) → ((j : ℕ) → acc .at j ≡ acc′ .at j) →
+same-accounts : (st : State) (acc acc′ : InstanceAccounts) → ((j : ℕ) → acc .at j ≡ acc′ .at j) →
     acc .handles ≡ acc′ .handles →
     InstanceSim st acc → InstanceSim st acc′
 same-accounts st acc acc′ e d m =

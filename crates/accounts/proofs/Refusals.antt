@@ -1,6 +1,7 @@
 -- Demand 3 is not vacuous: a sheet in order is refused by nothing but 8 and 9 to 13, each exactly where section 8 says on
 -- the accounts.
---     answered-number    the number of a turn
+--     *-number           the number of a call, from the state
+--     *-busy             the same, from the accounts
 --     only-busy          the number of a call of a list, whose sheet is in order
 --     never-3            no call of a list is refused by 3
 -- Assumes nothing.

@@ -1,6 +1,8 @@
 -- One accepted call, of any code, keeps the state and the accounts in step.
---     turned            an accepted call
---     writers-stay      an instance call leaves the writers' half
+--     passed, roomy      refusals that were not met
+--     writers-stay       an instance call leaves the writers' half
+--     admit-cases        the chain of admit
+--     turned             an accepted call
 -- Assumes nothing.
 use mathlib.Core.Bool.{Bool, true, false, not, _&&_, cond}
 use mathlib.Core.List.{List, [], _∷_}
@@ -39,7 +41,7 @@ pub record Sim (st : State) (acc : Accounts) : Type 0 where
   pub instances : InstanceSim st (acc .instances)
 
 -- what the accounts hear of an accepted call
-abbrev pub heardOf : Sheet → Answer → Event
+abbrev heardOf : Sheet → Answer → Event
 heardOf s a = record { sheet = s; number = 0; handle = a .handle .0; outcome = a .outcome }
 
 abbrev pub advanced : Call → Sheet → Answer → Accounts → Accounts
@@ -51,7 +53,7 @@ pub passed : (b : Bool) (n m : ℕ) → eqb n 0 ≡ false → eqb (cond b n m) 0
 passed true n m d e = never (sym e ∙ d)
 passed false n m d e = (refl, e)
 
-pub and-false : (a b : Bool) → (a && b) ≡ false → a ≡ true → b ≡ false
+and-false : (a b : Bool) → (a && b) ≡ false → a ≡ true → b ≡ false
 and-false true b e d = e
 and-false false b e d = never (sym d)
 
@@ -76,7 +78,7 @@ roomy places c s st e =
 
 -- ---- instance calls
 
-pub writers-stay : (st : State) (xs : List Instance) (n : ℕ) (acc : WriterAccounts) → WriterSim st acc →
+writers-stay : (st : State) (xs : List Instance) (n : ℕ) (acc : WriterAccounts) → WriterSim st acc →
     WriterSim (withInstances xs n st) acc
 writers-stay st xs n acc m =
     record {

@@ -2,12 +2,12 @@
 -- record through a function of its own, which keeps its key.
 --     turn-within        keys rise still
 --     turn-at            what is found at a key after it is the key's own turn of what was found there
---     turn-all           what holds of every record
---     turn-length        no more records than after the put
+--     lookup-*           what is found, at the parts of a turn
+--     all-*              what holds of every record
+--     length-*           how many records
 --     pick-between       the records that pass a test, by their keys
 --     within-present     a table is what is found in it, in rising order
 --     within-rises       the test that keys rise
---     length-put         how many there are after a put
 -- Assumes nothing.
 use mathlib.Core.Bool.{Bool, true, false, not, cond}
 use mathlib.Core.List.{List, [], _∷_, map}
@@ -54,7 +54,7 @@ module _ {A : Type 0} (key : A → ℕ) where
   within-weaken lo low hi [] h w = tt
   within-weaken lo low hi (x ∷ xs) h w = (omega arith, w .1, w .2)
 
-  pub lookup-below : (j lo hi : ℕ) (xs : List A) → j < lo → Within lo hi xs → lookup j xs ≡ none
+  lookup-below : (j lo hi : ℕ) (xs : List A) → j < lo → Within lo hi xs → lookup j xs ≡ none
   unfolding find
   lookup-below j lo hi [] h w = refl
   lookup-below j lo hi (x ∷ xs) h w =
@@ -81,7 +81,7 @@ module _ {A : Type 0} (key : A → ℕ) where
   any-lookup j [] = refl
   any-lookup j (x ∷ xs) = split (eqb (key x) j) (λ e. rw e) (λ e. rw e (any-lookup j xs))
 
-  pub lookup-put : (j : ℕ) (y : A) (xs : List A) → lookup j (put key y xs) ≡ cond (eqb (key y) j) (some y) (lookup j xs)
+  lookup-put : (j : ℕ) (y : A) (xs : List A) → lookup j (put key y xs) ≡ cond (eqb (key y) j) (some y) (lookup j xs)
   unfolding find put
   lookup-put j y [] = refl
   lookup-put j y (x ∷ xs) =

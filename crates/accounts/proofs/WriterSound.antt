@@ -1,5 +1,6 @@
 -- A tracker call leaves the writers' part of the state well formed.
 --     ok-writer, fits-writer     a sound writer passes section 2's test and fits
+--     all-plain                  a departed one has only GUID and state
 --     tracker-sound              an accepted tracker call
 -- Assumes nothing.
 use mathlib.Core.Bool.{Bool, true, false, not, _&&_, _||_, cond}

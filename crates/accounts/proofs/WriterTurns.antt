@@ -3,6 +3,7 @@
 --     movers-count      the movers of a call are the GUIDs that changed class, and as many
 --     expired-are       those of an expire are the GUIDs that it expired
 --     alive-are, not-alive-are      both counts
+--     movers-fit        their GUIDs fit
 --     writer-heard      a call that the writers see keeps table and accounts in step
 -- Assumes nothing.
 use mathlib.Core.Bool.{Bool, true, false, not, _&&_, _||_, cond}
@@ -273,7 +274,7 @@ named-at : (s : Sheet) (j : ℕ) (f g : Writer → Option Writer) (h : Option Wr
 named-at s j f g h none found e n d = split (isNamed s j) (λ t. rw t (sym n)) (λ t. rw t)
 named-at s j f g h (some w) found e n d = e w ∙ rw (found w refl, d w refl)
 
-pub writers-at : (c : TrackerCall) (s : Sheet) (ws : List Writer) (j : ℕ) → All Plain ws →
+writers-at : (c : TrackerCall) (s : Sheet) (ws : List Writer) (j : ℕ) → All Plain ws →
     bind (writerStep c s ws) (begunAt writerKey (start c s ws) j (lookup writerKey j ws))
     ≡ onWriter c s (lookup writerKey (num (s .guid)) ws) j (lookup writerKey j ws)
 writers-at matched s ws j plain =
@@ -407,14 +408,14 @@ movers-fit c s ws g f =
 
 module _ (c : TrackerCall) (s : Sheet) (ws : List Writer) (acc : Writers) (fits : FitsGuid (s .guid))
     (plain : All Plain ws) (rises : Within writerKey 0 bound ws) (agree : (j : ℕ) → lookup writerKey j ws ≡ acc j) where
-  pub after-rises : Within writerKey 0 bound (M.writersAfter c s ws)
+  after-rises : Within writerKey 0 bound (M.writersAfter c s ws)
   unfolding M.writersAfter
   after-rises =
       rw (begun-is c s ws)
       (turn-within writerKey bound (start c s ws) (writerStep c s ws) ws (start-below c s ws fits)
       (step-keeps c s ws) rises)
 
-  pub after-agrees : (j : ℕ) → lookup writerKey j (M.writersAfter c s ws) ≡ writersAfter c s acc j
+  after-agrees : (j : ℕ) → lookup writerKey j (M.writersAfter c s ws) ≡ writersAfter c s acc j
   unfolding M.writersAfter writersAfter
   after-agrees j =
       rw (begun-is c s ws)
@@ -446,12 +447,12 @@ module _ (c : TrackerCall) (s : Sheet) (ws : List Writer) (acc : Writers) (fits 
   movers-are : movers c s ws ≡ map guidNumbered (between 0 bound (movedAt acc (writersAfter c s acc)))
   movers-are = sym (renumbered (movers c s ws) (movers-fit c s ws fits plain)) ∙ ap (map guidNumbered) movers-numbered
 
-  pub movers-count : length (movers c s ws) ≡ sumOver 0 bound (λ j. bit (movedAt acc (writersAfter c s acc) j))
+  movers-count : length (movers c s ws) ≡ sumOver 0 bound (λ j. bit (movedAt acc (writersAfter c s acc) j))
   movers-count =
       sym (length-map num (movers c s ws)) ∙ ap length movers-numbered ∙ length-between 0 bound
       (movedAt acc (writersAfter c s acc))
 
-  pub last-are : (last : LastWriter) → lastAfter (movers c s ws) last ≡ lastIn acc (writersAfter c s acc) last
+  last-are : (last : LastWriter) → lastAfter (movers c s ws) last ≡ lastIn acc (writersAfter c s acc) last
   unfolding lastIn
   last-are last =
       ap (λ (l : List Guid). lastAfter l last) movers-are ∙ last-greatest bound
