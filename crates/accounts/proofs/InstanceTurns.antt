@@ -37,7 +37,7 @@ use Rattle.model.proofs.RowLaws.{both}
 use Rattle.accounts.specs.InstanceAccounts as S
 use Rattle.accounts.specs.InstanceAccounts.{wayOf, reachedBy, isKeyed, Event, onPresent, onAbsent, onInstance, InstanceAccounts, startsAt}
 use Rattle.accounts.specs.Ranges.{bound, upFrom}
-use Rattle.accounts.proofs.Basics.{split, eqb-sym, never}
+use Rattle.accounts.proofs.Basics.{missing, split, eqb-sym, never}
 use Rattle.accounts.proofs.RangeLaws.{num-below, up-more}
 use Rattle.accounts.proofs.TurnLaws.{bind, lookup, Within, Keeps, lookup-key, any-lookup, begin, begunAt, Below, lookup-begin, within-begin, lookup-sift, within-sift, turn-at}
 
@@ -84,7 +84,7 @@ limited-starts every e = never (sym e)
 -- ---- key and handle stay
 
 kept-key : (x y : Instance) (o : Option InstanceState) → kept x o ≡ some y → (y .key ≡ x .key) × (y .handle ≡ x .handle)
-kept-key x y none e = let z : _≡_ {A = ℕ} 0 1 = cc in absurd (omega arith)
+kept-key x y none e = missing e
 kept-key x y (some z) e =
     let p : record { key = x .key; handle = x .handle; state = z } ≡ y = cc in
     (sym (ap (λ (i : Instance). i .key) p), sym (ap (λ (i : Instance). i .handle) p))
@@ -280,8 +280,7 @@ module _ (c : InstanceCall) (s : Sheet) (st : State) (fits : FitsGuid (s .key))
           (split (eqb (num (s .key)) j)
           (λ d.
           let p : lookup instanceKey j (st .instances) ≡ none = rw (← eqb-true (num (s .key)) j d)
-          (begins-absent c s st e .1) in
-          let z : _≡_ {A = ℕ} 0 1 = cc in absurd (omega arith))
+          (begins-absent c s st e .1) in missing (sym p ∙ n))
           (λ d. rw d)))
           (λ e. rw e)
 
@@ -376,8 +375,7 @@ limit-heard st acc c s gone limited unknown m =
         split (eqb j (num (s .key)))
         (λ d.
         let p : lookup instanceKey j (st .instances) ≡ none =
-        rw (eqb-true j (num (s .key)) d) (unknown-none _ (sym (known-is s st) ∙ unknown)) in
-        let z : _≡_ {A = ℕ} 0 1 = cc in absurd (omega arith))
+        rw (eqb-true j (num (s .key)) d) (unknown-none _ (sym (known-is s st) ∙ unknown)) in missing (sym p ∙ n))
         (λ d. rw (r, d))
 
 -- outcomes 1 to 4 of admit
@@ -477,13 +475,7 @@ pub tried-none : (s : Sheet) (j h : ℕ) (o : Option Instance) → h ≡ 0 →
 tried-none s j h none e n = refl
 tried-none s j h (some x) e n =
     split (isKeyed s j)
-    (λ k. let q : some record {
-      key = x .key;
-      handle = x .handle;
-      state = Rattle.model.specs.Instances.ownershipTried s
-          (x .state);
-    } ≡ none = rw k at n in
-    let z : _≡_ {A = ℕ} 0 1 = cc in absurd (omega arith))
+    (λ k. let q : S.leaving x (effect acceptUnderExclusiveOwnership s (x .state)) ≡ none = rw k at n in missing (sym q))
     (λ k. let q : some x ≡ none = rw k at n in q)
 
 tried-starts : (s : Sheet) (j h before : ℕ) (o : Option Instance) → before ≡ 0 →

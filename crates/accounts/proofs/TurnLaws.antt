@@ -23,7 +23,7 @@ use Rattle.octets.specs.Lay.{All}
 use Rattle.model.specs.InstanceRecord.{bit}
 use Rattle.model.specs.Tables.{isSome, find, pick, any, kept, sift, put, above, rising}
 use Rattle.accounts.specs.Ranges.{between, present}
-use Rattle.accounts.proofs.Basics.{split}
+use Rattle.accounts.proofs.Basics.{missing, split}
 
 module _ {A : Type 0} where
   abbrev pub bind : (A → Option A) → Option A → Option A
@@ -62,7 +62,7 @@ module _ {A : Type 0} (key : A → ℕ) where
 
   pub lookup-key : (j : ℕ) (xs : List A) (y : A) → lookup j xs ≡ some y → key y ≡ j
   unfolding find
-  lookup-key j [] y e = let z : _≡_ {A = ℕ} 0 1 = cc in absurd (omega arith)
+  lookup-key j [] y e = missing e
   lookup-key j (x ∷ xs) y e =
       split (eqb (key x) j)
       (λ d. let q : some x ≡ some y = rw d at e in let p : x ≡ y = cc in sym (ap key p) ∙ eqb-true (key x) j d)
@@ -70,7 +70,7 @@ module _ {A : Type 0} (key : A → ℕ) where
 
   pub lookup-all : (P : A → Type 0) (j : ℕ) (xs : List A) (y : A) → All P xs → lookup j xs ≡ some y → P y
   unfolding find
-  lookup-all P j [] y a e = let z : _≡_ {A = ℕ} 0 1 = cc in absurd (omega arith)
+  lookup-all P j [] y a e = missing e
   lookup-all P j (x ∷ xs) y a e =
       split (eqb (key x) j)
       (λ d. let q : some x ≡ some y = rw d at e in let p : x ≡ y = cc in subst P p (a .0))

@@ -40,7 +40,7 @@ use Rattle.model.proofs.Fits.{FitsGuid}
 use Rattle.accounts.specs.Ranges.{bound, guidNumbered, between, sumOver}
 use Rattle.accounts.specs.WriterAccounts as S
 use Rattle.accounts.specs.WriterAccounts.{trackedIn, became, matches, takingFrom, covered, automatic, byParticipant, timely, runOut, asserts, lapses, leaves, departs, departsFrom, isNamed, isNear, matchedAt, onWriter, Writers, writersAfter, classIn, class, isAlive, isNotAlive, differ, moved, movedAt, expiredAt, expiredIn, aliveAmong, notAliveAmong, WriterAccounts, lastIn, lostBy, acknowledgedBy, changeOf, heardBy}
-use Rattle.accounts.proofs.Basics.{all-weaken, split, and-assoc, eqb-sym}
+use Rattle.accounts.proofs.Basics.{missing, all-weaken, split, and-assoc, eqb-sym}
 use Rattle.accounts.proofs.RangeLaws.{sum-add, length-between, length-map, last-greatest, num-below, renumbered}
 use Rattle.accounts.proofs.TurnLaws.{lookup-all, bind, test, lookup, Within, Keeps, lookup-key, begin, begunAt, Below, lookup-begin, within-begin, turn-within, turn-at, between-ext, pick-between, all-put, all-pick}
 
@@ -210,14 +210,14 @@ step-keeps unmatched s ws w y e = unmatch-keeps
     unmatch-keeps =
         unfold unmatchedFrom in split (hasGuid (s .guid) w)
         (λ d. split (M.tracked w)
-        (λ t. let q : none ≡ some y = rw (d, t) at e in let z : _≡_ {A = ℕ} 0 1 = cc in absurd (omega arith))
+        (λ t. let q : none ≡ some y = rw (d, t) at e in missing q)
         (λ t. kept-guid w w y refl (rw (d, t) at e)))
         (λ d. kept-guid w w y refl (rw d at e))
 step-keeps lostWithParticipant s ws w y e =
     split (hasGuid (s .guid) w) (λ d. go (w .liveliness .state) (rw d at e)) (λ d. kept-guid w w y refl (rw d at e))
   where
     go : (st : WriterState) → lostAs st w ≡ some y → writerKey y ≡ writerKey w
-    go Unasserted q = let z : _≡_ {A = ℕ} 0 1 = cc in absurd (omega arith)
+    go Unasserted q = missing q
     go Alive q = kept-guid (M.departed (w .guid)) w y refl q
     go NotAlive q = kept-guid (M.departed (w .guid)) w y refl q
     go Departed q = kept-guid (M.departed (w .guid)) w y refl q
