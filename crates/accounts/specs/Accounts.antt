@@ -78,7 +78,11 @@ absent = record { writers = noWriters; instances = noInstances }
 -- the instances hear a call after the writers, for code 49
 abbrev pub advanceBy : Option Call → Event → Accounts → WriterAccounts → Accounts
 advanceBy c e acc after =
-    record { writers = after; instances = reach c e (gone c (e .sheet) (expiredIn (acc .writers .at) (after .at))) (acc .instances) }
+    record {
+      writers = after;
+      instances = reach c e (gone c (e .sheet) (expiredIn (acc .writers .at) (after .at)))
+          (acc .instances);
+    }
 
 -- one event
 unfoldable pub advance : Event → Accounts → Accounts

@@ -59,7 +59,8 @@ abbrev pub became : WriterState → ℕ → Writer → Writer
 became state last w =
     record {
       guid = w .guid;
-      liveliness = record { kind = w .liveliness .kind; state = state; lease = w .liveliness .lease; «last_assertion» = last };
+      liveliness =
+          record { kind = w .liveliness .kind; state = state; lease = w .liveliness .lease; «last_assertion» = last };
     }
 
 -- departed: only its GUID and that it is
@@ -67,7 +68,8 @@ abbrev pub departedAs : Guid → Writer
 departedAs g =
     record {
       guid = g;
-      liveliness = record { kind = Automatic; state = Departed; lease = record { present = false; nanos = 0 }; «last_assertion» = 0 };
+      liveliness =
+          record { kind = Automatic; state = Departed; lease = record { present = false; nanos = 0 }; «last_assertion» = 0 };
     }
 
 -- ---- matched: it takes kind and lease; absent becomes unasserted at the clock; departed becomes not alive at 0
@@ -81,7 +83,8 @@ abbrev pub taking : Sheet → WriterState → ℕ → Writer
 taking s state last =
     record {
       guid = s .guid;
-      liveliness = record { kind = livelinessNumbered (s .kind); state = state; lease = leaseGiven s; «last_assertion» = last };
+      liveliness =
+          record { kind = livelinessNumbered (s .kind); state = state; lease = leaseGiven s; «last_assertion» = last };
     }
 
 -- from each state: only departed changes, to not alive at 0
@@ -350,7 +353,8 @@ heardBy c s acc after =
       last = lastIn (acc .at) after (acc .last);
       lost = lostBy c (expiredIn (acc .at) after) (acc .lost);
       acknowledgedAlive =
-          acknowledgedBy c (toZ w32 (s .first)) (changeOf (aliveAmong (acc .at)) (acc .acknowledgedAlive)) (acc .acknowledgedAlive);
+          acknowledgedBy c (toZ w32 (s .first)) (changeOf (aliveAmong (acc .at)) (acc .acknowledgedAlive))
+          (acc .acknowledgedAlive);
       acknowledgedNotAlive =
           acknowledgedBy c (toZ w32 (s .second)) (changeOf (notAliveAmong (acc .at)) (acc .acknowledgedNotAlive))
           (acc .acknowledgedNotAlive);
