@@ -1,12 +1,14 @@
 -- Small laws that the others share.
 --     split                a claim by the two cases of a test
 --     either               a claim on one of two values, by a test
---     and-assoc, contrary, never, eqb-sym      tests
+--     never, missing       contradictions
+--     and-assoc, contrary, eqb-sym      tests
 --     one-more             room for one more
 --     all-from, all-weaken      what holds of every record
 -- Assumes nothing.
 use mathlib.Core.Bool.{Bool, true, false, not, _&&_, cond}
 use mathlib.Core.List.{List, [], _∷_}
+use mathlib.Core.Option.{none, some}
 use mathlib.Core.Path.{_≡_, refl, sym}
 use Prim.Native.Nat.{ℕ, _+_, _≤_, _<_}
 use native.Mathlib.Omega.{arith}
@@ -29,13 +31,17 @@ pub and-assoc : (a b c : Bool) → ((a && b) && c) ≡ (a && (b && c))
 and-assoc true b c = refl
 and-assoc false b c = refl
 
+-- two constructors are never equal
+pub never : {A : Type 0} → true ≡ false → A
+never e = let z : _≡_ {A = ℕ} 0 1 = cc in absurd (omega arith)
+
+pub missing : {A B : Type 0} {x : A} → none ≡ some x → B
+missing e = let z : _≡_ {A = ℕ} 0 1 = cc in absurd (omega arith)
+
 -- a test that is not so is its contrary
 pub contrary : (b : Bool) → not b ≡ false → b ≡ true
 contrary true e = refl
-contrary false e = let z : _≡_ {A = ℕ} 0 1 = cc in absurd (omega arith)
-
-pub never : {A : Type 0} → true ≡ false → A
-never e = let z : _≡_ {A = ℕ} 0 1 = cc in absurd (omega arith)
+contrary false e = never e
 
 -- room for one more under a limit, where one more is needed
 pub one-more : (limit : ℕ) (b : Bool) (n : ℕ) → n ≤ limit → (not b && leb limit n) ≡ false → n + bit (not b) ≤ limit

@@ -3,6 +3,8 @@
 --                        the accounts
 --     demand3-128        the same of `callOf`, with 128 places
 --     always-formed      each call of the list is lent a well-formed state: no run meets refusal 3
+--     after-fresh        what holds after any list
+--     instances-are, writers-are      the tables are the accounts not absent
 -- Assumes nothing.
 use mathlib.Core.Bool.{Bool, true, false, cond}
 use mathlib.Core.List.{List, [], _∷_}
@@ -27,7 +29,7 @@ use Rattle.model.specs.State.{Lent, State, headOf, layOut, pensOf, writersOf, l
 use Rattle.model.specs.WellFormed.{wellFormed}
 use Rattle.model.proofs.RowLaws.{both}
 use Rattle.model.proofs.StateLaws.{read-back, laid-valid, fresh-laid}
-use Rattle.accounts.specs.Accounts.{Accounts, absent, accepted, advance, accountsFrom, accountsOf, Lending, withOut, eventOf, next, final, history, SheetBytes, instancesIn, writersIn, Told}
+use Rattle.accounts.specs.Accounts.{Accounts, absent, accepted, advance, accountsFrom, accountsOf, Lending, withOut, eventOf, next, final, history, SheetBytes, instancesIn, writersIn, Told, Demand3}
 use Rattle.accounts.specs.Ranges.{bound}
 use Rattle.accounts.proofs.Basics.{split}
 use Rattle.accounts.proofs.Held.{Held, held-turn, held-valid, held-fits, held-fresh}
@@ -223,12 +225,10 @@ told-after : (places : ℕ) (l : Lent) (acc : Accounts) → After places l acc �
 told-after places l acc m =
     subst (λ (k : Lent). Told places k acc) (sym (m .laid)) (told-laid places (m .state) (l .out) acc (m .held))
 
-pub demand3 : (places : ℕ) (is : List Lending) (out : List ℕ) → All SheetBytes is →
-    Told places (final (callIn places) is (fresh places out)) (accountsOf (history (callIn places) is (fresh places out)))
+pub demand3 : (places : ℕ) → Demand3 places (callIn places)
 demand3 places is out b = told-after places _ _ (after-fresh places is out b)
 
-pub demand3-128 : (is : List Lending) (out : List ℕ) → All SheetBytes is →
-    Told 128 (final callOf is (fresh 128 out)) (accountsOf (history callOf is (fresh 128 out)))
+pub demand3-128 : Demand3 128 callOf
 unfolding callOf
 demand3-128 is out b = demand3 128 is out b
 

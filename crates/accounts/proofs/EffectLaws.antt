@@ -2,6 +2,7 @@
 --     effect-sound       codes 1 to 21
 --     lost-sound         codes 7 and 18 for each writer gone
 --     started-sound      a started instance
+--     two-times          both times of a sheet
 -- Assumes nothing.
 use mathlib.Core.Bool.{Bool, true, false, not, _&&_, cond}
 use mathlib.Core.List.{List, [], _∷_}
@@ -226,7 +227,7 @@ delivery-times : (delivered filtered : MaybeTime) (t : Times) → SoundTime deli
 delivery-times delivered filtered t a b m =
     record { sample = m .sample; delivered = a; filter = b; disposed = m .disposed; noWriters = m .noWriters; owner = m .owner }
 
-pub admitted-sound : (s : Sheet) (x : InstanceState) → SheetFits s → SoundTime (always (s .«time_1»)) →
+admitted-sound : (s : Sheet) (x : InstanceState) → SheetFits s → SoundTime (always (s .«time_1»)) →
     SoundTime (always (s .«time_2»)) → Room (s .guid) x →
     SoundState x → SoundState (admittedNoted s x)
 unfolding admittedNoted

@@ -46,7 +46,7 @@ use Rattle.accounts.proofs.SheetLaws.{SheetFits, used-time}
 use Rattle.accounts.proofs.Sound.{ok-state, fits-state}
 use Rattle.accounts.proofs.Steps.{admit-cases, Sim, advanced, passed, roomy, turned}
 use Rattle.accounts.proofs.TurnLaws.{lookup, Within, within-rises, any-lookup}
-use Rattle.accounts.proofs.WriterSound.{SoundWriter, ok-writer, fits-writer, SoundWriters, guids-sound, tracker-sound}
+use Rattle.accounts.proofs.WriterSound.{SoundWriter, ok-writer, fits-writer, SoundWriters, all-plain, tracker-sound}
 
 pub record Held (places : ℕ) (st : State) (acc : Accounts) : Type 0 where
   pub sim : Sim st acc
@@ -66,7 +66,7 @@ used-fits : (b : Bool) (n : ℕ) → (not b || leb n 144) ≡ true → b ≡ tru
 used-fits true n e d = leb-true n 144 e
 used-fits false n e d = never (sym d)
 
-pub accepted-sheet : (c : Call) (s : Sheet) (st : State) → eqb (sheetRefusal c s st) 0 ≡ true → Accepted c s st
+accepted-sheet : (c : Call) (s : Sheet) (st : State) → eqb (sheetRefusal c s st) 0 ≡ true → Accepted c s st
 unfolding sheetRefusal
 accepted-sheet c s st e =
     let a = passed (not (all nanosecondsOk (timesUsed c s))) 4 _ refl e in
@@ -220,7 +220,7 @@ held-turn places c s st acc f a ok m =
     turn-parts places c s st f (accepted-sheet c s st a) (m .sim .instances .rising)
     (m .sim .writers .rising) ok record { writers = m .writers; instances = m .instances } in
     record {
-      sim = turned places c s st acc (f .key) (f .guid) (guids-sound (st .writers) (m .writers .each)) (m .sim) ok;
+      sim = turned places c s st acc (f .key) (f .guid) (all-plain (st .writers) (m .writers .each)) (m .sim) ok;
       writers = p .writers;
       instances = p .instances;
     }

@@ -2,6 +2,7 @@
 --     instance-sound     an instance call that acts
 --     admit-sound        admit with outcome 0
 --     losses-sound       codes 49 to 51
+--     stays-sound        a call that leaves the instances
 -- Assumes nothing.
 use mathlib.Core.Bool.{Bool, true, false}
 use mathlib.Core.List.{List, [], _∷_}
@@ -37,7 +38,7 @@ use Rattle.model.specs.Tables as T
 use Rattle.model.proofs.Fits.{FitsGuid}
 use Rattle.accounts.specs.InstanceAccounts.{isKeyed, onInstance}
 use Rattle.accounts.specs.Ranges.{bound}
-use Rattle.accounts.proofs.Basics.{split, either, never, all-weaken}
+use Rattle.accounts.proofs.Basics.{missing, split, either, never, all-weaken}
 use Rattle.accounts.proofs.EffectLaws.{Room, SoundAfter, effect-sound, lost-sound, started-sound}
 use Rattle.accounts.proofs.InstanceTurns.{acts-stay, begins-absent, next-is, not-nil, answered, turned-at, turned-rises, eventBy, tried, observed, tried-next, tried-none, tried-silent}
 use Rattle.accounts.proofs.SheetLaws.{SheetFits}
@@ -190,7 +191,7 @@ pub record Entry (places : ℕ) (c : InstanceCall) (s : Sheet) (st : State) : Ty
 
 kept-sound : (x y : Instance) (o : Option InstanceState) → FitsGuid (x .key) → SoundAfter o → kept x o ≡ some y →
     SoundInstance y
-kept-sound x y none f m e = let z : _≡_ {A = ℕ} 0 1 = cc in absurd (omega arith)
+kept-sound x y none f m e = missing e
 kept-sound x y (some z) f m e =
     let p : record { key = x .key; handle = x .handle; state = z } ≡ y = cc in subst SoundInstance p record { key = f; state = m }
 

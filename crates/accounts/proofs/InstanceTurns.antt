@@ -42,7 +42,7 @@ use Rattle.model.proofs.RowLaws.{both}
 use Rattle.accounts.specs.InstanceAccounts as S
 use Rattle.accounts.specs.InstanceAccounts.{wayOf, reachedBy, isKeyed, Event, onPresent, onAbsent, onInstance, InstanceAccounts, startsAt}
 use Rattle.accounts.specs.Ranges.{bound, upFrom}
-use Rattle.accounts.proofs.Basics.{split, eqb-sym, never}
+use Rattle.accounts.proofs.Basics.{missing, split, eqb-sym, never}
 use Rattle.accounts.proofs.RangeLaws.{num-below, up-more}
 use Rattle.accounts.proofs.TurnLaws.{bind, lookup, Within, Keeps, lookup-key, any-lookup, begin, begunAt, Below, lookup-begin, within-begin, lookup-sift, within-sift, turn-at}
 
@@ -89,7 +89,7 @@ limited-starts every e = never (sym e)
 -- ---- key and handle stay
 
 kept-key : (x y : Instance) (o : Option InstanceState) → kept x o ≡ some y → (y .key ≡ x .key) × (y .handle ≡ x .handle)
-kept-key x y none e = let z : _≡_ {A = ℕ} 0 1 = cc in absurd (omega arith)
+kept-key x y none e = missing e
 kept-key x y (some z) e =
     let p : record { key = x .key; handle = x .handle; state = z } ≡ y = cc in
     (sym (ap (λ (i : Instance). i .key) p), sym (ap (λ (i : Instance). i .handle) p))
@@ -106,27 +106,27 @@ acts-stay c s x y e =
     (λ d. let q : some x ≡ some y = rw d at e in let p : x ≡ y = cc in
     (sym (ap (λ (i : Instance). i .key) p), sym (ap (λ (i : Instance). i .handle) p)))
 
-pub acts-keeps : (c : InstanceCall) (s : Sheet) → Keeps instanceKey (acts c s)
+acts-keeps : (c : InstanceCall) (s : Sheet) → Keeps instanceKey (acts c s)
 acts-keeps c s x y e = ap num (acts-stay c s x y e .0)
 
 -- ---- the turn
 
-pub startOf : InstanceCall → Sheet → State → Option Instance
+startOf : InstanceCall → Sheet → State → Option Instance
 startOf c s st = cond (begins c s st) (some (started (s .key) (allocated (st .nextHandle) .handle .0))) none
 
-pub begun-is : (c : InstanceCall) (s : Sheet) (st : State) →
+begun-is : (c : InstanceCall) (s : Sheet) (st : State) →
     begun c s st ≡ begin instanceKey (startOf c s st) (st .instances)
 unfolding begun startOf
 begun-is c s st = split (begins c s st) (λ e. rw e) (λ e. rw e)
 
-pub start-below : (c : InstanceCall) (s : Sheet) (st : State) → FitsGuid (s .key) → Below instanceKey bound (startOf c s st)
+start-below : (c : InstanceCall) (s : Sheet) (st : State) → FitsGuid (s .key) → Below instanceKey bound (startOf c s st)
 unfolding startOf started
 start-below c s st f = split (begins c s st) (λ e. rw e (num-below (s .key) f)) (λ e. rw e tt)
 
 pub known-is : (s : Sheet) (st : State) → known s st ≡ isSome (lookup instanceKey (num (s .key)) (st .instances))
 known-is s st = any-lookup instanceKey (num (s .key)) (st .instances)
 
-pub unknown-none : {A : Type 0} (o : Option A) → isSome o ≡ false → o ≡ none
+unknown-none : {A : Type 0} (o : Option A) → isSome o ≡ false → o ≡ none
 unknown-none none e = refl
 unknown-none (some x) e = never e
 
@@ -139,7 +139,7 @@ begins-absent c s st e =
 
 -- ---- the handle that a call answers
 
-abbrev pub handleIn : Option Instance → ℕ
+abbrev handleIn : Option Instance → ℕ
 handleIn none = 0
 handleIn (some x) = x .handle .0
 
@@ -215,7 +215,7 @@ module _ (c : InstanceCall) (s : Sheet) (st : State) (fits : FitsGuid (s .key))
       (num (s .key)))
 
   -- it starts an instance, and answers the handle to come
-  pub answered-new : begins c s st ≡ true → answered ≡ st .nextHandle
+  answered-new : begins c s st ≡ true → answered ≡ st .nextHandle
   answered-new e = answered-is ∙ new
     where
       new : cond (startsBy (rule c .reach))
@@ -285,8 +285,7 @@ module _ (c : InstanceCall) (s : Sheet) (st : State) (fits : FitsGuid (s .key))
           (split (eqb (num (s .key)) j)
           (λ d.
           let p : lookup instanceKey j (st .instances) ≡ none = rw (← eqb-true (num (s .key)) j d)
-          (begins-absent c s st e .1) in
-          let z : _≡_ {A = ℕ} 0 1 = cc in absurd (omega arith))
+          (begins-absent c s st e .1) in missing (sym p ∙ n))
           (λ d. rw d)))
           (λ e. rw e)
 
@@ -318,7 +317,7 @@ pub record InstanceSim (st : State) (acc : InstanceAccounts) : Type 0 where
   pub handles : acc .handles ≡ upFrom 1 (length (acc .handles))
   pub next : st .nextHandle ≡ 1 + length (acc .handles)
 
-pub one-next : (st : State) (acc : InstanceAccounts) → InstanceSim st acc → 1 ≤ st .nextHandle
+one-next : (st : State) (acc : InstanceAccounts) → InstanceSim st acc → 1 ≤ st .nextHandle
 one-next st acc m = omega (arith, m .next)
 
 -- handles after a call that starts one with the handle to come, or none
@@ -334,7 +333,7 @@ handles-more true hs new next after e n d a =
 handles-more false hs new next after e n d a = rw (d, append-nil hs) (e, omega arith)
 
 -- a state whose instances stay, and accounts that no call altered
-pub instances-stay : (st st′ : State) (acc : InstanceAccounts) (c : Call) (e : Event) (gone : List Guid) →
+instances-stay : (st st′ : State) (acc : InstanceAccounts) (c : Call) (e : Event) (gone : List Guid) →
     st′ .instances ≡ st .instances →
     st′ .nextHandle ≡ st .nextHandle → e .handle ≡ 0 →
     ((j : ℕ) (x : Instance) → lookup instanceKey j (st .instances) ≡ some x → onPresent c e gone j x ≡ some x) →
@@ -381,8 +380,7 @@ limit-heard st acc c s gone limited unknown m =
         split (eqb j (num (s .key)))
         (λ d.
         let p : lookup instanceKey j (st .instances) ≡ none =
-        rw (eqb-true j (num (s .key)) d) (unknown-none _ (sym (known-is s st) ∙ unknown)) in
-        let z : _≡_ {A = ℕ} 0 1 = cc in absurd (omega arith))
+        rw (eqb-true j (num (s .key)) d) (unknown-none _ (sym (known-is s st) ∙ unknown)) in missing (sym p ∙ n))
         (λ d. rw (r, d))
 
 -- outcomes 1 to 4 of admit
@@ -482,13 +480,7 @@ pub tried-none : (s : Sheet) (j h : ℕ) (o : Option Instance) → h ≡ 0 →
 tried-none s j h none e n = refl
 tried-none s j h (some x) e n =
     split (isKeyed s j)
-    (λ k. let q : some record {
-      key = x .key;
-      handle = x .handle;
-      state = Rattle.model.specs.Instances.ownershipTried s
-          (x .state);
-    } ≡ none = rw k at n in
-    let z : _≡_ {A = ℕ} 0 1 = cc in absurd (omega arith))
+    (λ k. let q : S.leaving x (effect acceptUnderExclusiveOwnership s (x .state)) ≡ none = rw k at n in missing (sym q))
     (λ k. let q : some x ≡ none = rw k at n in q)
 
 tried-starts : (s : Sheet) (j h before : ℕ) (o : Option Instance) → before ≡ 0 →
@@ -502,7 +494,7 @@ silent-starts s h none e = rw e
 silent-starts s h (some x) e = refl
 
 -- accounts that agree at each key, with the same handles
-pub same-accounts : (st : State) (acc acc′ : InstanceAccounts) → ((j : ℕ) → acc .at j ≡ acc′ .at j) →
+same-accounts : (st : State) (acc acc′ : InstanceAccounts) → ((j : ℕ) → acc .at j ≡ acc′ .at j) →
     acc .handles ≡ acc′ .handles →
     InstanceSim st acc → InstanceSim st acc′
 same-accounts st acc acc′ e d m =

@@ -2,7 +2,7 @@
 --     length-between       how many pass a test, as a sum
 --     sum-add, sum-zero    sums
 --     last-greatest        the last of those that pass is the greatest
---     renumbered           GUIDs are those of their numbers
+--     numbered-num, renumbered      GUIDs are those of their numbers
 --     num-below            a GUID's number is below the bound
 --     up-more              one more number at the end
 -- Assumes nothing.

@@ -1,10 +1,12 @@
 -- Demand 3 is not vacuous: a sheet in order is refused by nothing but 8 and 9 to 13, each exactly where section 8 says on
 -- the accounts.
---     answered-number    the number of a turn
+--     *-number           the number of a call, from the state
+--     *-busy             the same, from the accounts
 --     only-busy          the number of a call of a list, whose sheet is in order
+--     nothing-else       it is 0, 8 in code 40 alone, or 9 to 13
 --     never-3            no call of a list is refused by 3
 -- Assumes nothing.
-use mathlib.Core.Bool.{Bool, true, false, not, _&&_, cond}
+use mathlib.Core.Bool.{Bool, true, false, not, _&&_, _||_, cond}
 use mathlib.Core.List.{List, [], _∷_}
 use mathlib.Core.Logic.{_≢_}
 use mathlib.Core.Option.{Option, none, some}
@@ -18,7 +20,6 @@ use lib.IntN.{_+ℤ_}
 use lib.ListN.{length}
 use mir.Syntax.{w32}
 use mir.Val.{toZ}
-use Rattle.octets.specs.Bounds.{Bytes}
 use Rattle.octets.specs.Lay.{All, length-lay}
 use Rattle.model.specs.declared.Guid.{Guid}
 use Rattle.model.specs.declared.Instance.{Instance}
@@ -42,21 +43,21 @@ use Rattle.model.specs.State.{Lent, State, fresh, instanceKey, layOut}
 use Rattle.model.specs.Tables.{all, isSome, find}
 use Rattle.model.specs.WellFormed.{clockOk, within}
 use Rattle.model.specs.WriterRecord.{writerBytes}
-use Rattle.model.specs.Writers.{hasGuid, movers, trackerTold, trackerLate, trackerTurn, trackerCall}
+use Rattle.model.specs.Writers.{acknowledgeable, hasGuid, movers, trackerTold, trackerLate, trackerTurn, trackerCall}
 use Rattle.model.proofs.Fits.{FitsGuid, FitsInstance, FitsWriter}
 use Rattle.model.proofs.GuidLaws.{length-guid}
 use Rattle.model.proofs.InstanceLaws.{length-instance}
 use Rattle.model.proofs.StateLaws.{Fitting, read-back}
 use Rattle.model.proofs.WriterLaws.{length-writer}
 use Rattle.accounts.specs.Accounts.{Accounts, accountsOf, Lending, withOut, next, final, history, SheetBytes}
-use Rattle.accounts.specs.Busy.{Ordered, busyInstance, busyTracker, busyMatch, busyExpire, busyAdmit, busyJoined, busy}
-use Rattle.accounts.proofs.Basics.{split, either}
-use Rattle.accounts.proofs.Demand3.{formed, out-replaced, after-fresh, instances-are, writers-are}
+use Rattle.accounts.specs.Busy.{Ordered, lateNumber, acknowledges, acknowledgesIn, allowed, busyInstance, busyTracker, busyMatch, busyExpire, busyAdmit, busyJoined, busy}
+use Rattle.accounts.proofs.Basics.{split, either, never}
+use Rattle.accounts.proofs.Demand3.{formed, out-replaced, After, after-fresh, instances-are, writers-are}
 use Rattle.accounts.proofs.Held.{Held, held-fits}
 use Rattle.accounts.proofs.SheetLaws.{SheetFits, sheet-fits}
 use Rattle.accounts.proofs.TurnLaws.{any-lookup}
-use Rattle.accounts.proofs.WriterSound.{guids-sound}
-use Rattle.accounts.proofs.WriterTurns.{movers-fit, expired-are}
+use Rattle.accounts.proofs.WriterSound.{all-plain}
+use Rattle.accounts.proofs.WriterTurns.{expired-are}
 
 -- ---- accepted calls answer 0
 
@@ -163,6 +164,11 @@ admit-number places s st x =
     taken : admitted s st .answer .number ≡ 0
     taken = unfold admitted in refl
 
+-- what is left once a sheet has passed 4 to 7
+passing : (s : Sheet) (st : State) (c : Call) → Ordered c s → sheetRefusal c s st ≡ cond (not (acknowledgeOk c s st)) 8 0
+unfolding sheetRefusal
+passing s st c o = rw (o .times, o .clocks, o .holder, o .kind)
+
 -- ---- the same, from the accounts
 
 module _ (places : ℕ) (s : Sheet) (st : State) (acc : Accounts) (fits : SheetFits s) (m : Held places st acc) where
@@ -182,18 +188,13 @@ module _ (places : ℕ) (s : Sheet) (st : State) (acc : Accounts) (fits : SheetF
   expire-busy : trackerLate expire s st ≡ busyExpire s acc
   expire-busy =
       rw (
-        expired-are s (st .writers) (acc .writers .at) (fits .guid) (m .sim .writers .rising) (m .sim .writers .agree)
-            (movers-fit expire s (st .writers) (fits .guid) (guids-sound (st .writers) (m .writers .each))),
+        expired-are s (st .writers) (acc .writers .at) (fits .guid)
+            (all-plain (st .writers) (m .writers .each)) (m .sim .writers .rising) (m .sim .writers .agree),
         m .sim .writers .lost,
       )
 
   match-busy : trackerLate matched s st ≡ busyMatch s acc
   match-busy = rw (m .sim .writers .agree (num (s .guid)), writers-are places st acc m)
-
-  -- what is left once a sheet has passed 4 to 7
-  passing : (c : Call) → Ordered c s → sheetRefusal c s st ≡ cond (not (acknowledgeOk c s st)) 8 0
-  unfolding sheetRefusal
-  passing c o = rw (o .times, o .clocks, o .holder, o .kind)
 
   -- the number of a call that is judged
   abbrev judgedNumber : Call → ℕ
@@ -201,7 +202,7 @@ module _ (places : ℕ) (s : Sheet) (st : State) (acc : Accounts) (fits : SheetF
 
   ordered-number : (c : Call) → Ordered c s → acknowledgeOk c s st ≡ true →
       judgedNumber c ≡ turn places c s st .answer .number
-  ordered-number c o a = rw (passing c o, a)
+  ordered-number c o a = rw (passing s st c o, a)
 
   tracker-busy : (c : TrackerCall) → Ordered (tracker c) s → judgedNumber (tracker c) ≡ busyTracker c s acc
   tracker-busy matched o = ordered-number (tracker matched) o refl ∙ tracker-number matched s st ∙ match-busy
@@ -216,8 +217,7 @@ module _ (places : ℕ) (s : Sheet) (st : State) (acc : Accounts) (fits : SheetF
   tracker-busy takeStatus o = ordered-number (tracker takeStatus) o refl ∙ tracker-number takeStatus s st
   tracker-busy acknowledge o =
       rw (
-        passing
-            (tracker acknowledge) o,
+        passing s st (tracker acknowledge) o,
         tracker-number acknowledge s st,
         m .sim .writers .acknowledgedAlive,
         m .sim .writers .acknowledgedNotAlive,
@@ -270,15 +270,20 @@ judged-number places c s st out f =
     (split (eqb (sheetRefusal c s st) 0) (λ e. rw e (settled-number places (turn places c s st) (layOut places st out)))
     (λ e. rw e))
 
-call-busy : (places : ℕ) (sheet : List ℕ) (st : State) (out : List ℕ) (acc : Accounts) (c : Call) → Bytes sheet →
-    length sheet ≡ 256 → length out ≡ 4096 →
-    callOfCode (sheetOf sheet .code) ≡ some c → Ordered c (sheetOf sheet) → Held places st acc →
-    callIn places sheet (layOut places st out) .answer .number ≡ busy places c (sheetOf sheet) acc
+call-number : (places : ℕ) (sheet : List ℕ) (st : State) (out : List ℕ) (acc : Accounts) (c : Call) →
+    length sheet ≡ 256 → length out ≡ 4096 → callOfCode (sheetOf sheet .code) ≡ some c → Held places st acc →
+    callIn places sheet (layOut places st out) .answer .number
+    ≡ cond (eqb (sheetRefusal c (sheetOf sheet) st) 0) (turn places c (sheetOf sheet) st .answer .number)
+    (sheetRefusal c (sheetOf sheet) st)
 unfolding callIn
-call-busy places sheet st out acc c b n o q d m =
+call-number places sheet st out acc c n o q m =
     rw (laid-lengths places sheet st out (held-fits places st acc m) n o, q, formed places st out acc m)
-    (judged-number places c (sheetOf sheet) st out (held-fits places st acc m) ∙ judged-busy places (sheetOf sheet) st acc
-    (sheet-fits sheet b n) m c d)
+    (judged-number places c (sheetOf sheet) st out (held-fits places st acc m))
+
+-- what a call is lent after any list
+lent-anew : (places : ℕ) (i : Lending) {l : Lent} {acc : Accounts} (m : After places l acc) →
+    withOut (i .out) l ≡ layOut places (m .state) (i .out)
+lent-anew places i {l} m = ap (withOut (i .out)) (m .laid) ∙ out-replaced places (m .state) (l .out) (i .out)
 
 -- after any list, a sheet of 256 bytes with an Out of 4,096, a valid code and all in order is refused by nothing but 8 and
 -- 9 to 13, each where section 8 says on the accounts
@@ -290,98 +295,152 @@ pub only-busy : (places : ℕ) (is : List Lending) (out : List ℕ) (i : Lending
     ≡ busy places c (sheetOf (i .sheet)) (accountsOf (history (callIn places) is (fresh places out)))
 only-busy places is out i c b bytes n o q d =
     let m = after-fresh places is out b in
-    ap (λ (l : Lent). callIn places (i .sheet) l .answer .number)
-    (ap (withOut (i .out)) (m .laid) ∙ out-replaced places (m .state) _ (i .out))
-    ∙ call-busy places (i .sheet) (m .state) (i .out) _ c bytes n o q d (m .held)
+    ap (λ (l : Lent). callIn places (i .sheet) l .answer .number) (lent-anew places i m)
+    ∙ call-number places (i .sheet) (m .state) (i .out) _ c n o q (m .held)
+    ∙ judged-busy places (sheetOf (i .sheet)) (m .state) _ (sheet-fits (i .sheet) bytes n) (m .held) c d
+
+-- ---- which numbers there are
+
+-- a number that passes a test
+pub record Passes (p : ℕ → Bool) (n : ℕ) : Type 0 where
+  pub is : p n ≡ true
+
+-- a refusal by n where b holds, else what comes after it
+link : (p : ℕ → Bool) (b : Bool) (n m : ℕ) → p n ≡ true → Passes p m → Passes p (cond b n m)
+link p b n m e q = either (Passes p) b n m (λ d. record { is = e }) (λ d. q)
+
+-- the numbers of a turn: 0, or 9 to 13
+zero-late : Passes lateNumber 0
+zero-late = record { is = refl }
+
+late-link : (b : Bool) (n m : ℕ) → lateNumber n ≡ true → Passes lateNumber m → Passes lateNumber (cond b n m)
+late-link b n m e q = link lateNumber b n m e q
+
+tracker-late : (c : TrackerCall) (s : Sheet) (st : State) → Passes lateNumber (trackerLate c s st)
+tracker-late matched s st =
+    late-link (not (isSome (find (hasGuid (s .guid)) (st .writers))) && leb 128 (length (st .writers))) 11 0 refl zero-late
+tracker-late unmatched s st = zero-late
+tracker-late lostWithParticipant s st = zero-late
+tracker-late writerAsserted s st = zero-late
+tracker-late participantAsserted s st = zero-late
+tracker-late expire s st =
+    late-link (ltb 256 (length (st .lost) + length (movers expire s (st .writers)))) 12 0 refl zero-late
+tracker-late takeLost s st = zero-late
+tracker-late takeStatus s st = zero-late
+tracker-late acknowledge s st = zero-late
+
+instance-late : (places : ℕ) (c : InstanceCall) (s : Sheet) (st : State) →
+    Passes lateNumber (instanceCall places c s st .answer .number)
+unfolding lateRefusal
+instance-late places c s st =
+    subst (Passes lateNumber) (sym (instance-number places c s st))
+    (late-link (limitedBy (rule c .reach) && atLimit s st) 0 _ refl
+    (late-link (begins c s st && full places st) 9 _ refl
+    (late-link (begins c s st && spent st) 13 _ refl
+    (late-link (rule c .addsWriter && crowds s (reached c s (st .instances))) 10 0 refl zero-late))))
+
+admit-late : (places : ℕ) (s : Sheet) (st : State) (x : Option Instance) →
+    Passes lateNumber (admitWith places s st x .answer .number)
+admit-late places s st x =
+    subst (Passes lateNumber) (sym (admit-number places s st x))
+    (late-link (not (inOrder s x)) 0 _ refl
+    (late-link (not (passesFilter s x)) 0 _ refl
+    (late-link (atLimit s st) 0 _ refl
+    (late-link (not (known s st) && full places st) 9 _ refl
+    (late-link (not (known s st) && spent st) 13 _ refl
+    (late-link (crowds s x) 10 0 refl zero-late))))))
+
+loss-late : (c : TrackerCall) (gs : List Guid) (s : Sheet) (st : State) →
+    Passes lateNumber (lossCall c gs s st .answer .number)
+loss-late c gs s st = subst (Passes lateNumber) (sym (loss-number c gs s st)) (tracker-late c s st)
+
+joined-late : (places : ℕ) (c : JoinedCall) (s : Sheet) (st : State) →
+    Passes lateNumber (turn places (joined c) s st .answer .number)
+joined-late places admit s st = admit-late places s st (find (hasKey (s .key)) (st .instances))
+joined-late places lapse s st = loss-late expire (movers expire s (st .writers)) s st
+joined-late places part s st = loss-late unmatched (s .guid ∷ []) s st
+joined-late places depart s st = loss-late lostWithParticipant (s .guid ∷ []) s st
+
+turn-late : (places : ℕ) (c : Call) (s : Sheet) (st : State) → Passes lateNumber (turn places c s st .answer .number)
+turn-late places (instances c) s st = instance-late places c s st
+turn-late places (tracker c) s st = subst (Passes lateNumber) (sym (tracker-number c s st)) (tracker-late c s st)
+turn-late places (joined c) s st = joined-late places c s st
+
+-- the numbers of a sheet: 0, or 4 to 8
+abbrev early : ℕ → Bool
+early n = eqb n 0 || leb 4 n
+
+sheet-early : (c : Call) (s : Sheet) (st : State) → Passes early (sheetRefusal c s st)
+unfolding sheetRefusal
+sheet-early c s st =
+    link early (not (all nanosecondsOk (timesUsed c s))) 4 _ refl
+    (link early (not (all clockOk (clocksUsed c s))) 5 _ refl
+    (link early (not (holderFits c s)) 6 _ refl
+    (link early (not (kindOk c s)) 7 _ refl (link early (not (acknowledgeOk c s st)) 8 0 refl record { is = refl }))))
 
 -- ---- no call is refused by 3, whatever its sheet and Out
 
-pub record NotThree (n : ℕ) : Type 0 where
-  pub is : eqb n 3 ≡ false
-
-zero-other : NotThree 0
-zero-other = record { is = refl }
-
--- a refusal by n where b holds, else what comes after it
-link : (b : Bool) (n m : ℕ) → eqb n 3 ≡ false → NotThree m → NotThree (cond b n m)
-link b n m p q = either NotThree b n m (λ e. record { is = p }) (λ e. q)
-
-late-other : (c : TrackerCall) (s : Sheet) (st : State) → NotThree (trackerLate c s st)
-late-other matched s st =
-    link (not (isSome (find (hasGuid (s .guid)) (st .writers))) && leb 128 (length (st .writers))) 11 0 refl zero-other
-late-other unmatched s st = zero-other
-late-other lostWithParticipant s st = zero-other
-late-other writerAsserted s st = zero-other
-late-other participantAsserted s st = zero-other
-late-other expire s st = link (ltb 256 (length (st .lost) + length (movers expire s (st .writers)))) 12 0 refl zero-other
-late-other takeLost s st = zero-other
-late-other takeStatus s st = zero-other
-late-other acknowledge s st = zero-other
-
-instance-other : (places : ℕ) (c : InstanceCall) (s : Sheet) (st : State) →
-    NotThree (instanceCall places c s st .answer .number)
-unfolding lateRefusal
-instance-other places c s st =
-    subst NotThree (sym (instance-number places c s st))
-    (link (limitedBy (rule c .reach) && atLimit s st) 0 _ refl
-    (link (begins c s st && full places st) 9 _ refl
-    (link (begins c s st && spent st) 13 _ refl
-    (link (rule c .addsWriter && crowds s (reached c s (st .instances))) 10 0 refl zero-other))))
-
-admit-other : (places : ℕ) (s : Sheet) (st : State) (x : Option Instance) →
-    NotThree (admitWith places s st x .answer .number)
-admit-other places s st x =
-    subst NotThree (sym (admit-number places s st x))
-    (link (not (inOrder s x)) 0 _ refl
-    (link (not (passesFilter s x)) 0 _ refl
-    (link (atLimit s st) 0 _ refl
-    (link (not (known s st) && full places st) 9 _ refl
-    (link (not (known s st) && spent st) 13 _ refl
-    (link (crowds s x) 10 0 refl zero-other))))))
-
-joined-other : (places : ℕ) (c : JoinedCall) (s : Sheet) (st : State) →
-    NotThree (turn places (joined c) s st .answer .number)
-joined-other places admit s st = admit-other places s st (find (hasKey (s .key)) (st .instances))
-joined-other places lapse s st =
-    subst NotThree (sym (loss-number expire (movers expire s (st .writers)) s st)) (late-other expire s st)
-joined-other places part s st = subst NotThree (sym (loss-number unmatched (s .guid ∷ []) s st)) zero-other
-joined-other places depart s st = subst NotThree (sym (loss-number lostWithParticipant (s .guid ∷ []) s st)) zero-other
-
-turn-other : (places : ℕ) (c : Call) (s : Sheet) (st : State) → NotThree (turn places c s st .answer .number)
-turn-other places (instances c) s st = instance-other places c s st
-turn-other places (tracker c) s st = subst NotThree (sym (tracker-number c s st)) (late-other c s st)
-turn-other places (joined c) s st = joined-other places c s st
-
-sheet-other : (c : Call) (s : Sheet) (st : State) → NotThree (sheetRefusal c s st)
-unfolding sheetRefusal
-sheet-other c s st =
-    link (not (all nanosecondsOk (timesUsed c s))) 4 _ refl
-    (link (not (all clockOk (clocksUsed c s))) 5 _ refl
-    (link (not (holderFits c s)) 6 _ refl
-    (link (not (kindOk c s)) 7 _ refl (link (not (acknowledgeOk c s st)) 8 0 refl zero-other))))
+-- a number that passes a test which 3 does not pass
+not-3 : (p : ℕ → Bool) (n : ℕ) → p 3 ≡ false → Passes p n → eqb n 3 ≡ false
+not-3 p n e q = split (eqb n 3) (λ d. never (sym (q .is) ∙ ap p (eqb-true n 3 d) ∙ e)) (λ d. d)
 
 coded-other : (places : ℕ) (o : Option Call) (s : Sheet) (st : State) (out : List ℕ) (acc : Accounts) → Held places st acc →
-    NotThree (coded places o s (layOut places st out) .answer .number)
-coded-other places none s st out acc m = record { is = refl }
+    eqb (coded places o s (layOut places st out) .answer .number) 3 ≡ false
+coded-other places none s st out acc m = refl
 coded-other places (some c) s st out acc m =
-    rw (formed places st out acc m)
-    (subst NotThree (sym (judged-number places c s st out (held-fits places st acc m)))
-    (either NotThree (eqb (sheetRefusal c s st) 0) (turn places c s st .answer .number) (sheetRefusal c s st)
-    (λ e. turn-other places c s st) (λ e. sheet-other c s st)))
+    rw (formed places st out acc m, judged-number places c s st out (held-fits places st acc m))
+    (either (λ (n : ℕ). eqb n 3 ≡ false) (eqb (sheetRefusal c s st) 0) (turn places c s st .answer .number)
+    (sheetRefusal c s st)
+    (λ e. not-3 lateNumber _ refl (turn-late places c s st)) (λ e. not-3 early _ refl (sheet-early c s st)))
 
 call-other : (places : ℕ) (sheet : List ℕ) (st : State) (out : List ℕ) (acc : Accounts) → Held places st acc →
-    NotThree (callIn places sheet (layOut places st out) .answer .number)
+    eqb (callIn places sheet (layOut places st out) .answer .number) 3 ≡ false
 unfolding callIn
 call-other places sheet st out acc m =
     split (lengthsOk places sheet (layOut places st out))
     (λ e. rw e (coded-other places (callOfCode (sheetOf sheet .code)) (sheetOf sheet) st out acc m))
-    (λ e. rw e record { is = refl })
+    (λ e. rw e)
 
 pub never-3 : (places : ℕ) (is : List Lending) (out : List ℕ) (i : Lending) → All SheetBytes is →
     next (callIn places) i (final (callIn places) is (fresh places out)) .answer .number ≢ 3
 never-3 places is out i b =
     let m = after-fresh places is out b in
     eqb-false _ 3
-    (ap (λ (l : Lent). eqb (callIn places (i .sheet) l .answer .number) 3)
-    (ap (withOut (i .out)) (m .laid) ∙ out-replaced places (m .state) _ (i .out))
-    ∙ call-other places (i .sheet) (m .state) (i .out) _ (m .held) .is)
+    (ap (λ (l : Lent). eqb (callIn places (i .sheet) l .answer .number) 3) (lent-anew places i m)
+    ∙ call-other places (i .sheet) (m .state) (i .out) _ (m .held))
+
+-- ---- 8 stands in code 40 alone
+
+only-40 : (c : TrackerCall) (s : Sheet) (st : State) → acknowledgeable c s st ≡ false → acknowledgesIn c ≡ true
+only-40 matched s st e = never e
+only-40 unmatched s st e = never e
+only-40 lostWithParticipant s st e = never e
+only-40 writerAsserted s st e = never e
+only-40 participantAsserted s st e = never e
+only-40 expire s st e = never e
+only-40 takeLost s st e = never e
+only-40 takeStatus s st e = never e
+only-40 acknowledge s st e = refl
+
+acknowledge-40 : (c : Call) (s : Sheet) (st : State) → acknowledgeOk c s st ≡ false → acknowledges c ≡ true
+acknowledge-40 (instances c) s st e = never e
+acknowledge-40 (tracker c) s st e = only-40 c s st e
+acknowledge-40 (joined c) s st e = never e
+
+judged-allowed : (places : ℕ) (c : Call) (s : Sheet) (st : State) → Ordered c s →
+    allowed c (cond (eqb (sheetRefusal c s st) 0) (turn places c s st .answer .number) (sheetRefusal c s st)) ≡ true
+judged-allowed places c s st o =
+    split (acknowledgeOk c s st)
+    (λ e. rw (passing s st c o, e, turn-late places c s st .is))
+    (λ e. rw (passing s st c o, e, acknowledge-40 c s st e))
+
+-- so such a sheet is refused by nothing but 8, in code 40 alone, and 9 to 13
+pub nothing-else : (places : ℕ) (is : List Lending) (out : List ℕ) (i : Lending) (c : Call) → All SheetBytes is →
+    length (i .sheet) ≡ 256 → length (i .out) ≡ 4096 → callOfCode (sheetOf (i .sheet) .code) ≡ some c →
+    Ordered c (sheetOf (i .sheet)) →
+    allowed c (next (callIn places) i (final (callIn places) is (fresh places out)) .answer .number) ≡ true
+nothing-else places is out i c b n o q d =
+    let m = after-fresh places is out b in
+    ap (λ (l : Lent). allowed c (callIn places (i .sheet) l .answer .number)) (lent-anew places i m)
+    ∙ ap (allowed c) (call-number places (i .sheet) (m .state) (i .out) _ c n o q (m .held))
+    ∙ judged-allowed places c (sheetOf (i .sheet)) (m .state) d

@@ -1,6 +1,7 @@
 -- What a sheet of 256 bytes has, and the times and clocks that a call takes from it.
 --     sheet-fits             every field fits
---     given-time, taken-time, used-time     times that go to a record
+--     given-time, taken-time, used-time, absent-time     times that go to a record
+--     taken-holder, used-holder     the holder
 -- Assumes nothing.
 use mathlib.Core.Bool.{true}
 use mathlib.Core.List.{List, [], _∷_, _++_}

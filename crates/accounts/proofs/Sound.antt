@@ -1,6 +1,6 @@
 -- A sound value fits its bytes and is well formed; as plain facts, group by group.
---     ok-*, fits-*       a sound value passes section 2's test and fits
---     set-*              sets of writers
+--     ok-state, fits-state       a sound instance passes section 2's test and fits
+--     set-members, set-without, set-with      sets of writers
 -- Assumes nothing.
 use mathlib.Core.Bool.{true, false, not, _&&_}
 use mathlib.Core.List.{List, [], _∷_}
@@ -96,7 +96,7 @@ ok-life l m =
           (m .noWriters),
     )
 
-pub members-set : (xs : List Guid) → members (setOf xs) ≡ xs
+members-set : (xs : List Guid) → members (setOf xs) ≡ xs
 unfolding setOf
 members-set xs = take-at xs (replicate (16 - length xs) nil) (length xs) refl
 
@@ -174,7 +174,7 @@ fits-state x m =
 
 -- ---- sets of writers
 
-pub set-members : (w : WriterSet) (m : SoundSet w) → members w ≡ m .list
+set-members : (w : WriterSet) (m : SoundSet w) → members w ≡ m .list
 set-members w m = ap members (m .is) ∙ members-set (m .list)
 
 same-guid : (a b : Guid) → FitsGuid a → FitsGuid b → num a ≡ num b → a ≡ b

@@ -1,6 +1,8 @@
 -- One accepted call, of any code, keeps the state and the accounts in step.
---     turned            an accepted call
---     writers-stay      an instance call leaves the writers' half
+--     passed, roomy      refusals that were not met
+--     writers-stay       an instance call leaves the writers' half
+--     admit-cases        the chain of admit
+--     turned             an accepted call
 -- Assumes nothing.
 use mathlib.Core.Bool.{Bool, true, false, not, _&&_, cond}
 use mathlib.Core.List.{List, [], _∷_}
@@ -37,14 +39,14 @@ use Rattle.accounts.specs.WriterAccounts.{WriterAccounts, hear, heardBy,
 use Rattle.accounts.proofs.Basics.{split, never, either}
 use Rattle.accounts.proofs.InstanceTurns.{InstanceSim, tracker-heard, limit-heard, stopped-heard, instance-heard, admit-heard, loss-heard}
 use Rattle.accounts.proofs.TurnLaws.{lookup, any-lookup}
-use Rattle.accounts.proofs.WriterTurns.{WriterSim, FitGuid, movers-fit, expired-are, writer-heard}
+use Rattle.accounts.proofs.WriterTurns.{WriterSim, Plain, expired-are, writer-heard}
 
 pub record Sim (st : State) (acc : Accounts) : Type 0 where
   pub writers : WriterSim st (acc .writers)
   pub instances : InstanceSim st (acc .instances)
 
 -- what the accounts hear of an accepted call
-abbrev pub heardOf : Sheet → Answer → Event
+abbrev heardOf : Sheet → Answer → Event
 heardOf s a = record { sheet = s; number = 0; handle = a .handle .0; outcome = a .outcome }
 
 abbrev pub advanced : Call → Sheet → Answer → Accounts → Accounts
@@ -56,7 +58,7 @@ pub passed : (b : Bool) (n m : ℕ) → eqb n 0 ≡ false → eqb (cond b n m) 0
 passed true n m d e = never (sym e ∙ d)
 passed false n m d e = (refl, e)
 
-pub and-false : (a b : Bool) → (a && b) ≡ false → a ≡ true → b ≡ false
+and-false : (a b : Bool) → (a && b) ≡ false → a ≡ true → b ≡ false
 and-false true b e d = e
 and-false false b e d = never (sym d)
 
@@ -81,7 +83,7 @@ roomy places c s st e =
 
 -- ---- instance calls
 
-pub writers-stay : (st : State) (xs : List Instance) (n : ℕ) (acc : WriterAccounts) → WriterSim st acc →
+writers-stay : (st : State) (xs : List Instance) (n : ℕ) (acc : WriterAccounts) → WriterSim st acc →
     WriterSim (withInstances xs n st) acc
 writers-stay st xs n acc m =
     record {
@@ -135,7 +137,7 @@ told-silent takeStatus s st = refl
 told-silent acknowledge s st = refl
 
 tracker-turned : (c : TrackerCall) (s : Sheet) (st : State) (acc : Accounts) → FitsGuid (s .guid) →
-    All FitGuid (st .writers) → Sim st acc →
+    All Plain (st .writers) → Sim st acc →
     eqb (trackerCall c s st .answer .number) 0 ≡ true →
     Sim (trackerCall c s st .state) (advanced (tracker c) s (trackerCall c s st .answer) acc)
 unfolding trackerCall trackerTurn
@@ -143,7 +145,7 @@ tracker-turned c s st acc g f m ok =
     split (eqb (trackerLate c s st) 0)
     (λ e.
     rw e record {
-      writers = writer-heard c s st (acc .writers) g (movers-fit c s (st .writers) g f) (m .writers);
+      writers = writer-heard c s st (acc .writers) g f (m .writers);
       instances =
           unfold trackerState in tracker-heard st (trackerState c s st) (acc .instances) c _ [] refl refl
           (told-silent c s st) (m .instances);
@@ -200,7 +202,7 @@ admit-turned places s st acc x f m =
 -- a tracker call, then codes 7 and 18 for each writer gone
 loss-turned : (c : TrackerCall) (d : JoinedCall) (s : Sheet) (st : State) (acc : Accounts) (gs : List Guid) →
     FitsGuid (s .guid) →
-    All FitGuid (st .writers) → Sim st acc → seenAs (joined d) ≡ some c →
+    All Plain (st .writers) → Sim st acc → seenAs (joined d) ≡ some c →
     gs ≡ goneBy (joined d) s (expiredIn (acc .writers .at) (writersAfter c s (acc .writers .at))) →
     ((e : Event) (gone : List Guid) (j : ℕ) (x : Instance) → onPresent (joined d) e gone j x ≡ losing gone (e .sheet) x) →
     eqb (lossCall c gs s st .answer .number) 0 ≡ true →
@@ -211,7 +213,7 @@ loss-turned c d s st acc gs g f m seen gone losing ok =
     (λ e.
     rw (e, seen, ← gone) record {
       writers = writers-stay (trackerState c s st) _ _ (heardBy c s (acc .writers) (writersAfter c s (acc .writers .at)))
-          (writer-heard c s st (acc .writers) g (movers-fit c s (st .writers) g f) (m .writers));
+          (writer-heard c s st (acc .writers) g f (m .writers));
       instances =
           unfold trackerState in loss-heard st _ (acc .instances) d s gs refl refl (λ j x. losing _ gs j x) (m .instances);
     })
@@ -219,14 +221,13 @@ loss-turned c d s st acc gs g f m seen gone losing ok =
 
 joined-turned : (places : ℕ) (c : JoinedCall) (s : Sheet) (st : State) (acc : Accounts) → FitsGuid (s .key) →
     FitsGuid (s .guid) →
-    All FitGuid (st .writers) → Sim st acc → eqb (turn places (joined c) s st .answer .number) 0 ≡ true →
+    All Plain (st .writers) → Sim st acc → eqb (turn places (joined c) s st .answer .number) 0 ≡ true →
     Sim (turn places (joined c) s st .state) (advanced (joined c) s (turn places (joined c) s st .answer) acc)
 joined-turned places admit s st acc k g f m ok =
     admit-turned places s st acc (find (hasKey (s .key)) (st .instances)) k m ok
 joined-turned places lapse s st acc k g f m ok =
     loss-turned expire lapse s st acc (movers expire s (st .writers)) g f m refl
-    (expired-are s (st .writers) (acc .writers .at) g (m .writers .rising) (m .writers .agree)
-    (movers-fit expire s (st .writers) g f))
+    (expired-are s (st .writers) (acc .writers .at) g f (m .writers .rising) (m .writers .agree))
     (λ e gone j x. refl) ok
 joined-turned places part s st acc k g f m ok =
     loss-turned unmatched part s st acc (s .guid ∷ []) g f m refl refl (λ e gone j x. refl) ok
@@ -236,7 +237,7 @@ joined-turned places depart s st acc k g f m ok =
 -- ---- any accepted call
 
 pub turned : (places : ℕ) (c : Call) (s : Sheet) (st : State) (acc : Accounts) → FitsGuid (s .key) → FitsGuid (s .guid) →
-    All FitGuid (st .writers) → Sim st acc → eqb (turn places c s st .answer .number) 0 ≡ true →
+    All Plain (st .writers) → Sim st acc → eqb (turn places c s st .answer .number) 0 ≡ true →
     Sim (turn places c s st .state) (advanced c s (turn places c s st .answer) acc)
 turned places (instances c) s st acc k g f m ok = instance-turned places c s st acc k m ok
 turned places (tracker c) s st acc k g f m ok = tracker-turned c s st acc g f m ok

@@ -2,12 +2,12 @@
 -- record through a function of its own, which keeps its key.
 --     turn-within        keys rise still
 --     turn-at            what is found at a key after it is the key's own turn of what was found there
---     turn-all           what holds of every record
---     turn-length        no more records than after the put
+--     lookup-*           what is found, at the parts of a turn
+--     all-*              what holds of every record
+--     length-*           how many records
 --     pick-between       the records that pass a test, by their keys
 --     within-present     a table is what is found in it, in rising order
 --     within-rises       the test that keys rise
---     length-put         how many there are after a put
 -- Assumes nothing.
 use mathlib.Core.Bool.{Bool, true, false, not, cond}
 use mathlib.Core.List.{List, [], _∷_, map}
@@ -23,7 +23,7 @@ use Rattle.octets.specs.Lay.{All}
 use Rattle.model.specs.InstanceRecord.{bit}
 use Rattle.model.specs.Tables.{isSome, find, pick, any, kept, sift, put, above, rising}
 use Rattle.accounts.specs.Ranges.{between, present}
-use Rattle.accounts.proofs.Basics.{split}
+use Rattle.accounts.proofs.Basics.{missing, split}
 
 module _ {A : Type 0} where
   abbrev pub bind : (A → Option A) → Option A → Option A
@@ -54,7 +54,7 @@ module _ {A : Type 0} (key : A → ℕ) where
   within-weaken lo low hi [] h w = tt
   within-weaken lo low hi (x ∷ xs) h w = (omega arith, w .1, w .2)
 
-  pub lookup-below : (j lo hi : ℕ) (xs : List A) → j < lo → Within lo hi xs → lookup j xs ≡ none
+  lookup-below : (j lo hi : ℕ) (xs : List A) → j < lo → Within lo hi xs → lookup j xs ≡ none
   unfolding find
   lookup-below j lo hi [] h w = refl
   lookup-below j lo hi (x ∷ xs) h w =
@@ -62,7 +62,7 @@ module _ {A : Type 0} (key : A → ℕ) where
 
   pub lookup-key : (j : ℕ) (xs : List A) (y : A) → lookup j xs ≡ some y → key y ≡ j
   unfolding find
-  lookup-key j [] y e = let z : _≡_ {A = ℕ} 0 1 = cc in absurd (omega arith)
+  lookup-key j [] y e = missing e
   lookup-key j (x ∷ xs) y e =
       split (eqb (key x) j)
       (λ d. let q : some x ≡ some y = rw d at e in let p : x ≡ y = cc in sym (ap key p) ∙ eqb-true (key x) j d)
@@ -70,7 +70,7 @@ module _ {A : Type 0} (key : A → ℕ) where
 
   pub lookup-all : (P : A → Type 0) (j : ℕ) (xs : List A) (y : A) → All P xs → lookup j xs ≡ some y → P y
   unfolding find
-  lookup-all P j [] y a e = let z : _≡_ {A = ℕ} 0 1 = cc in absurd (omega arith)
+  lookup-all P j [] y a e = missing e
   lookup-all P j (x ∷ xs) y a e =
       split (eqb (key x) j)
       (λ d. let q : some x ≡ some y = rw d at e in let p : x ≡ y = cc in subst P p (a .0))
@@ -81,7 +81,7 @@ module _ {A : Type 0} (key : A → ℕ) where
   any-lookup j [] = refl
   any-lookup j (x ∷ xs) = split (eqb (key x) j) (λ e. rw e) (λ e. rw e (any-lookup j xs))
 
-  pub lookup-put : (j : ℕ) (y : A) (xs : List A) → lookup j (put key y xs) ≡ cond (eqb (key y) j) (some y) (lookup j xs)
+  lookup-put : (j : ℕ) (y : A) (xs : List A) → lookup j (put key y xs) ≡ cond (eqb (key y) j) (some y) (lookup j xs)
   unfolding find put
   lookup-put j y [] = refl
   lookup-put j y (x ∷ xs) =

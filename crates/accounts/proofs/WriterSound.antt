@@ -1,14 +1,15 @@
 -- A tracker call leaves the writers' part of the state well formed.
 --     ok-writer, fits-writer     a sound writer passes section 2's test and fits
+--     all-plain                  a departed one has only GUID and state
 --     tracker-sound              an accepted tracker call
 -- Assumes nothing.
 use mathlib.Core.Bool.{Bool, true, false, not, _&&_, _||_, cond}
 use mathlib.Core.List.{List, [], _∷_}
 use mathlib.Core.Option.{Option, none, some}
-use mathlib.Core.Path.{_≡_, refl, ap, subst}
+use mathlib.Core.Path.{_≡_, refl, sym, ap, subst}
 use Prim.Native.Nat.{ℕ, _+_, _^_, _≤_, _<_}
 use native.Mathlib.Omega.{arith}
-use borrow.Author.Tests.{eqb-true, ltb-true, ltb-false, lt-ltb, le-leb}
+use borrow.Author.Tests.{eqb-true, ltb-true, ltb-false, lt-ltb, le-leb, not-true}
 use lib.Dec.{eqb}
 use lib.IntN.{ℤ, pos, _+ℤ_}
 use lib.ListN.{length, length-append}
@@ -16,6 +17,8 @@ use mir.Syntax.{w32}
 use mir.Val.{toZ}
 use Rattle.octets.specs.Lay.{All, all-append}
 use Rattle.model.specs.declared.Guid.{Guid}
+use Rattle.model.specs.declared.LivelinessKind.{LivelinessKind}
+use Rattle.model.specs.declared.LivelinessKind.the-variants.{Automatic, ManualByParticipant, ManualByTopic}
 use Rattle.model.specs.declared.MaybeLease.{MaybeLease}
 use Rattle.model.specs.declared.Sheet.{Sheet}
 use Rattle.model.specs.declared.Writer.{Writer}
@@ -29,13 +32,14 @@ use Rattle.model.specs.State.{State, writerKey, countsAlive, countsNotAlive, al
 use Rattle.model.specs.Tables.{all, isSome, find}
 use Rattle.model.specs.WellFormed.{clockOk, leaseOk, isDeparted, onlyState, writerOk, within}
 use Rattle.model.specs.Writers.{Assertion, assertion, tracked, withState, leaseOn, matchedFrom, matchedWriter, covers, renews, asserted, expires, expired, unmatchedFrom, departed, lostAs, hasGuid, writersBegun, writerStep, writerActs, writersAfter, matchAsserts, movers, lostAfter, acknowledgedAfter, trackerLate, trackerState, acknowledgeable}
+use Rattle.model.specs.WriterRecord.{livelinessNumber}
 use Rattle.model.proofs.Fits.{FitsGuid, FitsWriter}
 use Rattle.model.proofs.RowLaws.{both}
 use Rattle.accounts.specs.Ranges.{bound}
-use Rattle.accounts.proofs.Basics.{split, either, all-weaken, one-more}
+use Rattle.accounts.proofs.Basics.{split, either, all-weaken, one-more, never}
 use Rattle.accounts.proofs.Steps.{passed}
 use Rattle.accounts.proofs.TurnLaws.{Within, lookup-all, all-put, all-sift, length-put, length-sift, length-pick}
-use Rattle.accounts.proofs.WriterTurns.{FitGuid, matched-guid, movers-fit}
+use Rattle.accounts.proofs.WriterTurns.{Plain, matched-guid, movers-fit}
 
 pub record SoundWriter (w : Writer) : Type 0 where
   pub guid : FitsGuid (w .guid)
@@ -247,8 +251,39 @@ pub record SoundWriters (st : State) : Type 0 where
   pub fewLost : length (st .lost) ≤ 256
   pub lost : All FitsGuid (st .lost)
 
-pub guids-sound : (ws : List Writer) → All SoundWriter ws → All FitGuid ws
-guids-sound ws a = all-weaken SoundWriter FitGuid (λ w m. m .guid) ws a
+-- a departed record has only GUID and state
+bare-record : (g : Guid) (k : LivelinessKind) (st : WriterState) (p : Bool) (n last : ℕ) → k ≡ Automatic → st ≡ Departed →
+    p ≡ false →
+    n ≡ 0 → last ≡ 0 →
+    _≡_ {A = Writer} record { guid = g; liveliness = record { kind = k; state = st; lease = record { present = p; nanos = n }; «last_assertion» = last } } (departed g)
+bare-record g k st p n last a b c d e = rw (a, b, c, d, e)
+
+automatic-zero : (k : LivelinessKind) → eqb (livelinessNumber k) 0 ≡ true → k ≡ Automatic
+automatic-zero Automatic e = refl
+automatic-zero ManualByParticipant e = never (sym e)
+automatic-zero ManualByTopic e = never (sym e)
+
+absent-lease : (l : MaybeLease) → leaseOk l ≡ true → l .present ≡ false → l .nanos ≡ 0
+unfolding leaseOk
+absent-lease l e p = eqb-true (l .nanos) 0 (rw p at e)
+
+plain-sound : (w : Writer) → SoundWriter w → Plain w
+plain-sound w m =
+    record {
+      guid = m .guid;
+      bare = λ e.
+          let o : onlyState (w .liveliness) ≡ true = rw e at (m .only) in
+          let k = both (eqb (livelinessNumber (w .liveliness .kind)) 0) _ o in
+          let p = both (not (w .liveliness .lease .present)) _ (k .1) in
+          let absent : w .liveliness .lease .present ≡ false = not-true (w .liveliness .lease .present) (p .0) in
+          bare-record (w .guid) (w .liveliness .kind) (w .liveliness .state) (w .liveliness .lease .present)
+          (w .liveliness .lease .nanos)
+          (w .liveliness .«last_assertion») (automatic-zero (w .liveliness .kind) (k .0)) e absent
+          (absent-lease (w .liveliness .lease) (m .lease) absent) (eqb-true (w .liveliness .«last_assertion») 0 (p .1));
+    }
+
+pub all-plain : (ws : List Writer) → All SoundWriter ws → All Plain ws
+all-plain ws a = all-weaken SoundWriter Plain plain-sound ws a
 
 pub tracker-sound : (c : TrackerCall) (s : Sheet) (st : State) → ClockFits c s → acknowledgeable c s st ≡ true →
     eqb (trackerLate c s st) 0 ≡ true →
@@ -268,7 +303,7 @@ tracker-sound c s st f ok late w m =
       each = after-sound c s (st .writers) f (m .each);
       fewLost = lost-few c s st late (m .fewLost);
       lost =
-          lost-fit c _ (st .lost) (movers-fit c s (st .writers) (f .guid) (guids-sound (st .writers) (m .each))) (m .lost);
+          lost-fit c _ (st .lost) (movers-fit c s (st .writers) (f .guid) (all-plain (st .writers) (m .each))) (m .lost);
     }
   where
     parts : c ≡ acknowledge →

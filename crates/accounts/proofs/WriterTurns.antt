@@ -3,6 +3,7 @@
 --     movers-count      the movers of a call are the GUIDs that changed class, and as many
 --     expired-are       those of an expire are the GUIDs that it expired
 --     alive-are, not-alive-are      both counts
+--     movers-fit        their GUIDs fit
 --     writer-heard      a call that the writers see keeps table and accounts in step
 -- Assumes nothing.
 use mathlib.Core.Bool.{Bool, true, false, not, _&&_, _||_, cond}
@@ -11,7 +12,6 @@ use mathlib.Core.Option.{Option, none, some}
 use mathlib.Core.Path.{_≡_, refl, sym, ap, _∙_, subst}
 use Prim.Native.Nat.{ℕ, _+_, _%_, _^_}
 use native.Mathlib.Nat.{zero-add, mod-add-mod}
-use native.Mathlib.Omega.{arith}
 use borrow.Author.Tests.{eqb-true}
 use lib.Dec.{leb}
 use lib.IntN.{ℤ, pos, _+ℤ_, _-ℤ_, +ℤ-comm, -ℤ-+ℤ-cancel}
@@ -20,6 +20,7 @@ use mir.Syntax.{w32}
 use mir.Val.{toZ}
 use Rattle.octets.specs.Lay.{All}
 use Rattle.model.specs.declared.Guid.{Guid}
+use Rattle.model.specs.declared.LastWriter.{LastWriter}
 use Rattle.model.specs.declared.LivelinessKind.{LivelinessKind}
 use Rattle.model.specs.declared.LivelinessKind.the-variants.{Automatic, ManualByParticipant, ManualByTopic}
 use Rattle.model.specs.declared.Sheet.{Sheet}
@@ -39,9 +40,9 @@ use Rattle.model.proofs.Fits.{FitsGuid}
 use Rattle.accounts.specs.Ranges.{bound, guidNumbered, between, sumOver}
 use Rattle.accounts.specs.WriterAccounts as S
 use Rattle.accounts.specs.WriterAccounts.{trackedIn, became, matches, takingFrom, covered, automatic, byParticipant, timely, runOut, asserts, lapses, leaves, departs, departsFrom, isNamed, isNear, matchedAt, onWriter, Writers, writersAfter, classIn, class, isAlive, isNotAlive, differ, moved, movedAt, expiredAt, expiredIn, aliveAmong, notAliveAmong, WriterAccounts, lastIn, lostBy, acknowledgedBy, changeOf, heardBy}
-use Rattle.accounts.proofs.Basics.{split, and-assoc, eqb-sym}
+use Rattle.accounts.proofs.Basics.{missing, all-weaken, split, and-assoc, eqb-sym}
 use Rattle.accounts.proofs.RangeLaws.{sum-add, length-between, length-map, last-greatest, num-below, renumbered}
-use Rattle.accounts.proofs.TurnLaws.{bind, test, lookup, Within, Keeps, lookup-key, begin, begunAt, Below, lookup-begin, within-begin, turn-within, turn-at, between-ext, pick-between, all-put, all-pick}
+use Rattle.accounts.proofs.TurnLaws.{lookup-all, bind, test, lookup, Within, Keeps, lookup-key, begin, begunAt, Below, lookup-begin, within-begin, turn-within, turn-at, between-ext, pick-between, all-put, all-pick}
 
 -- ---- one writer
 
@@ -106,11 +107,19 @@ unmatched-is w = go (w .liveliness .state) refl
     go NotAlive e = unfold unmatchedFrom in rw e
     go Departed e = unfold unmatchedFrom in rw e
 
-lost-is : (st : WriterState) (w : Writer) → lostAs st w ≡ departsFrom st w
-lost-is Unasserted w = refl
-lost-is Alive w = refl
-lost-is NotAlive w = refl
-lost-is Departed w = refl
+-- a writer whose GUID fits, and that has only GUID and state where it is departed
+pub record Plain (w : Writer) : Type 0 where
+  pub guid : FitsGuid (w .guid)
+  pub bare : w .liveliness .state ≡ Departed → w ≡ M.departed (w .guid)
+
+lost-is : (w : Writer) → Plain w → lostAs (w .liveliness .state) w ≡ departs (some w)
+lost-is w p = go (w .liveliness .state) refl
+  where
+    go : (st : WriterState) → w .liveliness .state ≡ st → lostAs st w ≡ departsFrom st w
+    go Unasserted e = refl
+    go Alive e = refl
+    go NotAlive e = refl
+    go Departed e = ap {B = Option Writer} some (sym (p .bare e))
 
 matched-from : (s : Sheet) (st : WriterState) (last : ℕ) → M.matchedFrom s st last ≡ takingFrom s st last
 matched-from s Unasserted last = refl
@@ -201,14 +210,14 @@ step-keeps unmatched s ws w y e = unmatch-keeps
     unmatch-keeps =
         unfold unmatchedFrom in split (hasGuid (s .guid) w)
         (λ d. split (M.tracked w)
-        (λ t. let q : none ≡ some y = rw (d, t) at e in let z : _≡_ {A = ℕ} 0 1 = cc in absurd (omega arith))
+        (λ t. let q : none ≡ some y = rw (d, t) at e in missing q)
         (λ t. kept-guid w w y refl (rw (d, t) at e)))
         (λ d. kept-guid w w y refl (rw d at e))
 step-keeps lostWithParticipant s ws w y e =
     split (hasGuid (s .guid) w) (λ d. go (w .liveliness .state) (rw d at e)) (λ d. kept-guid w w y refl (rw d at e))
   where
     go : (st : WriterState) → lostAs st w ≡ some y → writerKey y ≡ writerKey w
-    go Unasserted q = let z : _≡_ {A = ℕ} 0 1 = cc in absurd (omega arith)
+    go Unasserted q = missing q
     go Alive q = kept-guid (M.departed (w .guid)) w y refl q
     go NotAlive q = kept-guid (M.departed (w .guid)) w y refl q
     go Departed q = kept-guid (M.departed (w .guid)) w y refl q
@@ -259,47 +268,48 @@ matched-found s j o f w e =
 
 named-at : (s : Sheet) (j : ℕ) (f g : Writer → Option Writer) (h : Option Writer → Option Writer) (o : Option Writer) →
     Found j o →
-    ((w : Writer) → f w ≡ cond (hasGuid (s .guid) w) (g w) (some w)) → h none ≡ none → ((w : Writer) → g w ≡ h (some w)) →
+    ((w : Writer) → f w ≡ cond (hasGuid (s .guid) w) (g w) (some w)) → h none ≡ none →
+    ((w : Writer) → o ≡ some w → g w ≡ h (some w)) →
     bind f o ≡ cond (isNamed s j) (h o) o
 named-at s j f g h none found e n d = split (isNamed s j) (λ t. rw t (sym n)) (λ t. rw t)
-named-at s j f g h (some w) found e n d = e w ∙ rw (found w refl, d w)
+named-at s j f g h (some w) found e n d = e w ∙ rw (found w refl, d w refl)
 
-pub writers-at : (c : TrackerCall) (s : Sheet) (ws : List Writer) (j : ℕ) →
+writers-at : (c : TrackerCall) (s : Sheet) (ws : List Writer) (j : ℕ) → All Plain ws →
     bind (writerStep c s ws) (begunAt writerKey (start c s ws) j (lookup writerKey j ws))
     ≡ onWriter c s (lookup writerKey (num (s .guid)) ws) j (lookup writerKey j ws)
-writers-at matched s ws j =
+writers-at matched s ws j plain =
     let found : Found j (matchedAt s j (lookup writerKey j ws)) = matched-found s j (lookup writerKey j ws)
     (lookup-key writerKey j ws) in
     rw (matched-at s j ws)
     (matched-acts (M.matchAsserts s ws) s j (matchedAt s j (lookup writerKey j ws)) found
     ∙ rw (automatic-is (livelinessNumbered (s .kind)), untracked-is (find (hasGuid (s .guid)) ws)))
-writers-at unmatched s ws j =
+writers-at unmatched s ws j plain =
     named-at s j (writerStep unmatched s ws) unmatchedFrom leaves (lookup writerKey j ws) (lookup-key writerKey j ws)
-    (λ w. refl) refl unmatched-is
-writers-at lostWithParticipant s ws j =
+    (λ w. refl) refl (λ w e. unmatched-is w)
+writers-at lostWithParticipant s ws j plain =
     named-at s j (writerStep lostWithParticipant s ws) (λ w. lostAs (w .liveliness .state) w) departs
     (lookup writerKey j ws)
-    (lookup-key writerKey j ws) (λ w. refl) refl (λ w. lost-is (w .liveliness .state) w)
-writers-at writerAsserted s ws j = go (lookup writerKey j ws) (lookup-key writerKey j ws)
+    (lookup-key writerKey j ws) (λ w. refl) refl (λ w e. lost-is w (lookup-all writerKey Plain j ws w plain e))
+writers-at writerAsserted s ws j plain = go (lookup writerKey j ws) (lookup-key writerKey j ws)
   where
     go : (o : Option Writer) → Found j o →
         bind (writerStep writerAsserted s ws) o ≡ asserts (isNamed s j) (isNear s j) true (s .a) o
     go none f = unfold asserts in refl
     go (some w) f = rw (← f w refl) (asserted-is true true s w)
-writers-at participantAsserted s ws j = go (lookup writerKey j ws) (lookup-key writerKey j ws)
+writers-at participantAsserted s ws j plain = go (lookup writerKey j ws) (lookup-key writerKey j ws)
   where
     go : (o : Option Writer) → Found j o →
         bind (writerStep participantAsserted s ws) o ≡ asserts false (isNear s j) (s .manual) (s .a) o
     go none f = unfold asserts in refl
     go (some w) f = rw (← f w refl) (asserted-is false (s .manual) s w)
-writers-at expire s ws j = go (lookup writerKey j ws)
+writers-at expire s ws j plain = go (lookup writerKey j ws)
   where
     go : (o : Option Writer) → bind (writerStep expire s ws) o ≡ lapses (s .a) o
     go none = unfold lapses in refl
     go (some w) = expired-is (s .a) w
-writers-at takeLost s ws j = bind-some (lookup writerKey j ws)
-writers-at takeStatus s ws j = bind-some (lookup writerKey j ws)
-writers-at acknowledge s ws j = bind-some (lookup writerKey j ws)
+writers-at takeLost s ws j plain = bind-some (lookup writerKey j ws)
+writers-at takeStatus s ws j plain = bind-some (lookup writerKey j ws)
+writers-at acknowledge s ws j plain = bind-some (lookup writerKey j ws)
 
 -- ---- classes
 
@@ -367,7 +377,7 @@ pub record WriterSim (st : State) (acc : WriterAccounts) : Type 0 where
   pub changes : st .changes ≡ sumOver 0 bound (acc .moves) % 2 ^ 64
 
 -- a writer's GUID fits
-abbrev pub FitGuid : Writer → Type 0
+abbrev FitGuid : Writer → Type 0
 FitGuid w = FitsGuid (w .guid)
 
 guids-fit : (ws : List Writer) → All FitGuid ws → All FitsGuid (map guidIn ws)
@@ -388,28 +398,29 @@ begun-fit takeLost s ws g f = f
 begun-fit takeStatus s ws g f = f
 begun-fit acknowledge s ws g f = f
 
-pub movers-fit : (c : TrackerCall) (s : Sheet) (ws : List Writer) → FitsGuid (s .guid) → All FitGuid ws →
+pub movers-fit : (c : TrackerCall) (s : Sheet) (ws : List Writer) → FitsGuid (s .guid) → All Plain ws →
     All FitsGuid (movers c s ws)
 unfolding movers
 movers-fit c s ws g f =
     guids-fit (pick (moves (writerStep c s ws)) (writersBegun c s ws))
-    (all-pick FitGuid (moves (writerStep c s ws)) (writersBegun c s ws) (begun-fit c s ws g f))
+    (all-pick FitGuid (moves (writerStep c s ws)) (writersBegun c s ws)
+    (begun-fit c s ws g (all-weaken Plain FitGuid (λ w p. p .guid) ws f)))
 
 module _ (c : TrackerCall) (s : Sheet) (ws : List Writer) (acc : Writers) (fits : FitsGuid (s .guid))
-    (rises : Within writerKey 0 bound ws) (agree : (j : ℕ) → lookup writerKey j ws ≡ acc j) where
-  pub after-rises : Within writerKey 0 bound (M.writersAfter c s ws)
+    (plain : All Plain ws) (rises : Within writerKey 0 bound ws) (agree : (j : ℕ) → lookup writerKey j ws ≡ acc j) where
+  after-rises : Within writerKey 0 bound (M.writersAfter c s ws)
   unfolding M.writersAfter
   after-rises =
       rw (begun-is c s ws)
       (turn-within writerKey bound (start c s ws) (writerStep c s ws) ws (start-below c s ws fits)
       (step-keeps c s ws) rises)
 
-  pub after-agrees : (j : ℕ) → lookup writerKey j (M.writersAfter c s ws) ≡ writersAfter c s acc j
+  after-agrees : (j : ℕ) → lookup writerKey j (M.writersAfter c s ws) ≡ writersAfter c s acc j
   unfolding M.writersAfter writersAfter
   after-agrees j =
       rw (begun-is c s ws)
       (turn-at writerKey bound (start c s ws) (writerStep c s ws) ws (start-below c s ws fits) (step-keeps c s ws) rises j)
-      ∙ writers-at c s ws j
+      ∙ writers-at c s ws j plain
       ∙ rw (agree (num (s .guid)), agree j)
 
   begun-moves : (j : ℕ) →
@@ -419,7 +430,7 @@ module _ (c : TrackerCall) (s : Sheet) (ws : List Writer) (acc : Writers) (fits 
       ap (λ (l : List Writer). test (moves (writerStep c s ws)) (lookup writerKey j l)) (begun-is c s ws)
       ∙ ap (test (moves (writerStep c s ws))) (lookup-begin writerKey (start c s ws) ws j)
       ∙ moves-are (writerStep c s ws) (begunAt writerKey (start c s ws) j (lookup writerKey j ws))
-      ∙ rw (quiet c s ws j, writers-at c s ws j, agree (num (s .guid)), agree j)
+      ∙ rw (quiet c s ws j, writers-at c s ws j plain, agree (num (s .guid)), agree j)
 
   begun-rises : Within writerKey 0 (0 + bound) (writersBegun c s ws)
   begun-rises =
@@ -433,20 +444,18 @@ module _ (c : TrackerCall) (s : Sheet) (ws : List Writer) (acc : Writers) (fits 
       ∙ between-ext writerKey 0 bound (λ j. test (moves (writerStep c s ws)) (lookup writerKey j (writersBegun c s ws)))
       (movedAt acc (writersAfter c s acc)) (λ j l. begun-moves j)
 
-  movers-are : All FitsGuid (movers c s ws) →
-      movers c s ws ≡ map guidNumbered (between 0 bound (movedAt acc (writersAfter c s acc)))
-  movers-are f = sym (renumbered (movers c s ws) f) ∙ ap (map guidNumbered) movers-numbered
+  movers-are : movers c s ws ≡ map guidNumbered (between 0 bound (movedAt acc (writersAfter c s acc)))
+  movers-are = sym (renumbered (movers c s ws) (movers-fit c s ws fits plain)) ∙ ap (map guidNumbered) movers-numbered
 
-  pub movers-count : length (movers c s ws) ≡ sumOver 0 bound (λ j. bit (movedAt acc (writersAfter c s acc) j))
+  movers-count : length (movers c s ws) ≡ sumOver 0 bound (λ j. bit (movedAt acc (writersAfter c s acc) j))
   movers-count =
       sym (length-map num (movers c s ws)) ∙ ap length movers-numbered ∙ length-between 0 bound
       (movedAt acc (writersAfter c s acc))
 
-  pub last-are : All FitsGuid (movers c s ws) → (last : _) →
-      lastAfter (movers c s ws) last ≡ lastIn acc (writersAfter c s acc) last
+  last-are : (last : LastWriter) → lastAfter (movers c s ws) last ≡ lastIn acc (writersAfter c s acc) last
   unfolding lastIn
-  last-are f last =
-      ap (λ (l : List Guid). lastAfter l last) (movers-are f) ∙ last-greatest bound
+  last-are last =
+      ap (λ (l : List Guid). lastAfter l last) movers-are ∙ last-greatest bound
       (movedAt acc (writersAfter c s acc)) last
 
 -- in code 37 those that change class are those that were alive and are not alive
@@ -474,12 +483,12 @@ lapsed-is clock (some w) =
     unmoved notAlive = refl
     unmoved neither = refl
 
-pub expired-are : (s : Sheet) (ws : List Writer) (acc : Writers) → FitsGuid (s .guid) → Within writerKey 0 bound ws →
-    ((j : ℕ) → lookup writerKey j ws ≡ acc j) → All FitsGuid (movers expire s ws) →
+pub expired-are : (s : Sheet) (ws : List Writer) (acc : Writers) → FitsGuid (s .guid) → All Plain ws →
+    Within writerKey 0 bound ws → ((j : ℕ) → lookup writerKey j ws ≡ acc j) →
     movers expire s ws ≡ expiredIn acc (writersAfter expire s acc)
 unfolding expiredIn writersAfter
-expired-are s ws acc f rises agree g =
-    movers-are expire s ws acc f rises agree g
+expired-are s ws acc f plain rises agree =
+    movers-are expire s ws acc f plain rises agree
     ∙ ap (map guidNumbered)
     (between-ext writerKey 0 bound (movedAt acc (writersAfter expire s acc)) (expiredAt acc (writersAfter expire s acc))
     (λ j l. lapsed-is (s .a) (acc j)))
@@ -551,13 +560,13 @@ lost-are takeStatus gone gone′ lost lost′ e d = d
 lost-are acknowledge gone gone′ lost lost′ e d = d
 
 pub writer-heard : (c : TrackerCall) (s : Sheet) (st : State) (acc : WriterAccounts) → FitsGuid (s .guid) →
-    All FitsGuid (movers c s (st .writers)) → WriterSim st acc →
+    All Plain (st .writers) → WriterSim st acc →
     WriterSim (trackerState c s st) (heardBy c s acc (writersAfter c s (acc .at)))
 unfolding trackerState
-writer-heard c s st acc f g m =
+writer-heard c s st acc f plain m =
     record {
-      rising = after-rises c s (st .writers) (acc .at) f (m .rising) (m .agree);
-      agree = after-agrees c s (st .writers) (acc .at) f (m .rising) (m .agree);
+      rising = after-rises c s (st .writers) (acc .at) f plain (m .rising) (m .agree);
+      agree = after-agrees c s (st .writers) (acc .at) f plain (m .rising) (m .agree);
       lost = lost-are c _ _ _ _ lapsed (m .lost);
       acknowledgedAlive =
           acknowledged-are c _ _ (s .first) _ _ (alive-are (st .writers) (acc .at) (m .rising) (m .agree))
@@ -566,10 +575,10 @@ writer-heard c s st acc f g m =
           acknowledged-are c _ _ (s .second) _ _ (not-alive-are (st .writers) (acc .at) (m .rising) (m .agree))
           (m .acknowledgedNotAlive);
       last =
-          last-are c s (st .writers) (acc .at) f (m .rising) (m .agree) g (st .lastWriter)
+          last-are c s (st .writers) (acc .at) f plain (m .rising) (m .agree) (st .lastWriter)
           ∙ ap (lastIn (acc .at) (writersAfter c s (acc .at))) (m .last);
       changes =
-          rw (m .changes, movers-count c s (st .writers) (acc .at) f (m .rising) (m .agree))
+          rw (m .changes, movers-count c s (st .writers) (acc .at) f plain (m .rising) (m .agree))
           (mod-add-mod (sumOver 0 bound (acc .moves)) (2 ^ 64) _
           ∙ ap (λ (n : ℕ). n % 2 ^ 64)
           (sym (sum-add 0 bound (acc .moves) (λ g. bit (movedAt (acc .at) (writersAfter c s (acc .at)) g)))));
@@ -578,5 +587,4 @@ writer-heard c s st acc f g m =
     lapsed : c ≡ expire → movers c s (st .writers) ≡ expiredIn (acc .at) (writersAfter c s (acc .at))
     lapsed e =
         subst (λ (d : TrackerCall). movers d s (st .writers) ≡ expiredIn (acc .at) (writersAfter d s (acc .at))) (sym e)
-        (expired-are s (st .writers) (acc .at) f (m .rising) (m .agree)
-        (subst (λ (d : TrackerCall). All FitsGuid (movers d s (st .writers))) e g))
+        (expired-are s (st .writers) (acc .at) f plain (m .rising) (m .agree))

@@ -7,6 +7,7 @@ use mathlib.Core.Option.{Option, none, some}
 use lib.Dec.{eqb}
 use lib.ListN.{length}
 use Rattle.octets.specs.Bounds.{Bytes}
+use Rattle.octets.specs.Lay.{All}
 use Rattle.model.specs.declared.Answer.{Answer}
 use Rattle.model.specs.declared.Guid.{Guid}
 use Rattle.model.specs.declared.Instance.{Instance}
@@ -20,7 +21,7 @@ use Rattle.model.specs.declared.JoinedCall.the-variants.{Admit as admit, Lapse 
 use Rattle.model.specs.Calls.{Call, instances, tracker, joined, callOfCode}
 use Rattle.model.specs.Handles.{handle}
 use Rattle.model.specs.Sheets.{sheetOf}
-use Rattle.model.specs.State.{Lent, pensOf, writersOf, lostOf}
+use Rattle.model.specs.State.{Lent, pensOf, writersOf, lostOf, fresh}
 use Rattle.accounts.specs.InstanceAccounts.{Event, InstanceAccounts, noInstances, reach}
 use Rattle.accounts.specs.Ranges.{bound, sumOver, present, upFrom}
 use Rattle.accounts.specs.WriterAccounts.{WriterAccounts, noWriters, hear, expiredIn, aliveAmong, notAliveAmong, changeOf}
@@ -81,7 +82,11 @@ absent = record { writers = noWriters; instances = noInstances }
 -- the instances hear a call after the writers, for code 49
 abbrev pub advanceBy : Option Call → Event → Accounts → WriterAccounts → Accounts
 advanceBy c e acc after =
-    record { writers = after; instances = reach c e (gone c (e .sheet) (expiredIn (acc .writers .at) (after .at))) (acc .instances) }
+    record {
+      writers = after;
+      instances = reach c e (gone c (e .sheet) (expiredIn (acc .writers .at) (after .at)))
+          (acc .instances);
+    }
 
 -- one event
 unfoldable pub advance : Event → Accounts → Accounts
@@ -164,3 +169,9 @@ pub record Told (places : ℕ) (l : Lent) (acc : Accounts) : Type 0 where
   -- started handles are 1, 2, 3 and on; next handle is the one to come
   pub startedHandles : acc .instances .handles ≡ upFrom 1 (length (acc .instances .handles))
   pub nextHandle : l .head .«next_handle» ≡ handle (1 + length (acc .instances .handles))
+
+-- demand 3: whatever the list, from the fresh head and buffers
+abbrev pub Demand3 : ℕ → (List ℕ → Lent → Left) → Type 0
+Demand3 places call =
+    (is : List Lending) (out : List ℕ) → All SheetBytes is →
+    Told places (final call is (fresh places out)) (accountsOf (history call is (fresh places out)))

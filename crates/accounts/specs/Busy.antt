@@ -2,8 +2,8 @@
 -- 0 for none.
 use Prim.Native.Nat.{ℕ, _+_, _^_}
 use mathlib.Core.Path.{_≡_}
-use mathlib.Core.Bool.{Bool, true, not, _&&_, cond}
-use lib.Dec.{leb, ltb}
+use mathlib.Core.Bool.{Bool, true, false, not, _&&_, _||_, cond}
+use lib.Dec.{eqb, leb, ltb}
 use lib.IntN.{_+ℤ_}
 use lib.ListN.{length}
 use mir.Syntax.{w32}
@@ -34,6 +34,33 @@ pub record Ordered (c : Call) (s : Sheet) : Type 0 where
   pub clocks : all clockOk (clocksUsed c s) ≡ true
   pub holder : holderFits c s ≡ true
   pub kind : kindOk c s ≡ true
+
+-- ---- the numbers that are left: 8 in code 40 alone, and 9 to 13
+
+-- code 40
+abbrev pub acknowledgesIn : TrackerCall → Bool
+acknowledgesIn matched = false
+acknowledgesIn unmatched = false
+acknowledgesIn lostWithParticipant = false
+acknowledgesIn writerAsserted = false
+acknowledgesIn participantAsserted = false
+acknowledgesIn expire = false
+acknowledgesIn takeLost = false
+acknowledgesIn takeStatus = false
+acknowledgesIn acknowledge = true
+
+abbrev pub acknowledges : Call → Bool
+acknowledges (instances c) = false
+acknowledges (tracker c) = acknowledgesIn c
+acknowledges (joined c) = false
+
+-- accepted, or refused by 9 to 13
+abbrev pub lateNumber : ℕ → Bool
+lateNumber n = eqb n 0 || (leb 9 n && leb n 13)
+
+-- or by 8, in code 40
+abbrev pub allowed : Call → ℕ → Bool
+allowed c n = lateNumber n || (acknowledges c && eqb n 8)
 
 -- ---- 9, 13 and 10
 
@@ -70,7 +97,8 @@ busyMatch s acc = cond (not (isSome (acc .writers .at (num (s .guid)))) && leb 1
 -- 12: expiries beyond 256 in Lost
 abbrev pub busyExpire : Sheet → Accounts → ℕ
 busyExpire s acc =
-    cond (ltb 256 (length (acc .writers .lost) + length (expiredIn (acc .writers .at) (writersAfter expire s (acc .writers .at))))) 12 0
+    cond (ltb 256
+    (length (acc .writers .lost) + length (expiredIn (acc .writers .at) (writersAfter expire s (acc .writers .at))))) 12 0
 
 -- 8: acknowledge taking count minus change beyond ±2^30
 abbrev pub busyAcknowledge : Sheet → Accounts → ℕ

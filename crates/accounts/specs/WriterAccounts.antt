@@ -60,7 +60,8 @@ abbrev pub became : WriterState → ℕ → Writer → Writer
 became state last w =
     record {
       guid = w .guid;
-      liveliness = record { kind = w .liveliness .kind; state = state; lease = w .liveliness .lease; «last_assertion» = last };
+      liveliness =
+          record { kind = w .liveliness .kind; state = state; lease = w .liveliness .lease; «last_assertion» = last };
     }
 
 -- departed: only its GUID and that it is
@@ -68,7 +69,8 @@ abbrev pub departedAs : Guid → Writer
 departedAs g =
     record {
       guid = g;
-      liveliness = record { kind = Automatic; state = Departed; lease = record { present = false; nanos = 0 }; «last_assertion» = 0 };
+      liveliness =
+          record { kind = Automatic; state = Departed; lease = record { present = false; nanos = 0 }; «last_assertion» = 0 };
     }
 
 -- ---- matched: it takes kind and lease; absent becomes unasserted at the clock; departed becomes not alive at 0
@@ -82,7 +84,8 @@ abbrev pub taking : Sheet → WriterState → ℕ → Writer
 taking s state last =
     record {
       guid = s .guid;
-      liveliness = record { kind = livelinessNumbered (s .kind); state = state; lease = leaseGiven s; «last_assertion» = last };
+      liveliness =
+          record { kind = livelinessNumbered (s .kind); state = state; lease = leaseGiven s; «last_assertion» = last };
     }
 
 -- from each state: only departed changes, to not alive at 0
@@ -157,12 +160,12 @@ leaves (some w) = leavesFrom (w .liveliness .state) w
 
 -- ---- lost: unasserted becomes absent; alive and not alive become departed
 
--- from each state; a departed one stays, which is its GUID and that it is
+-- from each state; a departed one stays
 abbrev pub departsFrom : WriterState → Writer → Option Writer
 departsFrom Unasserted w = none
 departsFrom Alive w = some (departedAs (w .guid))
 departsFrom NotAlive w = some (departedAs (w .guid))
-departsFrom Departed w = some (departedAs (w .guid))
+departsFrom Departed w = some w
 
 -- the account of the GUID lost with its participant
 abbrev pub departs : Option Writer → Option Writer
@@ -351,7 +354,8 @@ heardBy c s acc after =
       last = lastIn (acc .at) after (acc .last);
       lost = lostBy c (expiredIn (acc .at) after) (acc .lost);
       acknowledgedAlive =
-          acknowledgedBy c (toZ w32 (s .first)) (changeOf (aliveAmong (acc .at)) (acc .acknowledgedAlive)) (acc .acknowledgedAlive);
+          acknowledgedBy c (toZ w32 (s .first)) (changeOf (aliveAmong (acc .at)) (acc .acknowledgedAlive))
+          (acc .acknowledgedAlive);
       acknowledgedNotAlive =
           acknowledgedBy c (toZ w32 (s .second)) (changeOf (notAliveAmong (acc .at)) (acc .acknowledgedNotAlive))
           (acc .acknowledgedNotAlive);
