@@ -13,8 +13,9 @@ use lib.ListN.{length-take}
 use Rattle.model.specs.declared.Guid.{Guid}
 use Rattle.model.specs.declared.InstanceState.{InstanceState}
 use Rattle.model.specs.declared.MaybeOwner.{MaybeOwner}
+use Rattle.model.specs.declared.Sheet.{Sheet}
 use Rattle.model.specs.Guids.{less, same}
-use Rattle.model.specs.Instances.{isAlive, writersIn, without, outbids}
+use Rattle.model.specs.Instances.{isAlive, writersIn, without, outbids, purged}
 use Rattle.model.specs.Sets.{remove, isEmpty}
 use Rattle.model.specs.Times.{raised}
 use Rattle.writer_set.proofs.SetLaws.{members-of, sound-of, remove-le}
@@ -44,6 +45,9 @@ module _ (g : Guid) (strength : ℕ) (o : MaybeOwner) (old new : ℕ) (present :
   unfolding outbids
   bid-less h n = rw (present, other, ← e, ← f, le-ltb old new h, ne-eqb old new n)
 
-pub left-unless : (gone : Bool) (x : InstanceState) → leftOf (record { keep = not gone; state = x }) ≡ cond gone none (some x)
-left-unless true x = refl
-left-unless false x = refl
+pub left-unless : (gone : Bool) (s : Sheet) (x : InstanceState) → gone ≡ purged s x → leftOf (record { keep = not gone; state = x }) ≡ cond (purged s x) none (some x)
+left-unless gone s x e = rw (← e) (by gone)
+  where
+    by : (b : Bool) → leftOf (record { keep = not b; state = x }) ≡ cond b none (some x)
+    by true = refl
+    by false = refl

@@ -14,10 +14,12 @@ use Rattle.model.specs.Sets.{setPlaces, insert}
 use Rattle.writer_set.specs.Places.{Sound}
 use Rattle.instance_state.specs.declared.Effect.{Effect}
 
+-- generations within their bound
 pub record UsableLife (l : Life) : Type 0 where
   pub disposed : l .«disposed_generations» ≤ topGeneration
   pub noWriters : l .«no_writers_generations» ≤ topGeneration
 
+-- and a sound writer set
 pub record Usable (x : InstanceState) : Type 0 where
   pub life : UsableLife (x .life)
   pub writers : Sound (x .writers)
@@ -26,5 +28,6 @@ pub record Usable (x : InstanceState) : Type 0 where
 abbrev pub Room : Guid → InstanceState → Type 0
 Room g x = length (insert g (writersIn x)) ≤ setPlaces
 
+-- the state, where the instance is kept
 abbrev pub leftOf : Effect → Option InstanceState
 leftOf e = cond (e .keep) (some (e .state)) none

@@ -36,6 +36,7 @@ pub struct Effect {
 
 // ---- an instance with one group of its fields changed
 
+// x with another life.
 fn with_life(l: Life, x: InstanceState) -> InstanceState
     ensures { λ r. ⌜ r ≡ withLife l x ⌝ }
 {
@@ -44,6 +45,7 @@ fn with_life(l: Life, x: InstanceState) -> InstanceState
     r
 }
 
+// x with other times.
 fn with_times(t: Times, x: InstanceState) -> InstanceState
     ensures { λ r. ⌜ r ≡ withTimes t x ⌝ }
 {
@@ -52,6 +54,7 @@ fn with_times(t: Times, x: InstanceState) -> InstanceState
     r
 }
 
+// x with another owner.
 fn with_owner(o: MaybeOwner, x: InstanceState) -> InstanceState
     ensures { λ r. ⌜ r ≡ withOwner o x ⌝ }
 {
@@ -60,6 +63,7 @@ fn with_owner(o: MaybeOwner, x: InstanceState) -> InstanceState
     r
 }
 
+// x with another holder.
 fn with_holder(h: Holder, x: InstanceState) -> InstanceState
     ensures { λ r. ⌜ r ≡ withHolder h x ⌝ }
 {
@@ -68,6 +72,7 @@ fn with_holder(h: Holder, x: InstanceState) -> InstanceState
     r
 }
 
+// x with other writers.
 fn with_writers(w: WriterSet, x: InstanceState) -> InstanceState
     ensures { λ r. ⌜ r ≡ withWriters w x ⌝ }
 {
@@ -76,6 +81,7 @@ fn with_writers(w: WriterSet, x: InstanceState) -> InstanceState
     r
 }
 
+// l with another kind.
 fn with_kind(k: InstanceStateKind, l: Life) -> Life
     ensures { λ r. ⌜ r ≡ withKind k l ⌝ }
 {
@@ -89,6 +95,7 @@ fn with_kind(k: InstanceStateKind, l: Life) -> Life
     }
 }
 
+// l with view-new set or cleared.
 fn with_view(v: bool, l: Life) -> Life
     ensures { λ r. ⌜ r ≡ withView v l ⌝ }
 {
@@ -97,6 +104,7 @@ fn with_view(v: bool, l: Life) -> Life
     r
 }
 
+// l with other generations.
 fn with_generations(disposed: u32, no_writers: u32, l: Life) -> Life
     ensures { λ r. ⌜ r ≡ withGenerations disposed «no_writers» l ⌝ }
 {
@@ -106,6 +114,7 @@ fn with_generations(disposed: u32, no_writers: u32, l: Life) -> Life
     r
 }
 
+// l with another count of writers.
 fn with_writer_count(n: u32, l: Life) -> Life
     ensures { λ r. ⌜ r ≡ withWriterCount n l ⌝ }
 {
@@ -114,6 +123,7 @@ fn with_writer_count(n: u32, l: Life) -> Life
     r
 }
 
+// l with another count of samples.
 fn with_samples(n: u32, l: Life) -> Life
     ensures { λ r. ⌜ r ≡ withSamples n l ⌝ }
 {
@@ -122,6 +132,7 @@ fn with_samples(n: u32, l: Life) -> Life
     r
 }
 
+// t with another time of the last sample.
 fn with_last_sample(at: MaybeTime, t: Times) -> Times
     ensures { λ r. ⌜ r ≡ withLastSample at t ⌝ }
 {
@@ -130,6 +141,7 @@ fn with_last_sample(at: MaybeTime, t: Times) -> Times
     r
 }
 
+// t with other times of the last delivery, for the order and for the filter.
 fn with_delivery(delivered: MaybeTime, filtered: MaybeTime, t: Times) -> Times
     ensures { λ r. ⌜ r ≡ withDelivery delivered filtered t ⌝ }
 {
@@ -139,6 +151,7 @@ fn with_delivery(delivered: MaybeTime, filtered: MaybeTime, t: Times) -> Times
     r
 }
 
+// t with another time of disposal.
 fn with_disposed_at(at: MaybeTime, t: Times) -> Times
     ensures { λ r. ⌜ r ≡ withDisposedAt at t ⌝ }
 {
@@ -147,6 +160,7 @@ fn with_disposed_at(at: MaybeTime, t: Times) -> Times
     r
 }
 
+// t with another time at which the last writer was gone.
 fn with_no_writers_at(at: MaybeTime, t: Times) -> Times
     ensures { λ r. ⌜ r ≡ withNoWritersAt at t ⌝ }
 {
@@ -155,6 +169,7 @@ fn with_no_writers_at(at: MaybeTime, t: Times) -> Times
     r
 }
 
+// t with another time of the owner's last sample.
 fn with_owner_at(at: MaybeTime, t: Times) -> Times
     ensures { λ r. ⌜ r ≡ withOwnerAt at t ⌝ }
 {
@@ -213,6 +228,7 @@ fn stored(h: Holder) -> Holder
 
 // ---- kinds
 
+// Whether the kind is alive.
 fn is_alive(k: InstanceStateKind) -> bool
     ensures { λ r. ⌜ r ≡ isAlive k ⌝ }
 {
@@ -223,6 +239,7 @@ fn is_alive(k: InstanceStateKind) -> bool
     }
 }
 
+// Whether the kind is disposed.
 fn is_disposed(k: InstanceStateKind) -> bool
     ensures { λ r. ⌜ r ≡ isDisposed k ⌝ }
 {
@@ -407,11 +424,11 @@ pub fn writer_unregistered(g: Guid, at: MaybeTime, x: InstanceState) -> Instance
     requires { ⌜ Sound (x .writers) ⌝ }
     ensures { λ r. ⌜ r ≡ writerUnregistered g at x ⌝ }
 {
-    let y = without(g, x);
-    if is_writerless(y) {
-        return sampled_at(at, writerless(at, y));
+    let rest = without(g, x);
+    if is_writerless(rest) {
+        return sampled_at(at, writerless(at, rest));
     }
-    sampled_at(at, y)
+    sampled_at(at, rest)
 }
 
 // ---- codes 6 and 7

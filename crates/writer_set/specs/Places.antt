@@ -16,6 +16,7 @@ use Rattle.model.specs.Sets.{setPlaces, members}
 abbrev pub padded : List Guid → List Guid
 padded s = s ++ replicate (setPlaces - length s) nil
 
+-- at most 16 members, nil behind them
 pub record Sound (w : WriterSet) : Type 0 where
   pub few : w .len ≤ setPlaces
   pub nils : w .items ≡ padded (members w)

@@ -1,7 +1,6 @@
 -- The table of the calls, call by call. Assumes nothing.
 use mathlib.Core.Path.{ap, _∙_}
 use mathlib.Core.Option.{some}
-use Rattle.model.specs.Instances.{purged}
 use Rattle.instance_state.proofs.StepLaws.{left-unless}
 use borrow.Author.Needs.{needs}
 use Rattle.instance_state.proofs.take_effect.Statement.{statement}
@@ -272,7 +271,9 @@ returns-20 : tie.Need-returns-20
 returns-20 c = rw (c .before .before .enum-told20 .given .1) (c .kept20 .ensures ∙ ap some (c .before .owner-cleared2 .ensures))
 
 returns-21 : tie.Need-returns-21
-returns-21 c = rw (c .before .enum-told21 .given .1, c .purged .ensures) (left-unless (purged _ _) _)
+returns-21 c =
+    let a = c .before .before .before .before .before .args in
+    rw (c .before .enum-told21 .given .1) (left-unless (c .purged .result) (a .s) (a .x) (c .purged .ensures))
 
 pub take-effect-spec : {M : Type 1} → statement M
 take-effect-spec =

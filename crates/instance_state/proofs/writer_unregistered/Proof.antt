@@ -1,6 +1,7 @@
 -- Code 5. Assumes nothing.
-use mathlib.Core.Path.{sym, _∙_}
-use Rattle.model.specs.Instances.{writerUnregistered}
+use mathlib.Core.Path.{sym, ap, _∙_}
+use Rattle.model.specs.declared.InstanceState.{InstanceState}
+use Rattle.model.specs.Instances.{sampledAt, writerUnregistered}
 use Rattle.instance_state.proofs.StepLaws.{without-sound, without-left}
 use borrow.Author.Needs.{needs}
 use Rattle.instance_state.proofs.writer_unregistered.Statement.{statement}
@@ -33,7 +34,7 @@ unfolding writerUnregistered
 returns-2 c =
     let s = c .before .before .before .before in
     let t = sym (without-left (s .args .g) (s .args .x) (c .before .before .before .without .result) (c .before .before .before .without .ensures)) ∙ sym (c .before .before .is-writerless .ensures) ∙ c .before .if1 .left in
-    rw (t, c .sampled-at2 .ensures, c .before .before .before .without .ensures)
+    rw t (c .sampled-at2 .ensures ∙ ap (λ (z : InstanceState). sampledAt (s .args .at) z) (c .before .before .before .without .ensures))
 
 pub writer-unregistered-spec : {M : Type 1} → statement M
 writer-unregistered-spec =
