@@ -1,0 +1,2 @@
+-- The laws of one instance.
+pub mod StepLaws

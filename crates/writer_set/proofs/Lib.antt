@@ -1,0 +1,3 @@
+-- The laws of writer sets.
+pub mod SetLaws
+pub mod PlaceLaws

@@ -1,0 +1,2 @@
+-- What the contracts of the writer set cite beside model's Sets.
+pub mod Places
