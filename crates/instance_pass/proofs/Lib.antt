@@ -1,0 +1,3 @@
+-- Laws that the proofs of instance_pass and of the crates above cite.
+pub mod StepLaws
+pub mod LossLaws

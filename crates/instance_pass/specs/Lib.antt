@@ -1,0 +1,2 @@
+-- What the contracts of instance_pass cite beside model's definitions.
+pub mod Steps
