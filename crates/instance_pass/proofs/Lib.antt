@@ -1,3 +1,5 @@
 -- Laws that the proofs of instance_pass and of the crates above cite.
 pub mod StepLaws
 pub mod LossLaws
+pub mod ListLaws
+pub mod PassLaws

@@ -3,9 +3,9 @@
 --     none-added                        none of them puts a writer in
 --     call-step                         a call's step from its parts
 --     dropped-sound, left-sound         what is left has a sound writer set
---     bit-le, counted-le                how much an instance counts at most
+--     bit-le, gones-few, counted-le     how much an instance counts at most
 -- Assumes nothing.
-use Prim.Native.Nat.{ℕ, _≤_}
+use Prim.Native.Nat.{ℕ, _/_, _≤_}
 use mathlib.Core.Bool.{Bool, true, false, _&&_, cond}
 use mathlib.Core.List.{List, [], _∷_}
 use mathlib.Core.Option.{Option, none, some}
@@ -18,11 +18,13 @@ use Rattle.model.specs.declared.InstanceCall.the-variants.{Register, EnsureRegi
 use Rattle.model.specs.declared.InstanceState.{InstanceState}
 use Rattle.model.specs.declared.MaybeTime.{MaybeTime}
 use Rattle.model.specs.declared.Sheet.{Sheet}
+use Rattle.model.specs.Guids.{guidOf}
 use Rattle.model.specs.InstanceRecord.{bit}
 use Rattle.model.specs.Instances.{rule, effect, leftBy, writersIn, without, writerDropped, owns, ownsPrefix, strengthUpdated, ownerCleared, prefixCleared, purged}
 use Rattle.model.specs.Joined.{leftWithout, leftWithoutAll, clearings}
 use Rattle.model.specs.Sets.{has}
 use Rattle.model.specs.Times.{ifPresent}
+use Rattle.model.proofs.RowLaws.{length-read}
 use Rattle.writer_set.specs.Places.{Sound}
 use Rattle.turns.proofs.Finds.{clash}
 use Rattle.instance_state.specs.declared.Effect.{Effect}
@@ -31,7 +33,7 @@ use Rattle.instance_state.proofs.StepLaws.{without-sound}
 use Rattle.instance_pass.specs.declared.Passing.{Passing}
 use Rattle.instance_pass.specs.declared.Passing.the-variants.{Call, Loss}
 use Rattle.instance_pass.specs.declared.Report.{Report}
-use Rattle.instance_pass.specs.Steps.{onEvery, Passable, reportOf, countedAs, listedAs, counts, leftIn, countedIn, Stepped}
+use Rattle.instance_pass.specs.Steps.{onEvery, Passable, gonesIn, reportOf, countedAs, listedAs, counts, leftIn, countedIn, Stepped}
 
 -- ---- the calls on every instance
 
@@ -130,6 +132,10 @@ clearings-le : (gone : List Guid) (at : MaybeTime) (x : InstanceState) → clear
 unfolding clearings
 clearings-le [] at x = omega arith
 clearings-le (g ∷ gs) at x = omega (arith, bit-le (owns g (writerDropped g at x .owner)), clearings-le gs at (leftWithout g at x))
+
+-- a list has at most 256 GUIDs
+pub gones-few : (gone : List ℕ) → length gone ≤ 4096 → length (gonesIn gone) ≤ 256
+gones-few gone h = omega (arith, length-read guidOf 16 (length gone / 16) gone)
 
 pub counted-le : (p : Passing) (s : Sheet) (gone : List Guid) (x : InstanceState) → length gone ≤ 256 → countedIn p s gone x ≤ 256
 counted-le (Call c) s gone x h = omega (arith, bit-le (counts c s x))

@@ -1,2 +1,3 @@
 -- What the contracts of instance_pass cite beside model's definitions.
 pub mod Steps
+pub mod Passes

@@ -6,21 +6,28 @@
 // Copyright 2026 ZeroDDS Contributors. SPDX-License-Identifier: Apache-2.0. Changed: written anew in Rattle, with the
 // instances as a table of records in lent bytes and every such call as a step on each.
 use model::Guid;
+use model::Instance;
 use model::InstanceCall;
 use model::InstanceState;
 use model::MaybeTime;
 use model::Sheet;
-ghost use mathlib.Core.Bool.{true, _&&_, _||_};
+ghost use mathlib.Core.Bool.{true, cond, _&&_, _||_};
 ghost use mathlib.Core.Option.{some};
 ghost use mathlib.Core.Path.{_≡_};
-ghost use Prim.Native.Nat.{_+_, _≤_, _<_};
+ghost use Prim.Native.Nat.{_+_, _*_, _≤_, _<_};
 ghost use lib.ListN.{length};
-ghost use Rattle.model.specs.InstanceRecord.{bit};
+ghost use Rattle.octets.specs.Lay.{All};
+ghost use Rattle.octets.specs.Octets.{put};
+ghost use Rattle.model.specs.InstanceCalls.{kept};
+ghost use Rattle.model.specs.InstanceRecord.{bit, instanceOf};
 ghost use Rattle.model.specs.Instances.{rule, effect, leftBy};
 ghost use Rattle.model.specs.Joined.{leftWithoutAll, leftByOne, clearings};
+ghost use Rattle.model.specs.State.{instancesIn};
 ghost use Rattle.writer_set.specs.Places.{Sound};
+ghost use Rattle.instance_record.specs.Parts.{recordAt};
 ghost use Rattle.instance_state.specs.Effects.{Usable};
-ghost use Rattle.instance_pass.specs.Steps.{onEvery, Passable, gonesIn, reportOf, countedAs, listedAs, counts, leftIn, listedIn, countedIn, Stepped, lostOne};
+ghost use Rattle.instance_pass.specs.Passes.{remaining, listing, amount, UsableIn, keptAt, withStep, Ahead, Turned, Passed};
+ghost use Rattle.instance_pass.specs.Steps.{onEvery, Passable, gonesIn, reportOf, countedAs, listedAs, counts, leftIn, listedIn, countedIn, remains, Stepped, lostOne};
 
 // What passes over the instances: a call on every one, or the loss of the writers of a list.
 pub enum Passing {
@@ -203,4 +210,98 @@ pub fn take_step(p: Passing, s: Sheet, gone: &[u8], x: InstanceState) -> Step
         Passing::Call(c) => call_step(c, s, x),
         Passing::Loss => loss_step(gone, instance_state::if_present(t), x),
     }
+}
+
+// ---- the pass
+
+// What is left of the instance x is written at place k.
+fn keep(pens: &mut [u8], k: usize, x: Instance, r: Step)
+    requires { ⌜ (k * 512 + 512 ≤ length (now pens)) × (r .keep ≡ true → r .state .writers .len < 32) ⌝ }
+    ensures { λ _. ⌜ now (pens .exit) ≡ keptAt (now (pens .entry)) k (kept x (remains r)) ⌝ }
+{
+    let yes = r.keep;
+    if yes {
+        let key = x.key;
+        let handle = x.handle;
+        let state = r.state;
+        let y = Instance {
+            key: key,
+            handle: handle,
+            state: state,
+        };
+        instance_record::put_instance(pens, k, y);
+    }
+}
+
+// The handle h is noted behind l others.
+fn note(out: &mut [u8], l: usize, yes: bool, h: u64)
+    requires { ⌜ (l < 128) × (l * 8 + 8 ≤ length (now out)) ⌝ }
+    ensures { λ _. ⌜ now (out .exit) ≡ cond yes (put 8 (now (out .entry)) (l * 8) h) (now (out .entry)) ⌝ }
+{
+    if yes {
+        octets::put_u64(out, l * 8, h);
+    }
+}
+
+// The tally with one step more.
+fn tallied(c: Tally, r: Step) -> Tally
+    requires { ⌜ (c .kept < 128) × (c .listed < 128) × (c .counted ≤ 32768) × (r .counted ≤ 256) ⌝ }
+    ensures { λ t. ⌜ t ≡ withStep c r ⌝ }
+{
+    let k = one(r.keep);
+    let l = one(r.listed);
+    Tally {
+        kept: c.kept + k,
+        listed: c.listed + l,
+        counted: c.counted + r.counted,
+    }
+}
+
+// Record i is read, taken through its step and written behind the instances kept.
+fn pass_at(
+    pens: &mut [u8],
+    out: &mut [u8],
+    i: usize,
+    tally: Tally,
+    p: Passing,
+    s: Sheet,
+    gone: &[u8],
+) -> Tally
+    requires { ⌜ Ahead p (now gone) (now pens) (now out) i tally (instanceOf (recordAt (now pens) i)) ⌝ }
+    ensures { λ r. ⌜ Turned (remaining p s (gonesIn (now (gone .entry)))) (listing p s (gonesIn (now (gone .entry)))) (amount p s (gonesIn (now (gone .entry)))) (instanceOf (recordAt (now (pens .entry)) i)) (now (pens .entry)) (now (out .entry)) tally (now (pens .exit)) (now (out .exit)) r ⌝ }
+{
+    let x = instance_record::instance_at(pens, i);
+    let state = x.state;
+    let h = x.handle;
+    let r = take_step(p, s, gone, state);
+    keep(pens, tally.kept, x, r);
+    note(out, tally.listed, r.listed, h.0);
+    tallied(tally, r)
+}
+
+// The first count instances are taken through their steps, those kept closed up and the places behind them cleared; the
+// handles of those listed go to the front of Out.
+pub fn pass(
+    pens: &mut [u8],
+    out: &mut [u8],
+    count: usize,
+    p: Passing,
+    s: Sheet,
+    gone: &[u8],
+) -> Tally
+    requires { ⌜ Passable p × (length (now gone) ≤ 4096) × (count ≤ 128) × (count * 512 ≤ length (now pens)) × (1024 ≤ length (now out)) × All UsableIn (instancesIn count (now pens)) ⌝ }
+    ensures { λ r. ⌜ Passed (remaining p s (gonesIn (now (gone .entry)))) (listing p s (gonesIn (now (gone .entry)))) (amount p s (gonesIn (now (gone .entry)))) (instancesIn count (now (pens .entry))) (now (pens .entry)) (now (out .entry)) (now (pens .exit)) (now (out .exit)) r ⌝ }
+{
+    let mut tally = Tally {
+        kept: 0,
+        listed: 0,
+        counted: 0,
+    };
+    let mut i = 0;
+    while i < count {
+        tally = pass_at(pens, out, i, tally, p, s, gone);
+        i += 1;
+    }
+    instance_table::truncate(pens, tally.kept, count);
+    tally
 }
