@@ -3,3 +3,4 @@ pub mod StepLaws
 pub mod LossLaws
 pub mod ListLaws
 pub mod PassLaws
+pub mod CallLaws

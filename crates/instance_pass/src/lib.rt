@@ -5,9 +5,11 @@
 // Derives from instance_tracker.rs of ZeroDDS.
 // Copyright 2026 ZeroDDS Contributors. SPDX-License-Identifier: Apache-2.0. Changed: written anew in Rattle, with the
 // instances as a table of records in lent bytes and every such call as a step on each.
+use model::Answer;
 use model::Guid;
 use model::Instance;
 use model::InstanceCall;
+use model::InstanceHandle;
 use model::InstanceState;
 use model::MaybeTime;
 use model::Sheet;
@@ -18,7 +20,7 @@ ghost use Prim.Native.Nat.{_+_, _*_, _≤_, _<_};
 ghost use lib.ListN.{length};
 ghost use Rattle.octets.specs.Lay.{All};
 ghost use Rattle.octets.specs.Octets.{put};
-ghost use Rattle.model.specs.InstanceCalls.{kept};
+ghost use Rattle.model.specs.InstanceCalls.{kept, instanceCall};
 ghost use Rattle.model.specs.InstanceRecord.{bit, instanceOf};
 ghost use Rattle.model.specs.Instances.{rule, effect, leftBy};
 ghost use Rattle.model.specs.Joined.{leftWithoutAll, leftByOne, clearings};
@@ -26,6 +28,7 @@ ghost use Rattle.model.specs.State.{instancesIn};
 ghost use Rattle.writer_set.specs.Places.{Sound};
 ghost use Rattle.instance_record.specs.Parts.{recordAt};
 ghost use Rattle.instance_state.specs.Effects.{Usable};
+ghost use Rattle.instance_pass.specs.EveryCalls.{answerAs, Ready, stateWith, Left};
 ghost use Rattle.instance_pass.specs.Passes.{remaining, listing, amount, UsableIn, keptAt, withStep, Ahead, Turned, Passed};
 ghost use Rattle.instance_pass.specs.Steps.{onEvery, Passable, gonesIn, reportOf, countedAs, listedAs, counts, leftIn, listedIn, countedIn, remains, Stepped, lostOne};
 
@@ -57,6 +60,13 @@ pub struct Tally {
     pub kept: usize,
     pub listed: usize,
     pub counted: usize,
+}
+
+// What a call leaves by value.
+pub struct TableCall {
+    pub answer: Answer,
+    pub count: u32,
+    pub next_handle: InstanceHandle,
 }
 
 // ---- the step of a call
@@ -304,4 +314,46 @@ pub fn pass(
     }
     instance_table::truncate(pens, tally.kept, count);
     tally
+}
+
+// ---- the calls on every instance
+
+// What a call answers, from the tally of its pass.
+fn answered(k: Report, t: Tally) -> Answer
+    requires { ⌜ (t .listed ≤ 128) × (t .counted ≤ 32768) ⌝ }
+    ensures { λ r. ⌜ r ≡ answerAs k (t .listed) (t .counted) ⌝ }
+{
+    let l = t.listed as u32;
+    let n = t.counted as u32;
+    match k {
+        Report::Nothing => answers::silent(),
+        Report::Left => answers::listing(l),
+        Report::Owner => answers::counting(n),
+        Report::Prefix => answers::counting(n),
+        Report::Purge => answers::counting(n),
+    }
+}
+
+// A call on every instance: codes 7, 17, 18, 19 and 21. None of them is refused late, and none starts an instance.
+pub fn every_call(
+    c: InstanceCall,
+    s: Sheet,
+    pens: &mut [u8],
+    out: &mut [u8],
+    places: usize,
+    count: u32,
+    next: InstanceHandle,
+) -> TableCall
+    requires { ⌜ Ready places count (next .0) (now pens) × (1024 ≤ length (now out)) × (onEvery c ≡ true) ⌝ }
+    ensures { λ r. ⌜ Left places (instanceCall places c s (stateWith (instancesIn count (now (pens .entry))) (next .0))) (now (out .entry)) r (now (pens .exit)) (now (out .exit)) ⌝ }
+{
+    let nobody = [0u8; 16];
+    let tally = pass(pens, out, count as usize, Passing::Call(c), s, &nobody);
+    let k = report_of(c);
+    let a = answered(k, tally);
+    TableCall {
+        answer: a,
+        count: tally.kept as u32,
+        next_handle: next,
+    }
 }
