@@ -1,0 +1,138 @@
+-- The calls on every instance: what they leave of the state, from what a pass leaves.
+--     usable-all             the instances of a well-formed table are usable
+--     Held, ready-held       what a pass asks of it
+--     Few, passed-few        a tally is no more than the instances allow
+--     Every, every-turn      model's call, by the steps of a pass
+--     every-few, every-left  the bounds of its tally; the call from its pass
+-- Assumes nothing.
+use Prim.Native.Nat.{ℕ, zero, suc, _*_, _≤_}
+use mathlib.Core.Bool.{Bool, true}
+use mathlib.Core.List.{List, [], _∷_}
+use mathlib.Core.Option.{Option}
+use mathlib.Core.Path.{_≡_, refl, ap, _∙_}
+use native.Mathlib.Nat.{mul-le-mul-right}
+use native.Mathlib.Omega.{arith}
+use lib.ListN.{length, take, drop}
+use Rattle.octets.specs.Bounds.{Bytes}
+use Rattle.octets.specs.Lay.{All}
+use Rattle.model.specs.declared.Answer.{Answer}
+use Rattle.model.specs.declared.Guid.{Guid}
+use Rattle.model.specs.declared.Instance.{Instance}
+use Rattle.model.specs.declared.InstanceCall.{InstanceCall}
+use Rattle.model.specs.declared.InstanceHandle.{InstanceHandle}
+use Rattle.model.specs.declared.Sheet.{Sheet}
+use Rattle.model.specs.Answers.{counting}
+use Rattle.model.specs.Call.{listIn}
+use Rattle.model.specs.Guids.{guidOf}
+use Rattle.model.specs.InstanceCalls as calls
+use Rattle.model.specs.InstanceCalls.{begun, nextAfter, instancesAfter, lateRefusal, instanceTurn, instanceCall, handleBytes, ownedBy, prefixOwned, isPurged}
+use Rattle.model.specs.InstanceRecord.{instanceOf}
+use Rattle.model.specs.Layout.{readRows}
+use Rattle.model.specs.State.{instancesIn}
+use Rattle.model.specs.Tables.{pick, sift, all}
+use Rattle.model.specs.WellFormed.{instanceOk}
+use Rattle.model.proofs.RowLaws.{both, length-read}
+use Rattle.turns.proofs.Finds.{split}
+use Rattle.turns.proofs.Sifts.{length-sift}
+use Rattle.instance_state.proofs.Valid.{usable}
+use Rattle.instance_table.proofs.LaidOut.{table-formed, table-laid}
+use Rattle.instance_pass.specs.declared.Passing.the-variants.{Call}
+use Rattle.instance_pass.specs.declared.Tally.{Tally}
+use Rattle.instance_pass.specs.Steps.{onEvery, reportOf}
+use Rattle.instance_pass.specs.Passes.{remaining, listing, amount, total, UsableIn, Passed}
+use Rattle.instance_pass.specs.EveryCalls.{answerAs, Ready, stateWith, Left}
+use Rattle.instance_pass.proofs.ListLaws.{total-pick}
+use Rattle.instance_pass.proofs.StepLaws.{every-cases, counted-le}
+
+-- ---- a well-formed table
+
+pub usable-all : (n : ℕ) (t : List ℕ) → all instanceOk (instancesIn n t) ≡ true → All UsableIn (instancesIn n t)
+unfolding readRows all instanceOf
+usable-all zero t e = tt
+usable-all (suc n) t e =
+    let p = both (instanceOk (instanceOf (take 512 t))) (all instanceOk (instancesIn n (drop 512 t))) e in
+    (usable (instanceOf (take 512 t) .state) (length-read guidOf 16 16 (drop 256 (take 512 t))) (p .0), usable-all n (drop 512 t) (p .1))
+
+-- what a pass asks of it
+pub record Held (count : ℕ) (t : List ℕ) : Type 0 where
+  pub few : count ≤ 128
+  pub room : count * 512 ≤ length t
+  pub usable : All UsableIn (instancesIn count t)
+
+pub ready-held : (places count next : ℕ) (t : List ℕ) → Ready places count next t → Held count t
+ready-held places count next t d =
+    let f = table-formed places count next t (d .formed) in
+    record {
+      few = omega (arith, f .few, d .few);
+      room = omega (arith, mul-le-mul-right 512 (f .few), d .size);
+      usable = usable-all count t (f .valid);
+    }
+
+-- ---- a tally is bounded
+
+length-pick : (q : Instance → Bool) (xs : List Instance) → length (pick q xs) ≤ length xs
+unfolding pick
+length-pick q [] = omega arith
+length-pick q (x ∷ xs) = split (q x) (λ e. rw e (omega (arith, length-pick q xs))) (λ e. rw e (omega (arith, length-pick q xs)))
+
+total-le : (a : Instance → ℕ) → ((x : Instance) → a x ≤ 256) → (xs : List Instance) → total a xs ≤ length xs * 256
+unfolding total
+total-le a h [] = omega arith
+total-le a h (x ∷ xs) = omega (arith, h x, total-le a h xs)
+
+pub record Few (r : Tally) (n : ℕ) : Type 0 where
+  pub kept : r .kept ≤ n
+  pub listed : r .listed ≤ n
+  pub counted : r .counted ≤ n * 256
+
+pub passed-few : (f : Instance → Option Instance) (q : Instance → Bool) (a : Instance → ℕ) (xs : List Instance) (t out t′ out′ : List ℕ) (r : Tally) →
+    ((x : Instance) → a x ≤ 256) → Passed f q a xs t out t′ out′ r → Few r (length xs)
+passed-few f q a xs t out t′ out′ r h p =
+    record {
+      kept = omega (arith, p .kept, length-sift f xs);
+      listed = omega (arith, p .listed, length-pick q xs);
+      counted = omega (arith, p .counted, total-le a h xs);
+    }
+
+-- ---- model's call
+
+pub record Every (places : ℕ) (s : Sheet) (gone : List Guid) (xs : List Instance) (next : ℕ) (c : InstanceCall) : Type 0 where
+  pub answer : answerAs (reportOf c) (length (pick (listing (Call c) s gone) xs)) (total (amount (Call c) s gone) xs) ≡ instanceCall places c s (stateWith xs next) .answer
+  pub instances : sift (remaining (Call c) s gone) xs ≡ instanceCall places c s (stateWith xs next) .state .instances
+  pub same : next ≡ instanceCall places c s (stateWith xs next) .state .nextHandle
+  pub list : handleBytes (pick (listing (Call c) s gone) xs) ≡ instanceCall places c s (stateWith xs next) .list
+
+pub every-turn : (places : ℕ) (c : InstanceCall) (s : Sheet) (gone : List Guid) (xs : List Instance) (next : ℕ) → onEvery c ≡ true → Every places s gone xs next c
+unfolding instanceCall lateRefusal instanceTurn begun nextAfter instancesAfter
+every-turn places c s gone xs next e =
+    every-cases (Every places s gone xs next) c e
+    record { answer = refl; instances = refl; same = refl; list = refl }
+    record { answer = refl; instances = refl; same = refl; list = refl }
+    record { answer = ap counting (total-pick (ownedBy s) xs); instances = refl; same = refl; list = refl }
+    record { answer = ap counting (total-pick (prefixOwned s) xs); instances = refl; same = refl; list = refl }
+    record { answer = ap counting (total-pick (isPurged s) xs); instances = refl; same = refl; list = refl }
+
+-- the bounds of its tally
+pub every-few : (places count next : ℕ) (c : InstanceCall) (s : Sheet) (t out t′ out′ : List ℕ) (r : Tally) → Ready places count next t →
+    Passed (remaining (Call c) s []) (listing (Call c) s []) (amount (Call c) s []) (instancesIn count t) t out t′ out′ r → Few r 128
+every-few places count next c s t out t′ out′ r d p =
+    let h = ready-held places count next t d in
+    let n : length (instancesIn count t) ≡ count = length-read instanceOf 512 count t in
+    let w = passed-few _ _ _ (instancesIn count t) t out t′ out′ r (λ x. counted-le (Call c) s [] (x .state) (omega arith)) p in
+    record { kept = omega (arith, w .kept, h .few); listed = omega (arith, w .listed, h .few); counted = omega (arith, w .counted, h .few) }
+
+-- the call from its pass
+pub every-left : (places count : ℕ) (c : InstanceCall) (s : Sheet) (next : InstanceHandle) (t out t′ out′ : List ℕ) (r : Tally) (a : Answer) → onEvery c ≡ true →
+    Bytes t → Ready places count (next .0) t →
+    Passed (remaining (Call c) s []) (listing (Call c) s []) (amount (Call c) s []) (instancesIn count t) t out t′ out′ r →
+    a ≡ answerAs (reportOf c) (r .listed) (r .counted) →
+    Left places (instanceCall places c s (stateWith (instancesIn count t) (next .0))) out record { answer = a; count = r .kept; «next_handle» = next } t′ out′
+every-left places count c s next t out t′ out′ r a e b d p q =
+    let v = every-turn places c s [] (instancesIn count t) (next .0) e in
+    record {
+      answer = q ∙ rw (p .listed, p .counted) (v .answer);
+      count = p .kept ∙ ap length (v .instances);
+      next = v .same;
+      laid = rw (v .instances) at (p .laid places (table-laid places count (next .0) t (d .size) b (table-formed places count (next .0) t (d .formed))));
+      list = p .list ∙ ap (λ (l : List ℕ). listIn l out) (v .list);
+    }

@@ -1,0 +1,6 @@
+-- Laws that the proofs of instance_pass and of the crates above cite.
+pub mod StepLaws
+pub mod LossLaws
+pub mod ListLaws
+pub mod PassLaws
+pub mod CallLaws

@@ -1,0 +1,231 @@
+-- A pass over the instances in place.
+--     step-few, turned                what a step leaves can be written; one record of a pass from its parts
+--     During                          what holds when the first i instances are passed
+--     during-start, during-ahead      before the first; what the next asks
+--     during-turn                     one instance more
+--     during-end                      all are passed, and the places behind those kept are cleared
+-- Assumes nothing.
+use Prim.Native.Nat.{ℕ, _+_, _*_, _≤_, _<_}
+use mathlib.Core.Bool.{Bool, true, false, cond}
+use mathlib.Core.List.{List, append-nil}
+use mathlib.Core.Option.{Option, none, some}
+use mathlib.Core.Path.{_≡_, refl, sym, ap, _∙_}
+use native.Mathlib.Nat.{mul-le-mul-right}
+use native.Mathlib.Omega.{arith}
+use lib.ListN.{length, getD, take, drop}
+use lib.Seq.{take-all}
+use Rattle.octets.specs.Lay.{All, all-get}
+use Rattle.octets.specs.Octets.{put}
+use Rattle.octets.specs.Patch.{drop-patch}
+use Rattle.model.specs.declared.Guid.{Guid}
+use Rattle.model.specs.declared.Instance.{Instance}
+use Rattle.model.specs.declared.InstanceState.{InstanceState}
+use Rattle.model.specs.declared.Sheet.{Sheet}
+use Rattle.model.specs.Call.{listIn}
+use Rattle.model.specs.InstanceCalls.{kept, handleBytes}
+use Rattle.model.specs.InstanceRecord.{bit, instanceOf, instanceBytes}
+use Rattle.model.specs.State.{instancesIn}
+use Rattle.model.specs.Tables.{isSome, pick, sift}
+use Rattle.model.proofs.RowLaws.{length-read}
+use Rattle.turns.specs.Places.{survivors, midway}
+use Rattle.turns.proofs.Finds.{pick-take, pick-more}
+use Rattle.turns.proofs.Passes.{survivors-keep, survivors-drop, midway-start, midway-end, length-midway, midway-keep, midway-drop}
+use Rattle.instance_table.specs.Laid.{Laid}
+use Rattle.instance_table.proofs.LaidOut.{patch-width, replaced}
+use Rattle.instance_table.proofs.Rows.{get-read}
+use Rattle.instance_record.specs.Parts.{recordAt}
+use Rattle.instance_pass.specs.declared.Passing.{Passing}
+use Rattle.instance_pass.specs.declared.Step.{Step}
+use Rattle.instance_pass.specs.declared.Tally.{Tally}
+use Rattle.instance_pass.specs.Steps.{Passable, leftIn, listedIn, countedIn, remains, Stepped}
+use Rattle.instance_pass.specs.Passes.{remaining, listing, amount, total, UsableIn, keptAt, withStep, Ahead, Turned, Passed}
+use Rattle.instance_pass.proofs.ListLaws.{list-start, list-more, total-take, drop-same}
+use Rattle.instance_pass.proofs.StepLaws.{SoundLeft, bit-le}
+
+-- ---- one record from its parts
+
+pub step-few : (r : Step) (left : Option InstanceState) → remains r ≡ left → SoundLeft left → r .keep ≡ true → r .state .writers .len < 32
+step-few r left e h k =
+    let s : SoundLeft (remains r) = rw e h in
+    let w = rw k at s in
+    omega (arith, w .few)
+
+is-kept : (b : Bool) (x : Instance) (y : InstanceState) → b ≡ isSome (kept x (cond b (some y) none))
+is-kept true x y = refl
+is-kept false x y = refl
+
+pub turned : (p : Passing) (s : Sheet) (gone : List Guid) (x y : Instance) (r : Step) (t out t′ out′ : List ℕ) (c c′ : Tally) → x ≡ y →
+    Stepped (leftIn p s gone (x .state)) (listedIn p s gone (x .state)) (countedIn p s gone (x .state)) r →
+    t′ ≡ keptAt t (c .kept) (kept x (remains r)) → out′ ≡ cond (r .listed) (put 8 out (c .listed * 8) (x .handle .0)) out → c′ ≡ withStep c r →
+    Turned (remaining p s gone) (listing p s gone) (amount p s gone) y t out c t′ out′ c′
+turned p s gone x y r t out t′ out′ c c′ e h a b d =
+    rw (← e, d)
+    record {
+      table = a ∙ ap (λ (o : Option InstanceState). keptAt t (c .kept) (kept x o)) (h .stays);
+      list = b ∙ ap (λ (q : Bool). cond q (put 8 out (c .listed * 8) (x .handle .0)) out) (h .lists);
+      kept = ap (λ (n : ℕ). c .kept + n)
+          (ap bit (is-kept (r .keep) x (r .state)) ∙ ap (λ (o : Option InstanceState). bit (isSome (kept x o))) (h .stays));
+      listed = ap (λ (n : ℕ). c .listed + n) (ap bit (h .lists));
+      counted = ap (λ (n : ℕ). c .counted + n) (h .counts);
+    }
+
+-- ---- the pass
+
+as-bit : (n : ℕ) (b : Bool) → n + cond b 1 0 ≡ n + bit b
+as-bit n true = refl
+as-bit n false = refl
+
+module _ (f : Instance → Option Instance) (q : Instance → Bool) (a : Instance → ℕ) (count : ℕ) (t₀ out₀ : List ℕ) where
+  abbrev pub xs : List Instance
+  xs = instancesIn count t₀
+
+  pub record During (i : ℕ) (t out : List ℕ) (c : Tally) : Type 0 where
+    pub below : i ≤ count
+    pub long : length t ≡ length t₀
+    pub wide : length out ≡ length out₀
+    pub kept : c .kept ≡ survivors f xs i
+    pub listed : c .listed ≡ length (pick q (take i xs))
+    pub counted : c .counted ≡ total a (take i xs)
+    pub fewKept : c .kept ≤ i
+    pub fewListed : c .listed ≤ i
+    pub fewCounted : c .counted ≤ i * 256
+    pub ahead : drop (i * 512) t ≡ drop (i * 512) t₀
+    pub list : out ≡ listIn (handleBytes (pick q (take i xs))) out₀
+    pub laid : (places : ℕ) → Laid places xs t₀ → Laid places (midway f xs i) t
+
+  size : length xs ≡ count
+  size = length-read instanceOf 512 count t₀
+
+  pub during-start : During 0 t₀ out₀ record { kept = 0; listed = 0; counted = 0 }
+  unfolding pick sift total
+  during-start =
+      record {
+        below = omega arith;
+        long = refl;
+        wide = refl;
+        kept = refl;
+        listed = refl;
+        counted = refl;
+        fewKept = omega arith;
+        fewListed = omega arith;
+        fewCounted = omega arith;
+        ahead = refl;
+        list = list-start out₀;
+        laid = λ places l. rw (midway-start f xs) l;
+      }
+
+  module _ (i : ℕ) (t out : List ℕ) (c : Tally) (d : During i t out c) where
+    -- record i is as it was
+    pub during-read : i < count → instanceOf (recordAt t i) ≡ getD xs i (instanceOf (recordAt t i))
+    during-read h =
+        ap (λ (z : List ℕ). instanceOf (take 512 z)) (d .ahead) ∙ sym (get-read instanceOf 512 count t₀ i (instanceOf (recordAt t i)) h)
+
+    pub during-ahead : (p : Passing) (gone : List ℕ) → Passable p → length gone ≤ 4096 → count ≤ 128 → count * 512 ≤ length t₀ → 1024 ≤ length out₀ →
+        All UsableIn xs → i < count → Ahead p gone t out i c (instanceOf (recordAt t i))
+    during-ahead p gone e g n m w u h =
+        record {
+          passable = e;
+          few = g;
+          below = omega arith;
+          room = omega (arith, d .long, mul-le-mul-right 512 h);
+          wide = omega (arith, d .wide);
+          kept = d .fewKept;
+          listed = d .fewListed;
+          counted = d .fewCounted;
+          usable = rw (during-read h) (all-get UsableIn xs i (instanceOf (recordAt t i)) (omega (arith, size)) u);
+        }
+
+    module _ (most : count ≤ 128) (held : count * 512 ≤ length t₀) (broad : 1024 ≤ length out₀) (h : i < count) (small : (x : Instance) → a x ≤ 256) where
+      inside : i < length xs
+      inside = omega (arith, size)
+
+      fits : c .kept * 512 + 512 ≤ length t
+      fits = omega (arith, d .fewKept, d .long, mul-le-mul-right 512 h)
+
+      -- the table behind x, of which o is left
+      pub record Behind (o : Option Instance) (t′ : List ℕ) : Type 0 where
+        pub kept : c .kept + bit (isSome o) ≡ survivors f xs (i + 1)
+        pub few : c .kept + bit (isSome o) ≤ i + 1
+        pub ahead : drop ((i + 1) * 512) t′ ≡ drop ((i + 1) * 512) t₀
+        pub laid : (places : ℕ) → Laid places xs t₀ → Laid places (midway f xs (i + 1)) t′
+
+      onward : drop ((i + 1) * 512) t ≡ drop ((i + 1) * 512) t₀
+      onward = drop-same (i * 512) ((i + 1) * 512) t t₀ (omega arith) (d .ahead)
+
+      behind : (x : Instance) → x ≡ getD xs i x → (o : Option Instance) → f x ≡ o → (t′ : List ℕ) → t′ ≡ keptAt t (c .kept) o → length t′ ≡ length t → Behind o t′
+      behind x e none g t′ q n =
+          let k : f (getD xs i x) ≡ none = sym (ap f e) ∙ g in
+          record {
+            kept = omega (arith, d .kept, survivors-drop f xs i x inside k);
+            few = omega (arith, d .fewKept);
+            ahead = rw q onward;
+            laid = λ places l. rw (q, midway-drop f xs i x inside k) (d .laid places l);
+          }
+      behind x e (some y) g t′ q n =
+          let k : f (getD xs i x) ≡ some y = sym (ap f e) ∙ g in
+          let w : length (instanceBytes y) ≡ 512 = patch-width t (c .kept * 512) 512 (instanceBytes y) fits (sym (ap length q) ∙ n) in
+          let z : drop (c .kept * 512 + 512) t′ ≡ drop (c .kept * 512 + 512) t =
+          ap (drop (c .kept * 512 + 512)) q ∙ drop-patch t (c .kept * 512) 512 (instanceBytes y) (omega (arith, fits)) w in
+          record {
+            kept = omega (arith, d .kept, survivors-keep f xs i x inside y k);
+            few = omega (arith, d .fewKept);
+            ahead = drop-same (c .kept * 512 + 512) ((i + 1) * 512) t′ t (omega (arith, d .fewKept)) z ∙ onward;
+            laid = λ places l.
+                rw (← midway-keep f xs i x inside y k, ← d .kept)
+                (replaced t t′ (c .kept) y q n fits places (midway f xs i) (d .laid places l)
+                (omega (arith, d .fewKept, length-midway f xs i (omega (arith, size)), size)));
+          }
+
+      -- Out behind x, which is listed where b says so
+      noted : (x : Instance) → x ≡ getD xs i x → (b : Bool) → q x ≡ b → (out′ : List ℕ) → out′ ≡ cond b (put 8 out (c .listed * 8) (x .handle .0)) out →
+          out′ ≡ listIn (handleBytes (pick q (take (i + 1) xs))) out₀
+      noted x e false g out′ p =
+          let k : q (getD xs i x) ≡ false = sym (ap q e) ∙ g in
+          p ∙ d .list ∙ rw (pick-take q xs i x inside, k, append-nil (pick q (take i xs)))
+      noted x e true g out′ p =
+          let k : q (getD xs i x) ≡ true = sym (ap q e) ∙ g in
+          p
+          ∙ rw (pick-take q xs i x inside, k, ← e, d .listed, d .list)
+          (list-more (pick q (take i xs)) x out₀ (omega (arith, d .listed, d .fewListed)))
+
+      pub during-turn : (t′ out′ : List ℕ) (c′ : Tally) → length t′ ≡ length t → length out′ ≡ length out →
+          Turned f q a (instanceOf (recordAt t i)) t out c t′ out′ c′ → During (i + 1) t′ out′ c′
+      during-turn t′ out′ c′ n m w = go (instanceOf (recordAt t i)) (during-read h) w
+        where
+          go : (x : Instance) → x ≡ getD xs i x → Turned f q a x t out c t′ out′ c′ → During (i + 1) t′ out′ c′
+          go x e w =
+              let b = behind x e (f x) refl t′ (w .table) n in
+              record {
+                below = omega arith;
+                long = n ∙ d .long;
+                wide = m ∙ d .wide;
+                kept = w .kept ∙ b .kept;
+                listed = w .listed ∙ ap (λ (z : ℕ). z + bit (q x)) (d .listed)
+                    ∙ sym (pick-more q xs i x inside ∙ ap (λ (y : Instance). length (pick q (take i xs)) + cond (q y) 1 0) (sym e) ∙ as-bit (length (pick q (take i xs))) (q x));
+                counted = w .counted ∙ ap (λ (z : ℕ). z + a x) (d .counted)
+                    ∙ sym (total-take a xs i x inside ∙ ap (λ (y : Instance). total a (take i xs) + a y) (sym e));
+                fewKept = omega (arith, w .kept, b .few);
+                fewListed = omega (arith, w .listed, d .fewListed, bit-le (q x));
+                fewCounted = omega (arith, w .counted, d .fewCounted, small x);
+                ahead = b .ahead;
+                list = noted x e (q x) refl out′ (w .list);
+                laid = b .laid;
+              }
+
+    -- all are passed; t′ is the table with the places behind those kept cleared
+    pub during-end : count ≤ i → (t′ : List ℕ) →
+        ((places : ℕ) (ys : List Instance) → Laid places ys t → length ys ≡ count → Laid places (take (c .kept) ys) t′) → Passed f q a xs t₀ out₀ t′ out c
+    during-end h t′ g =
+        let e : i ≡ count = omega (arith, d .below) in
+        let j : i ≡ length xs = e ∙ sym size in
+        let w : take i xs ≡ xs = take-all i xs (omega arith) in
+        let k : c .kept ≡ length (sift f xs) = rw w at (d .kept) in
+        record {
+          laid = λ places l.
+              rw (ap (λ (n : ℕ). take n (midway f xs i)) k ∙ ap (λ (n : ℕ). take (length (sift f xs)) (midway f xs n)) j ∙ midway-end f xs) at
+              (g places (midway f xs i) (d .laid places l) (length-midway f xs i (omega arith) ∙ size));
+          list = rw w at (d .list);
+          kept = k;
+          listed = rw w at (d .listed);
+          counted = rw w at (d .counted);
+        }

@@ -1,0 +1,4 @@
+-- What the contracts of instance_pass cite beside model's definitions.
+pub mod Steps
+pub mod Passes
+pub mod EveryCalls

@@ -1,0 +1,86 @@
+-- What a pass leaves of the table, puts into Out and gives by value.
+--     remaining, listing, amount    what a step leaves, lists and counts, of an instance with its key and handle
+--     total                         the sum of the amounts
+--     UsableIn                      an instance that the steps can take
+--     keptAt, withStep              a table where what is left of an instance is written; a tally with one step more
+--     Ahead, Turned                 one record of a pass: what it asks, and what it leaves
+--     Passed                        the whole pass
+-- Rests on model's calls and on instance_table's layout.
+use Prim.Native.Nat.{ℕ, _+_, _*_, _≤_, _<_}
+use mathlib.Core.Bool.{Bool, cond}
+use mathlib.Core.List.{List, [], _∷_}
+use mathlib.Core.Option.{Option, none, some}
+use mathlib.Core.Path.{_≡_}
+use lib.ListN.{length}
+use Rattle.octets.specs.Octets.{put}
+use Rattle.octets.specs.Patch.{patch}
+use Rattle.model.specs.declared.Guid.{Guid}
+use Rattle.model.specs.declared.Instance.{Instance}
+use Rattle.model.specs.declared.Sheet.{Sheet}
+use Rattle.model.specs.Call.{listIn}
+use Rattle.model.specs.InstanceCalls.{kept, handleBytes}
+use Rattle.model.specs.InstanceRecord.{bit, instanceBytes, instanceSize}
+use Rattle.model.specs.Tables.{isSome, pick, sift}
+use Rattle.instance_state.specs.Effects.{Usable}
+use Rattle.instance_table.specs.Laid.{Laid}
+use Rattle.instance_pass.specs.declared.Passing.{Passing}
+use Rattle.instance_pass.specs.declared.Step.{Step}
+use Rattle.instance_pass.specs.declared.Tally.{Tally}
+use Rattle.instance_pass.specs.Steps.{Passable, leftIn, listedIn, countedIn}
+
+abbrev pub remaining : Passing → Sheet → List Guid → Instance → Option Instance
+remaining p s gone x = kept x (leftIn p s gone (x .state))
+
+abbrev pub listing : Passing → Sheet → List Guid → Instance → Bool
+listing p s gone x = listedIn p s gone (x .state)
+
+abbrev pub amount : Passing → Sheet → List Guid → Instance → ℕ
+amount p s gone x = countedIn p s gone (x .state)
+
+unfoldable pub total : (Instance → ℕ) → List Instance → ℕ
+total f [] = 0
+total f (x ∷ xs) = f x + total f xs
+
+abbrev pub UsableIn : Instance → Type 0
+UsableIn x = Usable (x .state)
+
+-- ---- one record
+
+-- what is left is written at place k
+abbrev pub keptAt : List ℕ → ℕ → Option Instance → List ℕ
+keptAt t k none = t
+keptAt t k (some y) = patch t (k * instanceSize) instanceSize (instanceBytes y)
+
+-- the tally with one step more
+abbrev pub withStep : Tally → Step → Tally
+withStep c r =
+    record { kept = c .kept + bit (r .keep); listed = c .listed + bit (r .listed); counted = c .counted + r .counted }
+
+-- record i is to come: the instances before it are passed, and it is the instance x
+pub record Ahead (p : Passing) (gone t out : List ℕ) (i : ℕ) (c : Tally) (x : Instance) : Type 0 where
+  pub passable : Passable p
+  pub few : length gone ≤ 4096
+  pub below : i < 128
+  pub room : i * 512 + 512 ≤ length t
+  pub wide : 1024 ≤ length out
+  pub kept : c .kept ≤ i
+  pub listed : c .listed ≤ i
+  pub counted : c .counted ≤ i * 256
+  pub usable : UsableIn x
+
+-- from the table t, Out and the tally so far to those behind the instance x
+pub record Turned (f : Instance → Option Instance) (q : Instance → Bool) (a : Instance → ℕ) (x : Instance) (t out : List ℕ) (c : Tally) (t′ out′ : List ℕ) (c′ : Tally) : Type 0 where
+  pub table : t′ ≡ keptAt t (c .kept) (f x)
+  pub list : out′ ≡ cond (q x) (put 8 out (c .listed * 8) (x .handle .0)) out
+  pub kept : c′ .kept ≡ c .kept + bit (isSome (f x))
+  pub listed : c′ .listed ≡ c .listed + bit (q x)
+  pub counted : c′ .counted ≡ c .counted + a x
+
+-- ---- the whole pass, of the instances xs
+
+pub record Passed (f : Instance → Option Instance) (q : Instance → Bool) (a : Instance → ℕ) (xs : List Instance) (t out t′ out′ : List ℕ) (r : Tally) : Type 0 where
+  pub laid : (places : ℕ) → Laid places xs t → Laid places (sift f xs) t′
+  pub list : out′ ≡ listIn (handleBytes (pick q xs)) out
+  pub kept : r .kept ≡ length (sift f xs)
+  pub listed : r .listed ≡ length (pick q xs)
+  pub counted : r .counted ≡ total a xs

@@ -1,0 +1,359 @@
+// The calls on every instance as one pass over the lent table, and the loss of several writers as another: record by record,
+// what is left of an instance is written behind the instances kept, and the handles of those listed go to the front of Out.
+// Rests on octets, model, turns, answers, instance_record, instance_state and instance_table.
+//
+// Derives from instance_tracker.rs of ZeroDDS.
+// Copyright 2026 ZeroDDS Contributors. SPDX-License-Identifier: Apache-2.0. Changed: written anew in Rattle, with the
+// instances as a table of records in lent bytes and every such call as a step on each.
+use model::Answer;
+use model::Guid;
+use model::Instance;
+use model::InstanceCall;
+use model::InstanceHandle;
+use model::InstanceState;
+use model::MaybeTime;
+use model::Sheet;
+ghost use mathlib.Core.Bool.{true, cond, _&&_, _||_};
+ghost use mathlib.Core.Option.{some};
+ghost use mathlib.Core.Path.{_≡_};
+ghost use Prim.Native.Nat.{_+_, _*_, _≤_, _<_};
+ghost use lib.ListN.{length};
+ghost use Rattle.octets.specs.Lay.{All};
+ghost use Rattle.octets.specs.Octets.{put};
+ghost use Rattle.model.specs.InstanceCalls.{kept, instanceCall};
+ghost use Rattle.model.specs.InstanceRecord.{bit, instanceOf};
+ghost use Rattle.model.specs.Instances.{rule, effect, leftBy};
+ghost use Rattle.model.specs.Joined.{leftWithoutAll, leftByOne, clearings};
+ghost use Rattle.model.specs.State.{instancesIn};
+ghost use Rattle.writer_set.specs.Places.{Sound};
+ghost use Rattle.instance_record.specs.Parts.{recordAt};
+ghost use Rattle.instance_state.specs.Effects.{Usable};
+ghost use Rattle.instance_pass.specs.EveryCalls.{answerAs, Ready, stateWith, Left};
+ghost use Rattle.instance_pass.specs.Passes.{remaining, listing, amount, UsableIn, keptAt, withStep, Ahead, Turned, Passed};
+ghost use Rattle.instance_pass.specs.Steps.{onEvery, Passable, gonesIn, reportOf, countedAs, listedAs, counts, leftIn, listedIn, countedIn, remains, Stepped, lostOne};
+
+// What passes over the instances: a call on every one, or the loss of the writers of a list.
+pub enum Passing {
+    Call(InstanceCall),
+    Loss,
+}
+
+// What a call reports of an instance: that it is left writerless, that its owner is cleared, or that it is purged.
+pub enum Report {
+    Nothing,
+    Left,
+    Owner,
+    Prefix,
+    Purge,
+}
+
+// What becomes of one instance: whether it stays, is listed in Out, and how much it counts for the answer.
+pub struct Step {
+    pub keep: bool,
+    pub listed: bool,
+    pub counted: usize,
+    pub state: InstanceState,
+}
+
+// How many instances stay and are listed, and what was counted.
+pub struct Tally {
+    pub kept: usize,
+    pub listed: usize,
+    pub counted: usize,
+}
+
+// What a call leaves by value.
+pub struct TableCall {
+    pub answer: Answer,
+    pub count: u32,
+    pub next_handle: InstanceHandle,
+}
+
+// ---- the step of a call
+
+// What a call reports of an instance.
+fn report_of(c: InstanceCall) -> Report
+    ensures { λ r. ⌜ r ≡ reportOf c ⌝ }
+{
+    match c {
+        InstanceCall::Register => Report::Nothing,
+        InstanceCall::EnsureRegisteredLimited => Report::Nothing,
+        InstanceCall::Dispose => Report::Nothing,
+        InstanceCall::Unregister => Report::Nothing,
+        InstanceCall::UnregisterWriter => Report::Nothing,
+        InstanceCall::NoteWriter => Report::Nothing,
+        InstanceCall::DropWriter => Report::Left,
+        InstanceCall::ObserveLifecycle => Report::Nothing,
+        InstanceCall::ObserveAdmitted => Report::Nothing,
+        InstanceCall::NoteAdmitted => Report::Nothing,
+        InstanceCall::RecordDelivery => Report::Nothing,
+        InstanceCall::NoteTaken => Report::Nothing,
+        InstanceCall::MarkViewSeen => Report::Nothing,
+        InstanceCall::MarkViewNew => Report::Nothing,
+        InstanceCall::DrainSamples => Report::Nothing,
+        InstanceCall::AcceptUnderExclusiveOwnership => Report::Nothing,
+        InstanceCall::UpdateOwnerStrength => Report::Nothing,
+        InstanceCall::ClearOwnerForWriter => Report::Owner,
+        InstanceCall::ClearOwnerForWriterPrefix => Report::Prefix,
+        InstanceCall::ReleaseOwnerOf => Report::Nothing,
+        InstanceCall::Autopurge => Report::Purge,
+    }
+}
+
+// 1 for yes, 0 for no.
+fn one(yes: bool) -> usize
+    ensures { λ r. ⌜ r ≡ bit yes ⌝ }
+{
+    if yes { 1 } else { 0 }
+}
+
+// Whether the instance is listed.
+fn is_listed(k: Report, s: Sheet, x: InstanceState) -> bool
+    requires { ⌜ Sound (x .writers) ⌝ }
+    ensures { λ r. ⌜ r ≡ listedAs k s x ⌝ }
+{
+    let g = s.guid;
+    match k {
+        Report::Nothing => false,
+        Report::Left => instance_state::left_by(g, x),
+        Report::Owner => false,
+        Report::Prefix => false,
+        Report::Purge => false,
+    }
+}
+
+// Whether the instance is counted.
+fn is_counted(k: Report, s: Sheet, x: InstanceState) -> bool
+    ensures { λ r. ⌜ r ≡ countedAs k s x ⌝ }
+{
+    let g = s.guid;
+    let o = x.owner;
+    match k {
+        Report::Nothing => false,
+        Report::Left => false,
+        Report::Owner => instance_state::owns(g, o),
+        Report::Prefix => instance_state::owns_prefix(g, o),
+        Report::Purge => instance_state::purged(s, x),
+    }
+}
+
+// What a call on every instance makes of one.
+pub fn call_step(c: InstanceCall, s: Sheet, x: InstanceState) -> Step
+    requires { ⌜ (onEvery c ≡ true) × Usable x ⌝ }
+    ensures { λ r. ⌜ Stepped (effect c s x) (rule c .listsLeft && leftBy (s .guid) x) (bit (counts c s x)) r ⌝ }
+{
+    let e = instance_state::take_effect(c, s, x);
+    let k = report_of(c);
+    let l = is_listed(k, s, x);
+    let n = one(is_counted(k, s, x));
+    let y = e.state;
+    Step {
+        keep: e.keep,
+        listed: l,
+        counted: n,
+        state: y,
+    }
+}
+
+// ---- the step of a loss
+
+// Either of two.
+fn either(a: bool, b: bool) -> bool
+    ensures { λ r. ⌜ r ≡ (a || b) ⌝ }
+{
+    if a {
+        return true;
+    }
+    b
+}
+
+// One writer more is lost to the instance, which it may own.
+fn lose_one(g: Guid, at: MaybeTime, r: Step) -> Step
+    requires { ⌜ Sound (r .state .writers) × (r .counted ≤ 256) ⌝ }
+    ensures { λ t. ⌜ t ≡ lostOne g at r ⌝ }
+{
+    let x = r.state;
+    let l = instance_state::left_by(g, x);
+    let y = instance_state::writer_dropped(g, at, x);
+    let o = y.owner;
+    let n = one(instance_state::owns(g, o));
+    let z = instance_state::owner_cleared(g, y);
+    let listed = either(r.listed, l);
+    Step {
+        keep: true,
+        listed: listed,
+        counted: r.counted + n,
+        state: z,
+    }
+}
+
+// The writers of a list are lost to an instance, one after the other.
+pub fn loss_step(gone: &[u8], at: MaybeTime, x: InstanceState) -> Step
+    requires { ⌜ (length (now gone) ≤ 4096) × Sound (x .writers) ⌝ }
+    ensures { λ r. ⌜ Stepped (some (leftWithoutAll (gonesIn (now (gone .entry))) at x)) (leftByOne (gonesIn (now (gone .entry))) at x) (clearings (gonesIn (now (gone .entry))) at x) r ⌝ }
+{
+    let n = gone.len() / 16;
+    let mut r = Step {
+        keep: true,
+        listed: false,
+        counted: 0,
+        state: x,
+    };
+    let mut i = 0;
+    while i < n {
+        let g = instance_record::read_guid(gone, i * 16);
+        r = lose_one(g, at, r);
+        i += 1;
+    }
+    r
+}
+
+// ---- either step
+
+// What a pass makes of one instance.
+pub fn take_step(p: Passing, s: Sheet, gone: &[u8], x: InstanceState) -> Step
+    requires { ⌜ Passable p × (length (now gone) ≤ 4096) × Usable x ⌝ }
+    ensures { λ r. ⌜ Stepped (leftIn p s (gonesIn (now (gone .entry))) x) (listedIn p s (gonesIn (now (gone .entry))) x) (countedIn p s (gonesIn (now (gone .entry))) x) r ⌝ }
+{
+    let t = s.time_1;
+    match p {
+        Passing::Call(c) => call_step(c, s, x),
+        Passing::Loss => loss_step(gone, instance_state::if_present(t), x),
+    }
+}
+
+// ---- the pass
+
+// What is left of the instance x is written at place k.
+fn keep(pens: &mut [u8], k: usize, x: Instance, r: Step)
+    requires { ⌜ (k * 512 + 512 ≤ length (now pens)) × (r .keep ≡ true → r .state .writers .len < 32) ⌝ }
+    ensures { λ _. ⌜ now (pens .exit) ≡ keptAt (now (pens .entry)) k (kept x (remains r)) ⌝ }
+{
+    let yes = r.keep;
+    if yes {
+        let key = x.key;
+        let handle = x.handle;
+        let state = r.state;
+        let y = Instance {
+            key: key,
+            handle: handle,
+            state: state,
+        };
+        instance_record::put_instance(pens, k, y);
+    }
+}
+
+// The handle h is noted behind l others.
+fn note(out: &mut [u8], l: usize, yes: bool, h: u64)
+    requires { ⌜ (l < 128) × (l * 8 + 8 ≤ length (now out)) ⌝ }
+    ensures { λ _. ⌜ now (out .exit) ≡ cond yes (put 8 (now (out .entry)) (l * 8) h) (now (out .entry)) ⌝ }
+{
+    if yes {
+        octets::put_u64(out, l * 8, h);
+    }
+}
+
+// The tally with one step more.
+fn tallied(c: Tally, r: Step) -> Tally
+    requires { ⌜ (c .kept < 128) × (c .listed < 128) × (c .counted ≤ 32768) × (r .counted ≤ 256) ⌝ }
+    ensures { λ t. ⌜ t ≡ withStep c r ⌝ }
+{
+    let k = one(r.keep);
+    let l = one(r.listed);
+    Tally {
+        kept: c.kept + k,
+        listed: c.listed + l,
+        counted: c.counted + r.counted,
+    }
+}
+
+// Record i is read, taken through its step and written behind the instances kept.
+fn pass_at(
+    pens: &mut [u8],
+    out: &mut [u8],
+    i: usize,
+    tally: Tally,
+    p: Passing,
+    s: Sheet,
+    gone: &[u8],
+) -> Tally
+    requires { ⌜ Ahead p (now gone) (now pens) (now out) i tally (instanceOf (recordAt (now pens) i)) ⌝ }
+    ensures { λ r. ⌜ Turned (remaining p s (gonesIn (now (gone .entry)))) (listing p s (gonesIn (now (gone .entry)))) (amount p s (gonesIn (now (gone .entry)))) (instanceOf (recordAt (now (pens .entry)) i)) (now (pens .entry)) (now (out .entry)) tally (now (pens .exit)) (now (out .exit)) r ⌝ }
+{
+    let x = instance_record::instance_at(pens, i);
+    let state = x.state;
+    let h = x.handle;
+    let r = take_step(p, s, gone, state);
+    keep(pens, tally.kept, x, r);
+    note(out, tally.listed, r.listed, h.0);
+    tallied(tally, r)
+}
+
+// The first count instances are taken through their steps, those kept closed up and the places behind them cleared; the
+// handles of those listed go to the front of Out.
+pub fn pass(
+    pens: &mut [u8],
+    out: &mut [u8],
+    count: usize,
+    p: Passing,
+    s: Sheet,
+    gone: &[u8],
+) -> Tally
+    requires { ⌜ Passable p × (length (now gone) ≤ 4096) × (count ≤ 128) × (count * 512 ≤ length (now pens)) × (1024 ≤ length (now out)) × All UsableIn (instancesIn count (now pens)) ⌝ }
+    ensures { λ r. ⌜ Passed (remaining p s (gonesIn (now (gone .entry)))) (listing p s (gonesIn (now (gone .entry)))) (amount p s (gonesIn (now (gone .entry)))) (instancesIn count (now (pens .entry))) (now (pens .entry)) (now (out .entry)) (now (pens .exit)) (now (out .exit)) r ⌝ }
+{
+    let mut tally = Tally {
+        kept: 0,
+        listed: 0,
+        counted: 0,
+    };
+    let mut i = 0;
+    while i < count {
+        tally = pass_at(pens, out, i, tally, p, s, gone);
+        i += 1;
+    }
+    instance_table::truncate(pens, tally.kept, count);
+    tally
+}
+
+// ---- the calls on every instance
+
+// What a call answers, from the tally of its pass.
+fn answered(k: Report, t: Tally) -> Answer
+    requires { ⌜ (t .listed ≤ 128) × (t .counted ≤ 32768) ⌝ }
+    ensures { λ r. ⌜ r ≡ answerAs k (t .listed) (t .counted) ⌝ }
+{
+    let l = t.listed as u32;
+    let n = t.counted as u32;
+    match k {
+        Report::Nothing => answers::silent(),
+        Report::Left => answers::listing(l),
+        Report::Owner => answers::counting(n),
+        Report::Prefix => answers::counting(n),
+        Report::Purge => answers::counting(n),
+    }
+}
+
+// A call on every instance: codes 7, 17, 18, 19 and 21. None of them is refused late, and none starts an instance.
+pub fn every_call(
+    c: InstanceCall,
+    s: Sheet,
+    pens: &mut [u8],
+    out: &mut [u8],
+    places: usize,
+    count: u32,
+    next: InstanceHandle,
+) -> TableCall
+    requires { ⌜ Ready places count (next .0) (now pens) × (1024 ≤ length (now out)) × (onEvery c ≡ true) ⌝ }
+    ensures { λ r. ⌜ Left places (instanceCall places c s (stateWith (instancesIn count (now (pens .entry))) (next .0))) (now (out .entry)) r (now (pens .exit)) (now (out .exit)) ⌝ }
+{
+    let nobody = [0u8; 16];
+    let tally = pass(pens, out, count as usize, Passing::Call(c), s, &nobody);
+    let k = report_of(c);
+    let a = answered(k, tally);
+    TableCall {
+        answer: a,
+        count: tally.kept as u32,
+        next_handle: next,
+    }
+}
