@@ -366,7 +366,7 @@ pub fn write_instance(s: &mut [u8], x: Instance)
     write_guids(s, items);
 }
 
-// ---- validity
+// ---- validity: no early exit, since a record is nearly always valid
 
 // A time that is present has nanoseconds below 10^9; an absent one is zero.
 fn time_ok(s: &[u8], at: usize, present: bool) -> bool
@@ -377,10 +377,8 @@ fn time_ok(s: &[u8], at: usize, present: bool) -> bool
     if present {
         return n < 1000000000;
     }
-    if octets::get_u32(s, at) != 0 {
-        return false;
-    }
-    n == 0
+    let sec = octets::get_u32(s, at);
+    (sec == 0) & (n == 0)
 }
 
 // Each of the six times is valid.
@@ -388,22 +386,13 @@ fn times_ok(s: &[u8], f: u16) -> bool
     requires { ⌜ length (now s) ≡ 512 ⌝ }
     ensures { λ r. ⌜ r ≡ timesOk (timesOf (now (s .entry)) f) ⌝ }
 {
-    if !time_ok(s, 44, f / 4096 % 2 == 1) {
-        return false;
-    }
-    if !time_ok(s, 52, f / 2048 % 2 == 1) {
-        return false;
-    }
-    if !time_ok(s, 60, f / 1024 % 2 == 1) {
-        return false;
-    }
-    if !time_ok(s, 68, f / 512 % 2 == 1) {
-        return false;
-    }
-    if !time_ok(s, 76, f / 256 % 2 == 1) {
-        return false;
-    }
-    time_ok(s, 84, f / 64 % 2 == 1)
+    let a = time_ok(s, 44, f / 4096 % 2 == 1);
+    let b = time_ok(s, 52, f / 2048 % 2 == 1);
+    let c = time_ok(s, 60, f / 1024 % 2 == 1);
+    let d = time_ok(s, 68, f / 512 % 2 == 1);
+    let e = time_ok(s, 76, f / 256 % 2 == 1);
+    let g = time_ok(s, 84, f / 64 % 2 == 1);
+    a & (b & (c & (d & (e & g))))
 }
 
 // The kind is one of three, and the generations are not negative.
@@ -411,13 +400,9 @@ fn life_ok(s: &[u8], f: u16) -> bool
     requires { ⌜ length (now s) ≡ 512 ⌝ }
     ensures { λ r. ⌜ r ≡ (ltb f 49152 && lifeOk (lifeOf (now (s .entry)) f)) ⌝ }
 {
-    if 49152 <= f {
-        return false;
-    }
-    if 2147483648 <= octets::get_u32(s, 28) {
-        return false;
-    }
-    octets::get_u32(s, 32) < 2147483648
+    let d = octets::get_u32(s, 28);
+    let n = octets::get_u32(s, 32);
+    (f < 49152) & ((d < 2147483648) & (n < 2147483648))
 }
 
 // An absent owner is zero.
@@ -425,14 +410,10 @@ fn owner_ok(s: &[u8], f: u16) -> bool
     requires { ⌜ length (now s) ≡ 512 ⌝ }
     ensures { λ r. ⌜ r ≡ ownerOk (ownerOf (now (s .entry)) f) ⌝ }
 {
-    if f / 128 % 2 == 1 {
-        return true;
-    }
     let g = read_guid(s, 92);
-    if !guid::is_same(g, guid::nil()) {
-        return false;
-    }
-    octets::get_u32(s, 108) == 0
+    let absent = guid::is_same(g, guid::nil());
+    let n = octets::get_u32(s, 108);
+    (f / 128 % 2 == 1) | (absent & (n == 0))
 }
 
 // A holder has at most 144 bytes, and zeros behind them; an absent one is zero.
@@ -483,10 +464,8 @@ fn set_ok(s: &[u8], f: u16) -> bool
     if 16 < n {
         return false;
     }
-    if !set_rises(s, n) {
-        return false;
-    }
-    octets::zero_from(s, 256 + n * 16)
+    let rises = set_rises(s, n);
+    rises & octets::zero_from(s, 256 + n * 16)
 }
 
 // Whether the record is well formed.
@@ -495,19 +474,12 @@ pub fn record_ok(s: &[u8]) -> bool
     ensures { λ r. ⌜ r ≡ recordOk (now (s .entry)) ⌝ }
 {
     let f = octets::get_u16(s, 24);
-    if !life_ok(s, f) {
-        return false;
-    }
-    if !times_ok(s, f) {
-        return false;
-    }
-    if !owner_ok(s, f) {
-        return false;
-    }
-    if !holder_ok(s, f) {
-        return false;
-    }
-    set_ok(s, f)
+    let a = life_ok(s, f);
+    let b = times_ok(s, f);
+    let c = owner_ok(s, f);
+    let d = holder_ok(s, f);
+    let e = set_ok(s, f);
+    a & (b & (c & (d & e)))
 }
 
 // ---- in a table

@@ -1,6 +1,4 @@
--- `times_ok` meets its contract: the first time that is not valid decides. Assumes nothing.
-use mathlib.Core.Path.{sym, _∙_}
-use borrow.Author.Tests.{not-true, not-false}
+-- `times_ok` meets its contract: its callees' equations say so. Assumes nothing.
 use Rattle.model.specs.WellFormed.{timesOk}
 use borrow.Author.Needs.{needs}
 use Rattle.instance_record.proofs.times_ok.Statement.{statement}
@@ -9,58 +7,41 @@ use Rattle.instance_record.proofs.times_ok.Tie as tie
 time-ok-requires : tie.Need-time-ok-requires
 time-ok-requires c κs = search needs
 
-returns : tie.Need-returns
-unfolding timesOk
-returns c = rw (sym (c .before .time-ok .ensures) ∙ not-true _ (c .if1 .taken))
-
 time-ok-requires-2 : tie.Need-time-ok-requires-2
 time-ok-requires-2 c κs = search needs
-
-returns-2 : tie.Need-returns-2
-unfolding timesOk
-returns-2 c = rw (sym (c .before .before .before .time-ok .ensures) ∙ not-false _ (c .before .before .if1 .left), sym (c .before .time-ok2 .ensures) ∙ not-true _ (c .if2 .taken))
 
 time-ok-requires-3 : tie.Need-time-ok-requires-3
 time-ok-requires-3 c κs = search needs
 
-returns-3 : tie.Need-returns-3
-unfolding timesOk
-returns-3 c = rw (sym (c .before .before .before .before .before .time-ok .ensures) ∙ not-false _ (c .before .before .before .before .if1 .left), sym (c .before .before .before .time-ok2 .ensures) ∙ not-false _ (c .before .before .if2 .left), sym (c .before .time-ok3 .ensures) ∙ not-true _ (c .if3 .taken))
-
 time-ok-requires-4 : tie.Need-time-ok-requires-4
 time-ok-requires-4 c κs = search needs
-
-returns-4 : tie.Need-returns-4
-unfolding timesOk
-returns-4 c = rw (sym (c .before .before .before .before .before .before .before .time-ok .ensures) ∙ not-false _ (c .before .before .before .before .before .before .if1 .left), sym (c .before .before .before .before .before .time-ok2 .ensures) ∙ not-false _ (c .before .before .before .before .if2 .left), sym (c .before .before .before .time-ok3 .ensures) ∙ not-false _ (c .before .before .if3 .left), sym (c .before .time-ok4 .ensures) ∙ not-true _ (c .if4 .taken))
 
 time-ok-requires-5 : tie.Need-time-ok-requires-5
 time-ok-requires-5 c κs = search needs
 
-returns-5 : tie.Need-returns-5
-unfolding timesOk
-returns-5 c = rw (sym (c .before .before .before .before .before .before .before .before .before .time-ok .ensures) ∙ not-false _ (c .before .before .before .before .before .before .before .before .if1 .left), sym (c .before .before .before .before .before .before .before .time-ok2 .ensures) ∙ not-false _ (c .before .before .before .before .before .before .if2 .left), sym (c .before .before .before .before .before .time-ok3 .ensures) ∙ not-false _ (c .before .before .before .before .if3 .left), sym (c .before .before .before .time-ok4 .ensures) ∙ not-false _ (c .before .before .if4 .left), sym (c .before .time-ok5 .ensures) ∙ not-true _ (c .if5 .taken))
-
 time-ok-requires-6 : tie.Need-time-ok-requires-6
 time-ok-requires-6 c κs = search needs
 
-returns-6 : tie.Need-returns-6
+returns : tie.Need-returns
 unfolding timesOk
-returns-6 c = rw (sym (c .before .before .before .before .before .before .before .before .before .before .time-ok .ensures) ∙ not-false _ (c .before .before .before .before .before .before .before .before .before .if1 .left), sym (c .before .before .before .before .before .before .before .before .time-ok2 .ensures) ∙ not-false _ (c .before .before .before .before .before .before .before .if2 .left), sym (c .before .before .before .before .before .before .time-ok3 .ensures) ∙ not-false _ (c .before .before .before .before .before .if3 .left), sym (c .before .before .before .before .time-ok4 .ensures) ∙ not-false _ (c .before .before .before .if4 .left), sym (c .before .before .time-ok5 .ensures) ∙ not-false _ (c .before .if5 .left)) (c .time-ok6 .ensures)
+returns c =
+    rw (
+      c .time-ok6 .ensures,
+      c .before .time-ok5 .ensures,
+      c .before .before .time-ok4 .ensures,
+      c .before .before .before .time-ok3 .ensures,
+      c .before .before .before .before .time-ok2 .ensures,
+      c .before .before .before .before .before .time-ok .ensures,
+    )
 
 pub times-ok-spec : {M : Type 1} → statement M
 times-ok-spec =
     tie.close
     (tie.spec
     time-ok-requires
-    returns
     time-ok-requires-2
-    returns-2
     time-ok-requires-3
-    returns-3
     time-ok-requires-4
-    returns-4
     time-ok-requires-5
-    returns-5
     time-ok-requires-6
-    returns-6)
+    returns)

@@ -40,12 +40,13 @@ loop-less c = omega arith
 
 loop-again : tie.Need-loop-again Inv-loop μ-loop
 loop-again c =
-    let a = c .before .before .before .before .before .before .before .before .args in
+    let start = c .before .before .before .before .before .before .before .before in
+    let a = start .args in
     let l = c .before .before .before .before .before .before .loop in
-    let n : length (a .t2) ≡ 16 = search needs in
+    let many : length (a .t2) ≡ 16 = search needs in
     let e : c .before .before .write-guid .last .0 ≡ writtenTo (a .s .now) (a .t2) (l .i + 1) =
-    rw (c .before .before .write-guid .ensures, l .inv .2) (written-turn (a .s .now) (a .t2) (c .before .before .before .before .before .before .before .before .pre) n (l .i) (omega arith)) in
-    (omega arith, ap length e ∙ length-written (a .s .now) (a .t2) (c .before .before .before .before .before .before .before .before .pre) n (l .i + 1) (omega arith) ∙ sym (c .before .before .before .before .before .before .before .before .pre), e)
+    rw (c .before .before .write-guid .ensures, l .inv .2) (written-turn (a .s .now) (a .t2) (start .pre) many (l .i) (omega arith)) in
+    (omega arith, ap length e ∙ length-written (a .s .now) (a .t2) (start .pre) many (l .i + 1) (omega arith) ∙ sym (start .pre), e)
 
 same-length : tie.Need-same-length Inv-loop μ-loop
 same-length c = omega arith
@@ -54,9 +55,10 @@ returns : tie.Need-returns Inv-loop μ-loop
 returns c =
     let a = c .before .before .before .args in
     let l = c .before .loop in
-    let q : l .i ≡ 16 = omega arith in
-    let n : length (a .t2) ≡ 16 = search needs in
-    (rw q at (l .inv .2)) ∙ written-end (a .s .now) (a .t2) (c .before .before .before .pre) n
+    let all : l .i ≡ 16 = omega arith in
+    let many : length (a .t2) ≡ 16 = search needs in
+    let e : l .s ≡ writtenTo (a .s .now) (a .t2) 16 = rw all at (l .inv .2) in
+    e ∙ written-end (a .s .now) (a .t2) (c .before .before .before .pre) many
 
 pub write-guids-spec : {M : Type 1} → statement M
 write-guids-spec =
