@@ -1,0 +1,3 @@
+-- Laws that the proofs of instance_reads and of the crates above cite.
+pub mod Table
+pub mod Answers

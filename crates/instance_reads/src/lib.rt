@@ -1,0 +1,194 @@
+// The reads of instances: both should_deliver_ filters, last_delivered_ts, next_handle_after, the handle at a position, the
+// holder in force, the writer lookup, left_writerless and would_leave_writerless. The public functions ask nothing of what
+// they are lent: any bytes get an answer. Inner functions take the number of places.
+// Refusals, lowest first: 1 a table that is not 128 places long, a list of GUIDs that is no multiple of 16 bytes or above
+// 4,096, an Out that is not 4,096 bytes; 3 a table that is not well formed; 4 nanoseconds of 10^9 or more.
+// Rests on octets, model, guid, tables, instance_record, instance_table, numbers and sample_time.
+//
+// Derives from instance_tracker.rs of ZeroDDS.
+// Copyright 2026 ZeroDDS Contributors. SPDX-License-Identifier: Apache-2.0. Changed: written anew in Rattle, over a table of
+// records in lent bytes.
+use model::Decision;
+use model::FoundHandle;
+use model::FoundTime;
+use model::Guid;
+use model::InstanceHandle;
+use model::Listing;
+use model::MaybeTime;
+use model::Time;
+use model::Times;
+use tables::Found;
+ghost use mathlib.Core.Bool.{true};
+ghost use mathlib.Core.List.{map};
+ghost use mathlib.Core.Path.{_≡_};
+ghost use Prim.Native.Nat.{_+_, _*_, _/_, _%_, _≤_, _<_};
+ghost use lib.ListN.{length, drop};
+ghost use Rattle.model.specs.Guids.{num, guidsIn};
+ghost use Rattle.model.specs.Instances.{hasKey};
+ghost use Rattle.model.specs.Reads.{filterRead, orderRead, lastDeliveredRead, wouldLeaveRead, leftRead, leftOut, nextHandleRead, walkRead, lookupRight, holderInForce, tableOf, tableRefusal, timeRefusal, handleFound, first};
+ghost use Rattle.model.specs.State.{instanceKey};
+ghost use Rattle.model.specs.Tables.{find};
+ghost use Rattle.model.specs.Times.{noTime, timeBits};
+ghost use Rattle.tables.specs.Found.{foundIn};
+ghost use Rattle.instance_reads.specs.Looked.{timesIn};
+
+// ---- refusals
+
+// The number of the refusal for a table of so many places, 0 for none.
+fn refusal_of(pens: &[u8], places: usize) -> u8
+    requires { ⌜ places ≤ 128 ⌝ }
+    ensures { λ r. ⌜ r ≡ tableRefusal places (now (pens .entry)) ⌝ }
+{
+    if pens.len() != places * 512 {
+        return 1;
+    }
+    if instance_table::lone_table_ok(pens, places) {
+        0
+    } else {
+        3
+    }
+}
+
+// The number of the refusal for the table, 0 for none.
+pub fn table_refusal(pens: &[u8]) -> u8
+    ensures { λ r. ⌜ r ≡ tableRefusal 128 (now (pens .entry)) ⌝ }
+{
+    refusal_of(pens, 128)
+}
+
+// The number of the refusal for the table and a time, 0 for none.
+fn time_refusal(pens: &[u8], places: usize, time: Time) -> u8
+    requires { ⌜ places ≤ 128 ⌝ }
+    ensures { λ r. ⌜ r ≡ timeRefusal places (now (pens .entry)) time ⌝ }
+{
+    let number = refusal_of(pens, places);
+    if number != 0 {
+        return number;
+    }
+    if time.nanosec < 1_000_000_000 { 0 } else { 4 }
+}
+
+// ---- by key
+
+// The place of the key in a table that is not refused.
+fn locate(pens: &[u8], places: usize, key: Guid) -> Found
+    requires { ⌜ tableRefusal places (now pens) ≡ 0 ⌝ }
+    ensures { λ r. ⌜ r ≡ foundIn (map instanceKey (tableOf places (now (pens .entry)))) (num key) ⌝ }
+{
+    let count = instance_table::used(pens, places);
+    instance_table::find_key(pens, count, key)
+}
+
+// No time.
+fn no_time() -> MaybeTime
+    ensures { λ r. ⌜ r ≡ noTime ⌝ }
+{
+    MaybeTime {
+        present: false,
+        sec: 0,
+        nanosec: 0,
+    }
+}
+
+// The times of the key's instance, none where it is unknown.
+fn times_of(pens: &[u8], places: usize, key: Guid) -> Times
+    requires { ⌜ tableRefusal places (now pens) ≡ 0 ⌝ }
+    ensures { λ r. ⌜ r ≡ timesIn (find (hasKey key) (tableOf places (now (pens .entry)))) ⌝ }
+{
+    match locate(pens, places, key) {
+        Found::At(i) => {
+            let x = instance_record::instance_at(pens, i);
+            let y = x.state;
+            let times = y.times;
+            times
+        }
+        Found::Missing(_) => {
+            let n = no_time();
+            Times {
+                last_sample: n,
+                last_delivered: n,
+                last_filter: n,
+                disposed_at: n,
+                no_writers_at: n,
+                owner_at: n,
+            }
+        }
+    }
+}
+
+// A caller's time as the records hold it.
+fn bits_of_time(time: Time) -> MaybeTime
+    ensures { λ r. ⌜ r ≡ timeBits time ⌝ }
+{
+    let sec = numbers::bits_of(time.sec);
+    let nanosec = time.nanosec;
+    MaybeTime {
+        present: true,
+        sec: sec,
+        nanosec: nanosec,
+    }
+}
+
+// TIME_BASED_FILTER (DDS 1.4, 2.2.3.12): whether a sample of the key passes, by the last that passed.
+pub fn should_deliver_under_time_based_filter(
+    pens: &[u8],
+    key: Guid,
+    sample_ts: Time,
+    min_separation: u64,
+) -> Decision
+    ensures { λ r. ⌜ r ≡ filterRead 128 (now (pens .entry)) key «sample_ts» «min_separation» ⌝ }
+{
+    let number = time_refusal(pens, 128, sample_ts);
+    if number != 0 {
+        return Decision::Refused(number);
+    }
+    let times = times_of(pens, 128, key);
+    let last = times.last_filter;
+    let candidate = bits_of_time(sample_ts);
+    Decision::Is(sample_time::filter_admits(last, candidate, min_separation))
+}
+
+// DESTINATION_ORDER (DDS 1.4, 2.2.3.17): whether a sample of the key is in order; by reception every sample is.
+pub fn should_deliver_under_destination_order(
+    pens: &[u8],
+    key: Guid,
+    source_ts: Time,
+    by_source: bool,
+) -> Decision
+    ensures { λ r. ⌜ r ≡ orderRead 128 (now (pens .entry)) key «source_ts» «by_source» ⌝ }
+{
+    let number = time_refusal(pens, 128, source_ts);
+    if number != 0 {
+        return Decision::Refused(number);
+    }
+    if !by_source {
+        return Decision::Is(true);
+    }
+    let times = times_of(pens, 128, key);
+    let last = times.last_delivered;
+    let candidate = bits_of_time(source_ts);
+    Decision::Is(sample_time::order_admits(last, candidate))
+}
+
+// The source time of the key's last delivered sample.
+pub fn last_delivered_ts(pens: &[u8], key: Guid) -> FoundTime
+    ensures { λ r. ⌜ r ≡ lastDeliveredRead 128 (now (pens .entry)) key ⌝ }
+{
+    let number = table_refusal(pens);
+    if number != 0 {
+        return FoundTime::Refused(number);
+    }
+    let times = times_of(pens, 128, key);
+    let last = times.last_delivered;
+    let present = last.present;
+    if !present {
+        return FoundTime::Missing;
+    }
+    let sec = numbers::of_bits(last.sec);
+    let nanosec = last.nanosec;
+    let time = Time {
+        sec: sec,
+        nanosec: nanosec,
+    };
+    FoundTime::Is(time)
+}
