@@ -13,7 +13,6 @@ use model::FoundHandle;
 use model::FoundTime;
 use model::Guid;
 use model::InstanceHandle;
-use model::Listing;
 use model::MaybeTime;
 use model::Time;
 use model::Times;
@@ -24,12 +23,17 @@ ghost use mathlib.Core.Path.{_≡_};
 ghost use Prim.Native.Nat.{_+_, _*_, _/_, _%_, _≤_, _<_};
 ghost use lib.ListN.{length, drop};
 ghost use Rattle.model.specs.Guids.{num, guidsIn};
+ghost use Rattle.model.specs.InstanceRecord.{instanceOf};
 ghost use Rattle.model.specs.Instances.{hasKey};
-ghost use Rattle.model.specs.Reads.{filterRead, orderRead, lastDeliveredRead, wouldLeaveRead, leftRead, leftOut, nextHandleRead, walkRead, lookupRight, holderInForce, tableOf, tableRefusal, timeRefusal, handleFound, first};
+ghost use Rattle.model.specs.Reads.{usedIn, tableOf, tableRefusal, timeRefusal, filterRead, orderRead, lastDeliveredRead, handleFound, first, nextHandleRead, walkRead, storedOr, holderInForce, writes as writesIn, lookupRight};
+ghost use Rattle.model.specs.Sets.{has};
 ghost use Rattle.model.specs.State.{instanceKey};
 ghost use Rattle.model.specs.Tables.{find};
 ghost use Rattle.model.specs.Times.{noTime, timeBits};
+ghost use Rattle.model.specs.WellFormed.{instanceOk};
 ghost use Rattle.tables.specs.Found.{foundIn};
+ghost use Rattle.instance_record.specs.Parts.{recordAt};
+ghost use Rattle.turns.specs.Places.{placeOf};
 ghost use Rattle.instance_reads.specs.Looked.{timesIn};
 
 // ---- refusals
@@ -191,4 +195,137 @@ pub fn last_delivered_ts(pens: &[u8], key: Guid) -> FoundTime
         nanosec: nanosec,
     };
     FoundTime::Is(time)
+}
+
+// ---- by handle and by position
+
+// The handle at a position of a table that is not refused, none from its end on.
+fn handle_in(pens: &[u8], places: usize, position: usize) -> FoundHandle
+    requires { ⌜ tableRefusal places (now pens) ≡ 0 ⌝ }
+    ensures { λ r. ⌜ r ≡ handleFound 0 (first (drop position (tableOf places (now (pens .entry))))) ⌝ }
+{
+    let count = instance_table::used(pens, places);
+    if count <= position {
+        return FoundHandle::Missing;
+    }
+    let handle = instance_record::handle_at(pens, position);
+    FoundHandle::Is(handle)
+}
+
+// The handle of the instance behind the one that has the previous handle, in key order; of the first behind nil.
+pub fn next_handle_after(pens: &[u8], previous: InstanceHandle) -> FoundHandle
+    ensures { λ r. ⌜ r ≡ nextHandleRead 128 (now (pens .entry)) previous ⌝ }
+{
+    let number = table_refusal(pens);
+    if number != 0 {
+        return FoundHandle::Refused(number);
+    }
+    let h = previous.0;
+    if h == 0 {
+        return handle_in(pens, 128, 0);
+    }
+    let count = instance_table::used(pens, 128);
+    let place = instance_table::find_handle(pens, count, previous);
+    handle_in(pens, 128, place + 1)
+}
+
+// The handle of the instance at a position, in key order: what a walker gives at that position.
+pub fn handle_at_position(pens: &[u8], position: usize) -> FoundHandle
+    ensures { λ r. ⌜ r ≡ walkRead 128 (now (pens .entry)) position ⌝ }
+{
+    let number = table_refusal(pens);
+    if number != 0 {
+        return FoundHandle::Refused(number);
+    }
+    handle_in(pens, 128, position)
+}
+
+// ---- the holder in force
+
+// The stored holder of instance i, where there is one, else what is offered.
+fn stored_or<'a>(pens: &'a [u8], i: usize, offered: &'a [u8]) -> &'a [u8]
+    requires { ⌜ (i * 512 + 512 ≤ length (now pens)) × (instanceOk (instanceOf (recordAt (now pens) i)) ≡ true) ⌝ }
+    ensures { λ r. ⌜ now r ≡ storedOr (now (offered .entry)) (instanceOf (recordAt (now (pens .entry)) i) .state .holder) ⌝ }
+{
+    let o = i * 512;
+    let f = octets::get_u16(pens, o + 24);
+    if f / 32 % 2 != 1 {
+        return offered;
+    }
+    let n = octets::get_u16(pens, o + 26) as usize;
+    let start = o + 112;
+    let end = start + n;
+    &pens[start..end]
+}
+
+// The bytes from which the key was made: those stored, else, and where the table would be refused, all that are offered.
+pub fn holder_in_force<'a>(pens: &'a [u8], key: Guid, offered: &'a [u8]) -> &'a [u8]
+    ensures { λ r. ⌜ now r ≡ holderInForce 128 (now (pens .entry)) key (now (offered .entry)) ⌝ }
+{
+    if table_refusal(pens) != 0 {
+        return offered;
+    }
+    match locate(pens, 128, key) {
+        Found::At(i) => stored_or(pens, i, offered),
+        Found::Missing(_) => offered,
+    }
+}
+
+// ---- GUIDs
+
+// Whether the GUID is among the first n of a list.
+fn has_guid(list: &[u8], n: usize, g: Guid) -> bool
+    requires { ⌜ n * 16 ≤ length (now list) ⌝ }
+    ensures { λ r. ⌜ r ≡ has g (guidsIn n (now (list .entry))) ⌝ }
+{
+    let mut i = 0;
+    while i < n {
+        if guid::is_same(instance_record::read_guid(list, i * 16), g) {
+            return true;
+        }
+        i += 1;
+    }
+    false
+}
+
+// Whether an instance is alive and has the GUID among its writers.
+fn writes(r: &[u8], g: Guid) -> bool
+    requires { ⌜ (length (now r) ≡ 512) × (instanceOk (instanceOf (now r)) ≡ true) ⌝ }
+    ensures { λ b. ⌜ b ≡ writesIn g (instanceOf (now (r .entry))) ⌝ }
+{
+    let f = octets::get_u16(r, 24);
+    if 16384 <= f {
+        return false;
+    }
+    has_guid(&r[256..], (f % 32) as usize, g)
+}
+
+// The place of the first alive instance with the GUID among its writers, count where there is none.
+fn writer_place(pens: &[u8], places: usize, count: usize, g: Guid) -> usize
+    requires { ⌜ (tableRefusal places (now pens) ≡ 0) × (count ≡ usedIn places (now pens)) ⌝ }
+    ensures { λ r. ⌜ r ≡ placeOf (writesIn g) (tableOf places (now (pens .entry))) ⌝ }
+{
+    let mut i = 0;
+    while i < count {
+        let o = i * 512;
+        let e = o + 512;
+        if writes(&pens[o..e], g) {
+            return i;
+        }
+        i += 1;
+    }
+    i
+}
+
+// The handle of an alive instance that the GUID writes: of the first in key order.
+pub fn writer_lookup(pens: &[u8], guid: Guid) -> FoundHandle
+    ensures { λ r. ⌜ lookupRight 128 (now (pens .entry)) guid r ≡ true ⌝ }
+{
+    let number = table_refusal(pens);
+    if number != 0 {
+        return FoundHandle::Refused(number);
+    }
+    let count = instance_table::used(pens, 128);
+    let place = writer_place(pens, 128, count, guid);
+    handle_in(pens, 128, place)
 }
