@@ -5,3 +5,5 @@ pub mod Scans
 pub mod Walks
 pub mod Stored
 pub mod Members
+pub mod Left
+pub mod Lists

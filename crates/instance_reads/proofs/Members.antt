@@ -20,7 +20,7 @@ use Rattle.model.specs.declared.Instance.{Instance}
 use Rattle.model.specs.Guids.{guidOf, guidsIn}
 use Rattle.model.specs.InstanceRecord.{kindNumbered, instanceOf}
 use Rattle.model.specs.Instances.{isAlive, writersIn}
-use Rattle.model.specs.Reads.{usedIn, tableOf, tableRefusal, writes}
+use Rattle.model.specs.Reads.{usedIn, tableOf, writes}
 use Rattle.model.specs.Sets.{has}
 use Rattle.model.specs.WellFormed.{instanceOk}
 use Rattle.instance_record.specs.Parts.{recordAt}
@@ -28,7 +28,6 @@ use Rattle.instance_record.proofs.Rows.{take-read, lent-part}
 use Rattle.turns.specs.Places.{placeOf}
 use Rattle.instance_reads.proofs.Scans.{place-row}
 use Rattle.instance_reads.proofs.Stored.{set-len}
-use Rattle.instance_reads.proofs.Table.{room-at, valid-at}
 
 -- each number but 0 is a kind that is not alive
 not-alive : (n : ℕ) → 1 ≤ n → isAlive (kindNumbered n) ≡ false
@@ -73,12 +72,11 @@ rest-part r e = take-all (length r - 256) (drop 256 r) (omega (arith, length-dro
 
 -- ---- in a table
 
-module _ (places : ℕ) (t : List ℕ) (r : tableRefusal places t ≡ 0) (i : ℕ) (l : i < usedIn places t) where
-  pub part-ok : (length (take (i * 512 + 512 - i * 512) (drop (i * 512) t)) ≡ 512)
-      × (instanceOk (instanceOf (take (i * 512 + 512 - i * 512) (drop (i * 512) t))) ≡ true)
-  part-ok =
-      rw (lent-part (i * 512) 512 t)
-      (length-take-le 512 (drop (i * 512) t) (omega (arith, length-drop (i * 512) t, room-at places t r i l)), valid-at places t r i l)
+pub part-ok : (t : List ℕ) (i : ℕ) → i * 512 + 512 ≤ length t → instanceOk (instanceOf (recordAt t i)) ≡ true →
+    (length (take (i * 512 + 512 - i * 512) (drop (i * 512) t)) ≡ 512)
+    × (instanceOk (instanceOf (take (i * 512 + 512 - i * 512) (drop (i * 512) t))) ≡ true)
+part-ok t i h v =
+    rw (lent-part (i * 512) 512 t) (length-take-le 512 (drop (i * 512) t) (omega (arith, length-drop (i * 512) t)), v)
 
 -- what was told of a record that was lent as a part
 pub part-told : (p : Instance → Bool) (t : List ℕ) (i : ℕ) (b : Bool) → b ≡ p (instanceOf (take (i * 512 + 512 - i * 512) (drop (i * 512) t))) →

@@ -13,28 +13,30 @@ use model::FoundHandle;
 use model::FoundTime;
 use model::Guid;
 use model::InstanceHandle;
+use model::Listing;
 use model::MaybeTime;
 use model::Time;
 use model::Times;
 use tables::Found;
-ghost use mathlib.Core.Bool.{true};
+ghost use mathlib.Core.Bool.{true, cond};
 ghost use mathlib.Core.List.{map};
 ghost use mathlib.Core.Path.{_≡_};
 ghost use Prim.Native.Nat.{_+_, _*_, _/_, _%_, _≤_, _<_};
 ghost use lib.ListN.{length, drop};
+ghost use Rattle.octets.specs.Octets.{put};
 ghost use Rattle.model.specs.Guids.{num, guidsIn};
 ghost use Rattle.model.specs.InstanceRecord.{instanceOf};
 ghost use Rattle.model.specs.Instances.{hasKey};
-ghost use Rattle.model.specs.Reads.{usedIn, tableOf, tableRefusal, timeRefusal, filterRead, orderRead, lastDeliveredRead, handleFound, first, nextHandleRead, walkRead, storedOr, holderInForce, writes as writesIn, lookupRight};
+ghost use Rattle.model.specs.Reads.{usedIn, tableOf, tableRefusal, timeRefusal, filterRead, orderRead, lastDeliveredRead, handleFound, first, nextHandleRead, walkRead, storedOr, holderInForce, writes as writesIn, lookupRight, viewIn, among, leftWith, listRefusal, wouldLeaveRead, leftRead, leftOut};
 ghost use Rattle.model.specs.Sets.{has};
 ghost use Rattle.model.specs.State.{instanceKey};
-ghost use Rattle.model.specs.Tables.{find};
+ghost use Rattle.model.specs.Tables.{find, all};
 ghost use Rattle.model.specs.Times.{noTime, timeBits};
 ghost use Rattle.model.specs.WellFormed.{instanceOk};
 ghost use Rattle.tables.specs.Found.{foundIn};
 ghost use Rattle.instance_record.specs.Parts.{recordAt};
 ghost use Rattle.turns.specs.Places.{placeOf};
-ghost use Rattle.instance_reads.specs.Looked.{timesIn};
+ghost use Rattle.instance_reads.specs.Looked.{timesIn, ListedBy};
 
 // ---- refusals
 
@@ -328,4 +330,168 @@ pub fn writer_lookup(pens: &[u8], guid: Guid) -> FoundHandle
     let count = instance_table::used(pens, 128);
     let place = writer_place(pens, 128, count, guid);
     handle_in(pens, 128, place)
+}
+
+// ---- left without writers
+
+// Whether a mask of views takes an instance: NEW is 1, NOT_NEW 2.
+fn view_in(view_states: u32, view_new: bool) -> bool
+    ensures { λ r. ⌜ r ≡ viewIn «view_states» «view_new» ⌝ }
+{
+    if view_new {
+        view_states % 2 == 1
+    } else {
+        view_states / 2 % 2 == 1
+    }
+}
+
+// Whether each of the n writers of an instance is among the m GUIDs gone.
+fn all_gone(r: &[u8], n: usize, gone: &[u8], m: usize) -> bool
+    requires { ⌜ (256 + n * 16 ≤ length (now r)) × (m * 16 ≤ length (now gone)) ⌝ }
+    ensures { λ b. ⌜ b ≡ all (among (guidsIn m (now (gone .entry)))) (guidsIn n (drop 256 (now (r .entry)))) ⌝ }
+{
+    let mut i = 0;
+    while i < n {
+        if !has_guid(gone, m, instance_record::read_guid(r, 256 + i * 16)) {
+            return false;
+        }
+        i += 1;
+    }
+    true
+}
+
+// Whether an alive instance of one of the views has writers, and the m GUIDs gone are all of them.
+fn left_with(r: &[u8], gone: &[u8], m: usize, view_states: u32) -> bool
+    requires { ⌜ (length (now r) ≡ 512) × (instanceOk (instanceOf (now r)) ≡ true) × (m * 16 ≤ length (now gone)) ⌝ }
+    ensures { λ b. ⌜ b ≡ leftWith (guidsIn m (now (gone .entry))) «view_states» (instanceOf (now (r .entry))) ⌝ }
+{
+    let f = octets::get_u16(r, 24);
+    if 16384 <= f {
+        return false;
+    }
+    if !view_in(view_states, f / 8192 % 2 == 1) {
+        return false;
+    }
+    let n = (f % 32) as usize;
+    if n == 0 {
+        return false;
+    }
+    all_gone(r, n, gone, m)
+}
+
+// The number of the refusal for the table and a list of GUIDs, 0 for none.
+fn list_refusal(pens: &[u8], places: usize, gone: &[u8]) -> u8
+    requires { ⌜ places ≤ 128 ⌝ }
+    ensures { λ r. ⌜ r ≡ listRefusal places (now (pens .entry)) (now (gone .entry)) ⌝ }
+{
+    if gone.len() % 16 != 0 {
+        return 1;
+    }
+    if 4096 < gone.len() {
+        return 1;
+    }
+    refusal_of(pens, places)
+}
+
+// The place of the first instance that losing the m GUIDs gone leaves without writers, count where there is none.
+fn left_place(
+    pens: &[u8],
+    places: usize,
+    count: usize,
+    gone: &[u8],
+    m: usize,
+    view_states: u32,
+) -> usize
+    requires { ⌜ (tableRefusal places (now pens) ≡ 0) × (count ≡ usedIn places (now pens)) × (m * 16 ≤ length (now gone)) ⌝ }
+    ensures { λ r. ⌜ r ≡ placeOf (leftWith (guidsIn m (now (gone .entry))) «view_states») (tableOf places (now (pens .entry))) ⌝ }
+{
+    let mut i = 0;
+    while i < count {
+        let o = i * 512;
+        let e = o + 512;
+        if left_with(&pens[o..e], gone, m, view_states) {
+            return i;
+        }
+        i += 1;
+    }
+    i
+}
+
+// Whether losing the GUIDs gone would leave some instance of the views without writers.
+pub fn would_leave_writerless(pens: &[u8], gone: &[u8], view_states: u32) -> Decision
+    ensures { λ r. ⌜ r ≡ wouldLeaveRead 128 (now (pens .entry)) (now (gone .entry)) «view_states» ⌝ }
+{
+    let number = list_refusal(pens, 128, gone);
+    if number != 0 {
+        return Decision::Refused(number);
+    }
+    let count = instance_table::used(pens, 128);
+    let m = gone.len() / 16;
+    let place = left_place(pens, 128, count, gone, m, view_states);
+    Decision::Is(place < count)
+}
+
+// Where instance i is left without writers its handle is written behind the k in Out. How many are there now.
+fn list_left(
+    pens: &[u8],
+    i: usize,
+    gone: &[u8],
+    m: usize,
+    view_states: u32,
+    out: &mut [u8],
+    k: usize,
+) -> usize
+    requires { ⌜ (i * 512 + 512 ≤ length (now pens)) × (instanceOk (instanceOf (recordAt (now pens) i)) ≡ true) × (m * 16 ≤ length (now gone)) × (k * 8 + 8 ≤ length (now out)) ⌝ }
+    ensures count { λ r. ⌜ r ≡ k + cond (leftWith (guidsIn m (now (gone .entry))) «view_states» (instanceOf (recordAt (now (pens .entry)) i))) 1 0 ⌝ }
+    ensures written { λ _. ⌜ now (out .exit) ≡ cond (leftWith (guidsIn m (now (gone .entry))) «view_states» (instanceOf (recordAt (now (pens .entry)) i)))
+        (put 8 (now (out .entry)) (k * 8) (instanceOf (recordAt (now (pens .entry)) i) .handle .0)) (now (out .entry)) ⌝ }
+{
+    let o = i * 512;
+    let e = o + 512;
+    if !left_with(&pens[o..e], gone, m, view_states) {
+        return k;
+    }
+    let h = instance_record::handle_at(pens, i);
+    octets::put_u64(out, k * 8, h.0);
+    k + 1
+}
+
+// The handles of the instances that losing the m GUIDs gone leaves without writers go to the front of Out, in key order.
+fn list_all_left(
+    pens: &[u8],
+    places: usize,
+    gone: &[u8],
+    m: usize,
+    view_states: u32,
+    out: &mut [u8],
+) -> usize
+    requires { ⌜ (tableRefusal places (now pens) ≡ 0) × (m * 16 ≤ length (now gone)) × (places * 8 ≤ length (now out)) ⌝ }
+    ensures { λ r. ⌜ ListedBy (leftWith (guidsIn m (now (gone .entry))) «view_states») (tableOf places (now (pens .entry))) (now (out .entry)) r (now (out .exit)) ⌝ }
+{
+    let count = instance_table::used(pens, places);
+    let mut i = 0;
+    let mut k = 0;
+    while i < count {
+        k = list_left(pens, i, gone, m, view_states, out, k);
+        i += 1;
+    }
+    k
+}
+
+// The handles of the instances of the views that losing the GUIDs gone leaves without writers, in key order, 8 bytes each
+// from the front of Out. How many there are.
+pub fn left_writerless(pens: &[u8], gone: &[u8], view_states: u32, out: &mut [u8]) -> Listing
+    ensures answer { λ r. ⌜ r ≡ leftRead 128 (now (pens .entry)) (now (gone .entry)) «view_states» (now (out .entry)) ⌝ }
+    ensures list { λ _. ⌜ now (out .exit) ≡ leftOut 128 (now (pens .entry)) (now (gone .entry)) «view_states» (now (out .entry)) ⌝ }
+{
+    if out.len() != 4096 {
+        return Listing::Refused(1);
+    }
+    let number = list_refusal(pens, 128, gone);
+    if number != 0 {
+        return Listing::Refused(number);
+    }
+    let m = gone.len() / 16;
+    let n = list_all_left(pens, 128, gone, m, view_states, out);
+    Listing::Listed(n as u32)
 }

@@ -5,10 +5,10 @@ use mathlib.Core.Path.{_≡_, _∙_}
 use native.Mathlib.Omega.{arith}
 use borrow.Author.Count.{below-more}
 use Rattle.model.specs.InstanceRecord.{instanceOf}
-use Rattle.model.specs.Reads.{writes}
+use Rattle.model.specs.Reads.{usedIn, writes}
 use Rattle.instance_record.specs.Parts.{recordAt}
 use Rattle.instance_reads.proofs.Members.{part-ok, part-told, place-table}
-use Rattle.instance_reads.proofs.Table.{whole}
+use Rattle.instance_reads.proofs.Table.{whole, room-at, valid-at}
 use Rattle.instance_reads.proofs.writer_place.Statement.{statement}
 use Rattle.instance_reads.proofs.writer_place.Tie as tie
 
@@ -39,7 +39,9 @@ part-writes-end c = let s = c .before .before .before in omega (arith, whole _ _
 writes-requires : tie.Need-writes-requires Inv-loop μ-loop
 writes-requires c κs =
     let s = c .before .before .before .before in
-    part-ok _ _ (s .pre .0) (c .before .before .loop .i) (omega (arith, s .pre .1))
+    let i = c .before .before .loop .i in
+    let h : i < usedIn (s .args .places) (s .args .pens .now) = omega (arith, s .pre .1) in
+    part-ok _ i (room-at _ _ (s .pre .0) i h) (valid-at _ _ (s .pre .0) i h)
 
 returns : tie.Need-returns Inv-loop μ-loop
 returns c =
