@@ -1,0 +1,51 @@
+-- `left_writerless` meets its contract, by its tests and what it calls. Assumes nothing.
+use mathlib.Core.Path.{sym, _∙_}
+use native.Mathlib.Omega.{arith}
+use borrow.Author.Needs.{needs}
+use Rattle.instance_reads.proofs.Left.{list-free}
+use Rattle.instance_reads.proofs.Lists.{listed-few, left-short, left-number, left-refused, left-listed}
+use Rattle.instance_reads.proofs.Table.{whole, count-table}
+use Rattle.instance_reads.proofs.left_writerless.Statement.{statement}
+use Rattle.instance_reads.proofs.left_writerless.Tie as tie
+
+returns : tie.Need-returns
+returns c =
+    left-refused _ _ _ _ _ (left-short _ _ _ _ (c .if1 .taken)) _ (λ z. omega arith)
+
+list-refusal-requires : tie.Need-list-refusal-requires
+list-refusal-requires c κs = search needs
+
+returns-2 : tie.Need-returns-2
+returns-2 c =
+    left-refused _ _ _ _ _ (left-number _ _ _ _ (c .before .before .if1 .left) _ (c .before .list-refusal .ensures)) _ (c .if2 .taken)
+
+list-all-left-requires : tie.Need-list-all-left-requires
+list-all-left-requires c κs =
+    let h = c .before .before in
+    (list-free _ _ _ (sym (h .list-refusal .ensures) ∙ c .before .if2 .left), omega arith, omega (arith, h .before .if1 .left))
+
+cast-t12 : tie.Need-cast-t12
+cast-t12 c =
+    let h = c .before .before .before .before in
+    let r = list-free _ _ _ (sym (h .before .list-refusal .ensures) ∙ h .if2 .left) in
+    omega (arith, listed-few (c .before .before .list-all-left .ensures), count-table 128 (c .before .before .before .before .before .before .before .before .before .before .args .pens .now), whole _ _ r .few)
+
+same-length : tie.Need-same-length
+same-length c = search needs
+
+returns-3 : tie.Need-returns-3
+returns-3 c =
+    let h = c .before .before .before .before in
+    left-listed _ _ _ _ _ (left-number _ _ _ _ (h .before .before .if1 .left) _ (h .before .list-refusal .ensures)) _ (h .if2 .left) _ _ (c .before .before .list-all-left .ensures)
+
+pub left-writerless-spec : {M : Type 1} → statement M
+left-writerless-spec =
+    tie.close
+    (tie.spec
+    returns
+    list-refusal-requires
+    returns-2
+    list-all-left-requires
+    cast-t12
+    same-length
+    returns-3)

@@ -1,0 +1,20 @@
+-- `locate` meets its contract: the used records are the table's instances, and their keys rise. Assumes nothing.
+use Rattle.model.specs.Reads.{tableOf}
+use Rattle.instance_reads.proofs.Table.{whole, located}
+use Rattle.instance_reads.proofs.locate.Statement.{statement}
+use Rattle.instance_reads.proofs.locate.Tie as tie
+
+used-requires : tie.Need-used-requires
+used-requires c κs = whole _ _ (c .before .pre) .size
+
+find-key-requires : tie.Need-find-key-requires
+unfolding tableOf
+find-key-requires c κs =
+    let w = whole _ _ (c .before .before .pre) in
+    rw (c .used .ensures) (w .room, w .rises)
+
+returns : tie.Need-returns
+returns c = located _ _ _ _ _ (c .before .used .ensures) (c .find-key .ensures)
+
+pub locate-spec : {M : Type 1} → statement M
+locate-spec = tie.close (tie.spec used-requires find-key-requires returns)

@@ -1,0 +1,37 @@
+-- `should_deliver_under_time_based_filter` meets its contract, by its tests and what it calls. Assumes nothing.
+use mathlib.Core.Path.{sym, _∙_}
+use borrow.Author.Needs.{needs}
+use Rattle.instance_reads.proofs.Answers.{filter-is, filter-refused, table-free}
+use Rattle.instance_reads.proofs.should_deliver_under_time_based_filter.Statement.{statement}
+use Rattle.instance_reads.proofs.should_deliver_under_time_based_filter.Tie as tie
+
+time-refusal-requires : tie.Need-time-refusal-requires
+time-refusal-requires c κs = search needs
+
+returns : tie.Need-returns
+returns c = filter-refused _ _ _ _ _ (c .before .time-refusal .ensures) _ (c .if1 .taken)
+
+times-of-requires : tie.Need-times-of-requires
+times-of-requires c κs = table-free _ _ _ (sym (c .before .time-refusal .ensures) ∙ c .if1 .left)
+
+bits-of-time-requires : tie.Need-bits-of-time-requires
+bits-of-time-requires c κs = search needs
+
+filter-admits-requires : tie.Need-filter-admits-requires
+filter-admits-requires c κs = search needs
+
+returns-2 : tie.Need-returns-2
+returns-2 c =
+    let h = c .before .before .before .before in
+    filter-is _ _ _ _ _ (h .before .time-refusal .ensures) _ (c .before .before .before .times-of .ensures) _ (c .before .bits-of-time .ensures) _ _ (h .if1 .left) (c .filter-admits .ensures)
+
+pub should-deliver-under-time-based-filter-spec : {M : Type 1} → statement M
+should-deliver-under-time-based-filter-spec =
+    tie.close
+    (tie.spec
+    time-refusal-requires
+    returns
+    times-of-requires
+    bits-of-time-requires
+    filter-admits-requires
+    returns-2)
