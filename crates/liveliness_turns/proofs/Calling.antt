@@ -141,3 +141,8 @@ module _ (c : TrackerCall) (s : Sheet) (act : Act) (head : Head) (w : List ℕ) 
       let xs = writersIn (head .«writer_count») w in
       turn-settles c s head pens w lost (map (actOf act) xs) (map guidIn (pick (shiftsBy act) xs)) (tallyOf act (head .«last_writer») xs) (head .«writer_count») after who refl
       (sym (length-map (pick (shiftsBy act) xs) guidIn)) refl (sym (length-map xs (actOf act) ∙ good .size)) p r w′ q (f ∙ rw long)
+
+-- no more writers are counted than there are
+pub both-few : (head : Head) (w : List ℕ) → Good head w → head .alive + head .«not_alive» ≤ 128
+both-few head w g =
+    omega (arith, g .alive, g .notAlive, counts-apart (writersIn (head .«writer_count») w), g .size, g .ready .sound .few)

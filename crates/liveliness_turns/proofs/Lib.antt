@@ -4,3 +4,4 @@ pub mod Holding
 pub mod Singles
 pub mod Matches
 pub mod Calling
+pub mod Calls

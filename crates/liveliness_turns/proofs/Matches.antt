@@ -242,19 +242,19 @@ module _ (s : Sheet) (head : Head) (w : List ℕ) (bytes : Bytes w) (long : leng
 
   -- ---- what the call leaves
 
+  pub ready : (w₁ : List ℕ) (n : ℕ) → Put s head w w₁ n → Ready head n w₁
+  ready w₁ n p =
+      record {
+        sound = p .sound;
+        alive = good .ready .alive;
+        notAlive = good .ready .notAlive;
+        ackAlive = good .ready .ackAlive;
+        ackNotAlive = good .ready .ackNotAlive;
+      }
+
   module _ (w₁ : List ℕ) (n : ℕ) (p : Put s head w w₁ n) (pens lost : List ℕ) (late : trackerLate Matched s (heldBy head pens w lost) ≡ 0) where
     plain : Plain Matched s (heldBy head pens w lost)
     plain = record { late = late; told = refl; lost = refl; ackAlive = refl; ackNotAlive = refl }
-
-    pub ready : Ready head n w₁
-    ready =
-        record {
-          sound = p .sound;
-          alive = good .ready .alive;
-          notAlive = good .ready .notAlive;
-          ackAlive = good .ready .ackAlive;
-          ackNotAlive = good .ready .ackNotAlive;
-        }
 
     pub match-kept : matchAsserts s ws ≡ false → (r : Called) → r ≡ calledBy head n (stillTally head) → Settles (trackerCall Matched s (heldBy head pens w lost)) r w₁
     match-kept e r q =
