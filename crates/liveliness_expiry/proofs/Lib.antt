@@ -1,0 +1,2 @@
+-- Laws that the proofs of liveliness_expiry cite.
+pub mod Expiring

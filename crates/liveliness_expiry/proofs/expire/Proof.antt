@@ -1,0 +1,55 @@
+-- `liveliness_expiry::expire` meets its contract. Assumes nothing.
+use native.Mathlib.Omega.{arith}
+use borrow.Author.Needs.{needs}
+use Rattle.liveliness_turns.proofs.Holding.{good}
+use Rattle.writer_pass.proofs.Picks.{pick-le}
+use Rattle.model.specs.State.{writersIn}
+use Rattle.model.specs.Writers.{expires}
+use Rattle.liveliness_expiry.proofs.Expiring.{lost-few, expire-full}
+use Rattle.liveliness_expiry.proofs.expire.Statement.{statement}
+use Rattle.liveliness_expiry.proofs.expire.Tie as tie
+
+cast-count : tie.Need-cast-count
+cast-count c = search needs
+
+expiring-requires : tie.Need-expiring-requires
+expiring-requires c κs = (good (c .before .before .before .before .args .head) (c .before .before .before .before .args .writers .now) (λ j. (c .before .before .before .slice-known .given) j .fits) (c .before .before .before .before .pre .0)) .ready .sound
+
+add-if1 : tie.Need-add-if1
+add-if1 c = omega (arith, (c .before .expiring .ensures), pick-le (expires (c .before .before .before .before .before .before .args .sheet .a)) (writersIn (c .before .before .before .before .before .before .args .head .«writer_count») (c .before .before .before .before .before .before .args .writers .now)), (good (c .before .before .before .before .before .before .args .head) (c .before .before .before .before .before .before .args .writers .now) (λ j. (c .before .before .before .before .before .slice-known .given) j .fits) (c .before .before .before .before .before .before .pre .0)) .size, (good (c .before .before .before .before .before .before .args .head) (c .before .before .before .before .before .before .args .writers .now) (λ j. (c .before .before .before .before .before .slice-known .given) j .fits) (c .before .before .before .before .before .before .pre .0)) .ready .sound .few, lost-few (c .before .before .before .before .before .before .args .head .«lost_count») (c .before .before .before .before .before .before .args .lost .now) (c .before .before .before .before .before .before .pre .2))
+
+refused-requires : tie.Need-refused-requires
+refused-requires c κs = search needs
+
+same-length : tie.Need-same-length
+same-length c = search needs
+
+returns : tie.Need-returns
+returns c = expire-full (c .before .before .before .before .before .before .before .before .args .sheet) (c .before .before .before .before .before .before .before .before .args .head) (c .before .before .before .before .before .before .before .before .args .writers .now) (c .before .before .before .before .before .before .before .before .args .lost .now) (λ j. (c .before .before .before .before .before .before .before .slice-known .given) j .fits) (c .before .before .before .before .before .before .before .before .pre .0) (λ j. (c .before .before .before .before .before .before .slice-known2 .given) j .fits) (c .before .before .before .before .before .before .before .before .pre .1) (c .before .before .before .before .before .before .before .before .pre .2) (c .before .before .before .expiring .result) (c .before .before .before .expiring .ensures) (c .before .if1 .taken) (c .refused .result) (c .refused .ensures .0) (c .refused .ensures .1)
+
+expire-within-requires : tie.Need-expire-within-requires
+expire-within-requires c κs = search needs
+
+same-length-2 : tie.Need-same-length-2
+same-length-2 c = search needs
+
+same-length-3 : tie.Need-same-length-3
+same-length-3 c = search needs
+
+returns-2 : tie.Need-returns-2
+returns-2 c = search needs
+
+pub expire-spec : {M : Type 1} → statement M
+expire-spec =
+    tie.close
+    (tie.spec
+    cast-count
+    expiring-requires
+    add-if1
+    refused-requires
+    same-length
+    returns
+    expire-within-requires
+    same-length-2
+    same-length-3
+    returns-2)

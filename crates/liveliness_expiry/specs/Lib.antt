@@ -1,0 +1,2 @@
+-- What the contracts of liveliness_expiry cite.
+pub mod Losing

@@ -1,0 +1,53 @@
+// The tracker calls on Lost: code 37, which declares the writers whose lease ran out, and code 38, which takes the list.
+// Each does what model's `trackerCall` says; refusal 12 is answered here, with nothing written. Rests on octets, model,
+// writer_pass, liveliness_counts and liveliness_turns.
+//
+// Derives from liveliness_tracker.rs of ZeroDDS (DDS 1.4, 2.2.2.5.1.3, 2.2.3.9.2 and 2.2.4.1).
+// Copyright 2026 ZeroDDS Contributors. SPDX-License-Identifier: Apache-2.0. Changed: written anew in Rattle, Lost as a
+// list of GUIDs in lent bytes.
+use model::Called;
+use model::Head;
+use model::Sheet;
+use writer_pass::Act;
+ghost use mathlib.Core.Bool.{true};
+ghost use mathlib.Core.List.{List};
+ghost use mathlib.Core.Path.{_≡_};
+ghost use Prim.Native.Nat.{ℕ, _+_, _≤_};
+ghost use lib.ListN.{length};
+ghost use Rattle.model.specs.State.{writersIn};
+ghost use Rattle.model.specs.Tables.{pick};
+ghost use Rattle.model.specs.WellFormed.{lostOk};
+ghost use Rattle.model.specs.Writers.{expires};
+ghost use Rattle.liveliness_turns.specs.Held.{Held};
+ghost use Rattle.liveliness_expiry.specs.Losing.{Expires};
+
+// What the expiry leaves, once there is room for the writers that expire: they go to Lost, and the pass declares them.
+fn expire_within(sheet: Sheet, head: Head, writers: &mut [u8], lost: &mut [u8], gone: u32) -> Called
+    requires { ⌜ Held head (now writers) × (length (now lost) ≡ 4096) × (lostOk (head .«lost_count») (now lost) ≡ true)
+        × (gone ≡ length (pick (expires (sheet .a)) (writersIn (head .«writer_count») (now writers)))) × (head .«lost_count» + gone ≤ 256) ⌝ }
+    ensures { λ r. ⌜ Expires sheet head (now (writers .entry)) (now (lost .entry)) r (now (writers .exit)) (now (lost .exit)) ⌝ }
+{
+    let clock = sheet.a;
+    let count = head.writer_count as usize;
+    let n = head.lost_count;
+    let last = head.last_writer;
+    writer_pass::note_expiring(writers, count, clock, lost, n as usize);
+    let tally = writer_pass::pass(writers, count, Act::Expire(clock), last);
+    let due = writer_pass::next_due(writers, count);
+    let h = liveliness_counts::settle(head, head.writer_count, n + gone, tally);
+    let a = liveliness_counts::saying_due(tally.moved != 0, due);
+    Called { answer: a, head: h }
+}
+
+// Code 37: every alive writer whose lease has run out at the clock becomes not alive.
+pub fn expire(sheet: Sheet, head: Head, writers: &mut [u8], lost: &mut [u8]) -> Called
+    requires { ⌜ Held head (now writers) × (length (now lost) ≡ 4096) × (lostOk (head .«lost_count») (now lost) ≡ true) ⌝ }
+    ensures { λ r. ⌜ Expires sheet head (now (writers .entry)) (now (lost .entry)) r (now (writers .exit)) (now (lost .exit)) ⌝ }
+{
+    let count = head.writer_count as usize;
+    let gone = writer_pass::expiring(writers, count, sheet.a);
+    if 256 < head.lost_count + gone {
+        return liveliness_counts::refused(12, head);
+    }
+    expire_within(sheet, head, writers, lost, gone)
+}

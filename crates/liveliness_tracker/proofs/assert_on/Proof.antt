@@ -1,0 +1,26 @@
+-- `liveliness_tracker::assert_on` meets its contract. Assumes nothing.
+use mathlib.Core.Path.{ap, _∙_}
+use borrow.Author.Needs.{needs}
+use Rattle.liveliness_counts.specs.Turns.{calledBy}
+use Rattle.liveliness_turns.proofs.Calling.{room-pass}
+use Rattle.writer_pass.specs.declared.Act.the-variants.{Assert}
+use Rattle.model.proofs.RowLaws.{length-read}
+use Rattle.model.specs.State.{writersIn}
+use Rattle.model.specs.WriterRecord.{writerOf}
+use Rattle.liveliness_tracker.proofs.assert_on.Statement.{statement}
+use Rattle.liveliness_tracker.proofs.assert_on.Tie as tie
+
+pass-requires : tie.Need-pass-requires
+pass-requires c κs = search needs
+
+called-requires : tie.Need-called-requires
+called-requires c κs = room-pass (c .before .before .before .before .before .args .head) (c .before .before .before .before .before .args .count) (c .before .before .before .before .before .args .writers .now) (c .before .before .before .before .before .pre) (Assert (c .before .before .before .before .before .args .a)) (c .before .before .before .before .before .args .head .«last_writer») (c .before .before .pass .result) (writersIn (c .before .before .before .before .before .args .count) (c .before .before .before .before .before .args .writers .now)) (rw (length-read writerOf 40 (c .before .before .before .before .before .args .count) (c .before .before .before .before .before .args .writers .now)) (c .before .before .before .before .before .pre .sound .few)) (c .before .before .pass .ensures .1)
+
+same-length : tie.Need-same-length
+same-length c = search needs
+
+returns : tie.Need-returns
+returns c = ((c .before .before .before .pass .ensures .0), (c .called .ensures) ∙ ap (calledBy (c .before .before .before .before .before .before .args .head) (c .before .before .before .before .before .before .args .count)) (c .before .before .before .pass .ensures .1))
+
+pub assert-on-spec : {M : Type 1} → statement M
+assert-on-spec = tie.close (tie.spec pass-requires called-requires same-length returns)

@@ -1,0 +1,57 @@
+-- `liveliness_tracker::lost_with_participant` meets its contract. Assumes nothing.
+use mathlib.Core.Path.{sym, refl, _∙_}
+use native.Mathlib.Omega.{arith}
+use borrow.Author.Needs.{needs}
+use Rattle.liveliness_counts.specs.Turns.{stillTally}
+use Rattle.liveliness_turns.proofs.Calling.{find-rises, room-still}
+use Rattle.liveliness_turns.proofs.Calls.{lost-missing}
+use Rattle.liveliness_turns.proofs.Holding.{good}
+use Rattle.liveliness_tracker.proofs.lost_with_participant.Statement.{statement}
+use Rattle.liveliness_tracker.proofs.lost_with_participant.Tie as tie
+
+cast-count : tie.Need-cast-count
+cast-count c = search needs
+
+find-requires : tie.Need-find-requires
+find-requires c κs =
+    let g = good (c .before .before .before .before .args .head) (c .before .before .before .before .args .writers .now) (λ j. (c .before .before .before .slice-known .given) j .fits) (c .before .before .before .before .pre) in
+    (omega arith, g .ready .sound .room, find-rises (c .before .before .before .before .args .head) (c .before .before .before .before .args .writers .now) g)
+
+enum-known-i : tie.Need-enum-known-i
+enum-known-i c = search needs
+
+lost-at-requires : tie.Need-lost-at-requires
+lost-at-requires c κs = ((c .before .before .before .before .before .before .before .before .before .pre), sym (c .before .before .before .before .find .ensures) ∙ (c .before .before .i .given .1))
+
+enum-told : tie.Need-enum-told
+enum-told c = search needs
+
+kept-requires : tie.Need-kept-requires
+kept-requires c κs = room-still (c .before .before .before .before .before .before .before .args .head) (c .before .before .before .before .before .before .before .args .head .«writer_count») (c .before .before .before .before .before .before .before .args .writers .now) ((good (c .before .before .before .before .before .before .before .args .head) (c .before .before .before .before .before .before .before .args .writers .now) (λ j. (c .before .before .before .before .before .before .slice-known .given) j .fits) (c .before .before .before .before .before .before .before .pre)) .ready) (stillTally (c .before .before .before .before .before .before .before .args .head)) refl
+
+same-length : tie.Need-same-length
+same-length c = search needs
+
+returns : tie.Need-returns
+returns c = search needs
+
+same-length-2 : tie.Need-same-length-2
+same-length-2 c = search needs
+
+returns-2 : tie.Need-returns-2
+returns-2 c = lost-missing (c .before .before .before .before .before .before .before .before .args .sheet) (c .before .before .before .before .before .before .before .before .args .head) (c .before .before .before .before .before .before .before .before .args .writers .now) (λ j. (c .before .before .before .before .before .before .before .slice-known .given) j .fits) (c .before .before .before .before .before .before .before .before .pre) _ (sym (c .before .before .before .find .ensures) ∙ (c .before .enum-told .given .1)) (c .kept .result) (c .kept .ensures)
+
+pub lost-with-participant-spec : {M : Type 1} → statement M
+lost-with-participant-spec =
+    tie.close
+    (tie.spec
+    cast-count
+    find-requires
+    enum-known-i
+    lost-at-requires
+    enum-told
+    kept-requires
+    same-length
+    returns
+    same-length-2
+    returns-2)

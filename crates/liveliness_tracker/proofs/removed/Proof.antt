@@ -1,0 +1,51 @@
+-- `liveliness_tracker::removed` meets its contract. Assumes nothing.
+use Prim.Native.Nat.{_-_}
+use mathlib.Core.Path.{ap, _∙_}
+use native.Mathlib.Omega.{arith}
+use borrow.Author.Needs.{needs}
+use Rattle.liveliness_counts.specs.Turns.{calledBy, goneTally}
+use Rattle.liveliness_turns.proofs.Calling.{alive-there, not-alive-there, room-gone}
+use Rattle.liveliness_turns.proofs.Holding.{good}
+use Rattle.liveliness_tracker.proofs.removed.Statement.{statement}
+use Rattle.liveliness_tracker.proofs.removed.Tie as tie
+
+writer-at-requires : tie.Need-writer-at-requires
+writer-at-requires c κs =
+    let g = good (c .before .before .args .head) (c .before .before .args .writers .now) (λ j. (c .before .slice-known .given) j .fits) (c .before .before .pre .0) in
+    omega (arith, g .ready .sound .room, (c .before .before .pre .1))
+
+cast-close-gap : tie.Need-cast-close-gap
+cast-close-gap c = search needs
+
+close-gap-requires : tie.Need-close-gap-requires
+close-gap-requires c κs =
+    let g = good (c .before .before .before .before .args .head) (c .before .before .before .before .args .writers .now) (λ j. (c .before .before .before .slice-known .given) j .fits) (c .before .before .before .before .pre .0) in
+    ((c .before .before .before .before .pre .1), g .ready .sound .room)
+
+gone-requires : tie.Need-gone-requires
+gone-requires c κs = (alive-there (c .before .before .before .before .before .before .before .args .head) (c .before .before .before .before .before .before .before .args .writers .now) (good (c .before .before .before .before .before .before .before .args .head) (c .before .before .before .before .before .before .before .args .writers .now) (λ j. (c .before .before .before .before .before .before .slice-known .given) j .fits) (c .before .before .before .before .before .before .before .pre .0)) (c .before .before .before .before .before .before .before .args .i) (c .before .before .before .before .writer-at .result) (c .before .before .before .before .before .before .before .pre .1) (c .before .before .before .before .writer-at .ensures), not-alive-there (c .before .before .before .before .before .before .before .args .head) (c .before .before .before .before .before .before .before .args .writers .now) (good (c .before .before .before .before .before .before .before .args .head) (c .before .before .before .before .before .before .before .args .writers .now) (λ j. (c .before .before .before .before .before .before .slice-known .given) j .fits) (c .before .before .before .before .before .before .before .pre .0)) (c .before .before .before .before .before .before .before .args .i) (c .before .before .before .before .writer-at .result) (c .before .before .before .before .before .before .before .pre .1) (c .before .before .before .before .writer-at .ensures))
+
+sub-called : tie.Need-sub-called
+sub-called c = search needs
+
+called-requires : tie.Need-called-requires
+called-requires c κs = room-gone (c .before .before .before .before .before .before .before .before .args .head) (c .before .before .before .before .before .before .before .before .args .head .«writer_count») (c .before .before .before .before .before .before .before .before .args .writers .now) ((good (c .before .before .before .before .before .before .before .before .args .head) (c .before .before .before .before .before .before .before .before .args .writers .now) (λ j. (c .before .before .before .before .before .before .before .slice-known .given) j .fits) (c .before .before .before .before .before .before .before .before .pre .0)) .ready) (c .gone .result) (c .before .before .before .before .before .writer-at .result) (c .gone .ensures)
+
+same-length : tie.Need-same-length
+same-length c = search needs
+
+returns : tie.Need-returns
+returns c = ((c .before .before .before .before .close-gap .ensures), (c .called .ensures) ∙ ap (calledBy (c .before .before .before .before .before .before .before .before .before .args .head) ((c .before .before .before .before .before .before .before .before .before .args .head .«writer_count») - 1)) ((c .before .gone .ensures) ∙ ap (goneTally (c .before .before .before .before .before .before .before .before .before .args .head)) (c .before .before .before .before .before .before .writer-at .ensures)))
+
+pub removed-spec : {M : Type 1} → statement M
+removed-spec =
+    tie.close
+    (tie.spec
+    writer-at-requires
+    cast-close-gap
+    close-gap-requires
+    gone-requires
+    sub-called
+    called-requires
+    same-length
+    returns)

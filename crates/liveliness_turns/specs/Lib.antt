@@ -1,0 +1,2 @@
+-- What the contracts of the tracker calls cite.
+pub mod Held
