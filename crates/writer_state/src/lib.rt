@@ -114,7 +114,7 @@ fn covers_kind(k: LivelinessKind, manual: bool) -> bool
     match k {
         LivelinessKind::Automatic => true,
         LivelinessKind::ManualByParticipant => manual,
-        LivelinessKind::ManualByTopic => false,
+        LivelinessKind::ManualByTopic => false, // by name alone
     }
 }
 
