@@ -1,6 +1,6 @@
 -- A call that acts on one instance.
 --     insert-known, room           a writer has room where it is known, or where fewer than 16 are
---     crowds-is                    the test of it, by the set's own length
+--     crowds-full                  the test of it, by the set's own length
 --     few-left                     what a call leaves has at most 16 writers
 --     acted-of                     what the effect leaves, as an instance
 -- Assumes nothing.
@@ -36,7 +36,7 @@ use Rattle.instance_state.specs.Effects.{Usable, Room, leftOf}
 use Rattle.instance_state.proofs.Keeps.{Closed, Asked, kept}
 use Rattle.instance_tracker.specs.Rules.{single}
 use Rattle.instance_tracker.specs.Turned.{withState, Acted}
-use Rattle.instance_tracker.proofs.Turns.{effect-some}
+use Rattle.instance_tracker.proofs.Turns.{of-call}
 
 -- ---- room for a writer
 
@@ -144,16 +144,13 @@ left-is false z o e h = clash (isSome o) h (ap isSome (sym e))
 pub acted-of : (c : InstanceCall) (s : Sheet) (x : Instance) (e : Effect) → single (rule c .reach) ≡ true → Usable (x .state) →
     (rule c .addsWriter ≡ true → Room (s .guid) (x .state)) → leftOf e ≡ effect c s (x .state) → Acted c s x (withState x (e .state))
 acted-of c s x e h u r q =
-    let l : effect c s (x .state) ≡ some (e .state) = left-is (e .keep) (e .state) (effect c s (x .state)) q (effect-some c s (x .state) h) in
+    let l : effect c s (x .state) ≡ some (e .state) = left-is (e .keep) (e .state) (effect c s (x .state)) q (of-call c s (x .state) .lasting h) in
     record { left = l; same = refl; few = omega (arith, few-left s (x .state) c (u .writers .few) r (e .state) l) }
 
 -- ---- the tests of the code
 
--- where the writer is known, and where it is not
+-- where the writer is new
 module _ (s : Sheet) (x : Instance) (u : Usable (x .state)) where
-  pub crowds-known : has (s .guid) (writersIn (x .state)) ≡ true → crowds s (some x) ≡ false
-  crowds-known h = rw h
-
   pub crowds-full : has (s .guid) (writersIn (x .state)) ≡ false → crowds s (some x) ≡ leb 16 (x .state .writers .len)
   crowds-full h =
       rw (h, length-members (x .state .writers) (sound-size (x .state .writers) (u .writers)) (u .writers .few))

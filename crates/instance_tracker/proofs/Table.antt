@@ -1,8 +1,12 @@
 -- From the lent table to the list of its instances, and back.
 --     ready-length, ready-rises, ready-distinct, ready-few, ready-laid, ready-place, ready-room-all, ready-read, ready-usable, ready-room
 --                                          what a ready table gives
---     done-left, same-left                 what the code leaves is what the turn leaves
---     changed-left, started-left           the same, of an instance changed, and of one put in
+--     done-left                            what the code leaves is what the turn leaves
+--     absent-left                          the same where no instance is reached
+--     reached-place, reached-usable, reached-room, crowded-left, changed-left
+--                                          where one is reached: what its change asks; refusal 10; the change
+--     starts-within, starts-asked, limited-left, full-left, spent-left, started-left
+--                                          where one would start: what that asks; none at the limit; refusals 9 and 13; the start
 --     reached-key, absent-key, reached-handle, absent-handle
 --                                          from what was found to what is reached
 -- Assumes nothing.
@@ -30,9 +34,9 @@ use Rattle.model.specs.Handles.{allocated}
 use Rattle.model.specs.InstanceCalls.{crowds, unchanged, instanceCall}
 use Rattle.model.specs.InstanceCalls as calls
 use Rattle.model.specs.InstanceRecord.{instanceOf}
-use Rattle.model.specs.Instances.{Reach, byKey, startingByKey, startingWithin, byHandle, every, rule, hasKey, hasHandle, reachesBy, startsBy, limitedBy, started, startedState, writersIn}
+use Rattle.model.specs.Instances.{rule, hasKey, hasHandle, reachesBy, startsBy, limitedBy, started, startedState, writersIn}
 use Rattle.model.specs.Sets.{has}
-use Rattle.model.specs.State.{instanceKey, instancesIn}
+use Rattle.model.specs.State.{State, instanceKey, instancesIn}
 use Rattle.model.specs.Tables.{rising}
 use Rattle.model.specs.Times.{negative}
 use Rattle.model.specs.WellFormed.{instanceOk, handlesDistinct}
@@ -48,10 +52,11 @@ use Rattle.instance_state.proofs.Valid.{usable, valid-parts, started-valid}
 use Rattle.instance_table.specs.Laid.{Laid}
 use Rattle.instance_table.proofs.LaidOut.{Formed, table-formed, table-laid}
 use Rattle.instance_table.proofs.Rows.{get-read}
+use Rattle.instance_tracker.specs.declared.TableCall.{TableCall}
 use Rattle.instance_tracker.specs.Rules.{single, handled, saysOf, answerOf}
-use Rattle.instance_tracker.specs.Turned.{Ready, Left, Turned, stateWith, blank, Acted, Reached, Absent, Starts}
+use Rattle.instance_tracker.specs.Turned.{Ready, left, Left, Turned, stateWith, blank, Acted, Reached, Absent, Starts}
 use Rattle.instance_tracker.proofs.Acting.{room}
-use Rattle.instance_tracker.proofs.Turns.{starts-single, starts-alone, keyed-only, keyed-nowhere, and-false, call-found, call-crowded, call-none, call-limited, call-full, call-spent, call-started}
+use Rattle.instance_tracker.proofs.Turns.{of-call, key-reach, handle-reach, starts-is, and-false, call-found, call-crowded, call-none, call-limited, call-full, call-spent, call-started}
 
 module _ {places count next : ℕ} {t : List ℕ} (r : Ready places count next t) where
   abbrev xs : List Instance
@@ -109,68 +114,68 @@ module _ {places count next : ℕ} {t : List ℕ} (r : Ready places count next t
 abbrev turnWith : Answer → List Instance → ℕ → calls.Turned
 turnWith a ys next = record { answer = a; state = stateWith ys next; list = [] }
 
-pub done-left : {places : ℕ} {T : calls.Turned} {a : Answer} {ys : List Instance} {next : ℕ} {t : List ℕ} → T ≡ turnWith a ys next →
-    (b : Answer) (n : ℕ) (h : InstanceHandle) → b ≡ a → n ≡ length ys → h .0 ≡ next → Laid places ys t →
-    Left places T (record { answer = b; count = n; «next_handle» = h }) t
-done-left q b n h e m k l = rw q (record { answer = e; count = m; next = k; laid = l; quiet = refl })
+pub done-left : {places : ℕ} {T : calls.Turned} {a : Answer} {ys : List Instance} {t : List ℕ} (n : ℕ) (h : InstanceHandle) → T ≡ turnWith a ys (h .0) →
+    n ≡ length ys → Laid places ys t → Left places T (left a n h) t
+done-left n h q m l = rw q (record { answer = refl; count = m; next = refl; laid = l; quiet = refl })
 
-module _ {places count next : ℕ} {t : List ℕ} (r : Ready places count next t) (bytes : Bytes t) (c : InstanceCall) (s : Sheet) where
+module _ {places count : ℕ} {t : List ℕ} (next : InstanceHandle) (r : Ready places count (next .0) t) where
+  abbrev st : State
+  st = stateWith (instancesIn count t) (next .0)
+
+  -- what the call leaves, by value and in the table
+  abbrev Leaves : InstanceCall → Sheet → TableCall → List ℕ → Type 0
+  Leaves c s z u = Turned places c s (instancesIn count t) (next .0) z u
+
   -- nothing is written
-  pub same-left : (a b : Answer) (h : InstanceHandle) → instanceCall places c s (stateWith (instancesIn count t) next) ≡ unchanged a (stateWith (instancesIn count t) next) →
-      b ≡ a → h .0 ≡ next → Turned places c s (instancesIn count t) next (record { answer = b; count = count; «next_handle» = h }) t
-  same-left a b h q e k = done-left q b count h e (sym (ready-length r)) k (ready-laid r bytes)
-
-  -- ---- the instance at place i is reached
-
-  pub reached-place : (i : ℕ) → Reached c s (instancesIn count t) i → i * 512 + 512 ≤ length t
-  reached-place i reach = ready-place r i (omega (arith, reach .only .within, ready-length r, ready-few r))
-
-  module _ (i : ℕ) (x : Instance) (read : x ≡ instanceOf (take 512 (drop (i * 512) t))) (reach : Reached c s (instancesIn count t) i) where
-    within : i < count
-    within = omega (arith, reach .only .within, ready-length r)
-
-    is : x ≡ getD (instancesIn count t) i blank
-    is = read ∙ sym (ready-read r i within)
-
-    pub reached-usable : Usable (x .state)
-    reached-usable = rw is (ready-usable r i within)
-
-    pub reached-room : (rule c .addsWriter && crowds s (some x)) ≡ false → rule c .addsWriter ≡ true → Room (s .guid) (x .state)
-    reached-room h a =
-        let n : crowds s (some x) ≡ false = rw a at h in
-        rw is (ready-room r i within (s .guid) (rw is at n))
-
-    pub crowded-left : (b : Answer) (h : InstanceHandle) → (rule c .addsWriter && crowds s (some x)) ≡ true → b ≡ refusedWith 10 → h .0 ≡ next →
-        Turned places c s (instancesIn count t) next (record { answer = b; count = count; «next_handle» = h }) t
-    crowded-left b h n e k =
-        same-left (refusedWith 10) b h
-        (call-crowded c s (stateWith (instancesIn count t) next) places (reach .old) i blank (reach .one) (reach .only) (rw is at n)) e k
-
-    pub changed-left : (y : Instance) (b : Answer) (h : InstanceHandle) (u : List ℕ) → (rule c .addsWriter && crowds s (some x)) ≡ false → Acted c s x y →
-        b ≡ answerOf (saysOf c) s (some x) (some y) → h .0 ≡ next →
-        ((places : ℕ) (xs : List Instance) → Laid places xs t → i < length xs → Laid places (set xs i y) u) →
-        Turned places c s (instancesIn count t) next (record { answer = b; count = count; «next_handle» = h }) u
-    changed-left y b h u n a e k l =
-        let xs : List Instance = instancesIn count t in
-        let g : Instance = getD xs i blank in
-        let act : Acted c s g y = subst (λ (z : Instance). Acted c s z y) is a in
-        let q = call-found c s (stateWith xs next) places (reach .old) i blank (reach .one) (reach .only) (y .state) (act .left) (rw is at n) in
-        let w = ap (λ (z : Instance). turnWith (answerOf (saysOf c) s (some g) (some z)) (set xs i z) next) (sym (act .same)) in
-        done-left (q ∙ w) b count h (e ∙ rw is) (sym (length-set xs i y ∙ ready-length r)) k (l places xs (ready-laid r bytes) (reach .only .within))
+  same-left : Bytes t → (c : InstanceCall) (s : Sheet) (a : Answer) → instanceCall places c s st ≡ unchanged a st → Leaves c s (left a count next) t
+  same-left bytes c s a q = done-left count next q (sym (ready-length r)) (ready-laid r bytes)
 
   -- ---- no instance is reached, and none starts
 
-  pub absent-left : Absent c s (instancesIn count t) → (b : Answer) (h : InstanceHandle) → b ≡ answerOf (saysOf c) s none none → h .0 ≡ next →
-      Turned places c s (instancesIn count t) next (record { answer = b; count = count; «next_handle» = h }) t
-  absent-left a b h e k =
-      same-left (answerOf (saysOf c) s none none) b h
-      (call-none c s (stateWith (instancesIn count t) next) places (rw (a .idle)) blank (a .one) (a .nowhere)) e k
+  pub absent-left : {c : InstanceCall} {s : Sheet} → Absent c s (instancesIn count t) → Bytes t → Leaves c s (left (answerOf (saysOf c) s none none) count next) t
+  absent-left {c} {s} a bytes =
+      same-left bytes c s (answerOf (saysOf c) s none none) (call-none c s st places (rw (a .idle)) blank (a .one) (a .nowhere))
+
+  -- ---- the instance at place i is reached
+
+  module _ {c : InstanceCall} {s : Sheet} {i : ℕ} (reach : Reached c s (instancesIn count t) i) where
+    within : i < count
+    within = omega (arith, reach .only .within, ready-length r)
+
+    pub reached-place : i * 512 + 512 ≤ length t
+    reached-place = ready-place r i (omega (arith, within, ready-few r))
+
+    module _ {x : Instance} (read : x ≡ instanceOf (take 512 (drop (i * 512) t))) where
+      is : x ≡ getD (instancesIn count t) i blank
+      is = read ∙ sym (ready-read r i within)
+
+      pub reached-usable : Usable (x .state)
+      reached-usable = rw is (ready-usable r i within)
+
+      pub reached-room : (rule c .addsWriter && crowds s (some x)) ≡ false → rule c .addsWriter ≡ true → Room (s .guid) (x .state)
+      reached-room h a = let n : crowds s (some x) ≡ false = rw a at h in rw is (ready-room r i within (s .guid) (rw is at n))
+
+      pub crowded-left : Bytes t → (rule c .addsWriter && crowds s (some x)) ≡ true → Leaves c s (left (refusedWith 10) count next) t
+      crowded-left bytes n =
+          same-left bytes c s (refusedWith 10) (call-crowded c s st places (reach .old) i blank (reach .one) (reach .only) (rw is at n))
+
+      pub changed-left : Bytes t → (rule c .addsWriter && crowds s (some x)) ≡ false → (y : Instance) → Acted c s x y → (u : List ℕ) →
+          ((places : ℕ) (xs : List Instance) → Laid places xs t → i < length xs → Laid places (set xs i y) u) →
+          Leaves c s (left (answerOf (saysOf c) s (some x) (some y)) count next) u
+      changed-left bytes n y a u l =
+          let xs : List Instance = instancesIn count t in
+          let g : Instance = getD xs i blank in
+          let act : Acted c s g y = subst (λ (z : Instance). Acted c s z y) is a in
+          let q = call-found c s st places (reach .old) i blank (reach .one) (reach .only) (y .state) (act .left) (rw is at n) in
+          let w = ap (λ (z : Instance). turnWith (answerOf (saysOf c) s (some g) (some z)) (set xs i z) (next .0)) (sym (act .same)) in
+          rw is
+          (done-left count next (q ∙ w) (sym (length-set xs i y ∙ ready-length r)) (l places xs (ready-laid r bytes) (reach .only .within)))
 
   -- ---- an instance starts at place i
 
-  module _ (i : ℕ) (begin : Starts c s (instancesIn count t) i) where
+  module _ {c : InstanceCall} {s : Sheet} {i : ℕ} (begin : Starts c s (instancesIn count t) i) where
     -- the limit
-    abbrev pub limit : Bool
+    abbrev limit : Bool
     limit = limitedBy (rule c .reach) && (not (negative (s .first)) && leb (s .first) count)
 
     counted : limit ≡ (limitedBy (rule c .reach) && (not (negative (s .first)) && leb (s .first) (length (instancesIn count t))))
@@ -181,51 +186,45 @@ module _ {places count next : ℕ} {t : List ℕ} (r : Ready places count next t
         omega (arith, missing-le instanceKey (instancesIn count t) blank (ready-rises r) (num (s .key)) i (begin .missing), ready-length r)
 
     -- what the effect asks of a started instance
-    pub starts-asked : (x : Instance) (n : ℕ) → x ≡ started (s .key) n →
+    pub starts-asked : {x : Instance} (n : ℕ) → x ≡ started (s .key) n →
         (single (rule c .reach) ≡ true) × Usable (x .state) × (rule c .addsWriter ≡ true → Room (s .guid) (x .state))
     unfolding started startedState
-    starts-asked x n e = (
-      starts-single (rule c .reach) (begin .starts),
+    starts-asked n e = (
+      starts-is (rule c .reach) (begin .starts) .0,
       rw e (usable startedState refl started-valid),
-      (λ a. clash (rule c .addsWriter) a (starts-alone c (begin .starts))),
+      (λ a. clash (rule c .addsWriter) a (of-call c s startedState .alone (begin .starts))),
     )
 
-    pub limited-left : (b : Answer) (h : InstanceHandle) → limit ≡ true → b ≡ silent → h .0 ≡ next →
-        Turned places c s (instancesIn count t) next (record { answer = b; count = count; «next_handle» = h }) t
-    limited-left b h m e k =
-        same-left silent b h
-        (call-limited c s (stateWith (instancesIn count t) next) places i blank (ready-rises r) (begin .missing) (begin .starts) (sym counted ∙ m)) e k
+    pub limited-left : Bytes t → limit ≡ true → Leaves c s (left silent count next) t
+    limited-left bytes m =
+        same-left bytes c s silent (call-limited c s st places i blank (ready-rises r) (begin .missing) (begin .starts) (sym counted ∙ m))
 
     module _ (m : limit ≡ false) where
-      pub full-left : (b : Answer) (h : InstanceHandle) → places ≤ count → b ≡ refusedWith 9 → h .0 ≡ next →
-          Turned places c s (instancesIn count t) next (record { answer = b; count = count; «next_handle» = h }) t
-      full-left b h f e k =
-          same-left (refusedWith 9) b h
-          (call-full c s (stateWith (instancesIn count t) next) places i blank (ready-rises r) (begin .missing) (begin .starts) (sym counted ∙ m)
-          (omega (arith, ready-length r))) e k
+      pub full-left : Bytes t → places ≤ count → Leaves c s (left (refusedWith 9) count next) t
+      full-left bytes f =
+          same-left bytes c s (refusedWith 9)
+          (call-full c s st places i blank (ready-rises r) (begin .missing) (begin .starts) (sym counted ∙ m) (omega (arith, ready-length r)))
 
       module _ (f : count < places) where
-        pub spent-left : (b : Answer) (h : InstanceHandle) → 9223372036854775808 ≤ next → b ≡ refusedWith 13 → h .0 ≡ next →
-            Turned places c s (instancesIn count t) next (record { answer = b; count = count; «next_handle» = h }) t
-        spent-left b h p e k =
-            same-left (refusedWith 13) b h
-            (call-spent c s (stateWith (instancesIn count t) next) places i blank (ready-rises r) (begin .missing) (begin .starts) (sym counted ∙ m)
-            (omega (arith, ready-length r)) p) e k
+        room-left : length (instancesIn count t) < places
+        room-left = omega (arith, ready-length r)
 
-        pub started-left : (x y : Instance) (b : Answer) (n : ℕ) (h : InstanceHandle) (u : List ℕ) → next < 9223372036854775808 →
-            x ≡ started (s .key) (allocated next .handle .0) → Acted c s x y → b ≡ answerOf (saysOf c) s (some x) (some y) → n ≡ count + 1 →
-            h .0 ≡ allocated next .counter →
+        pub spent-left : Bytes t → 9223372036854775808 ≤ next .0 → Leaves c s (left (refusedWith 13) count next) t
+        spent-left bytes p =
+            same-left bytes c s (refusedWith 13)
+            (call-spent c s st places i blank (ready-rises r) (begin .missing) (begin .starts) (sym counted ∙ m) room-left p)
+
+        pub started-left : Bytes t → next .0 < 9223372036854775808 → {x : Instance} → x ≡ started (s .key) (allocated (next .0) .handle .0) →
+            (y : Instance) → Acted c s x y → (u : List ℕ) (h : InstanceHandle) → h .0 ≡ allocated (next .0) .counter →
             ((places : ℕ) (xs : List Instance) → Laid places xs t → length xs ≡ count → count < places → Laid places (take i xs ++ y ∷ drop i xs) u) →
-            Turned places c s (instancesIn count t) next (record { answer = b; count = n; «next_handle» = h }) u
-        started-left x y b n h u p new a e grown k l =
+            Leaves c s (left (answerOf (saysOf c) s (some x) (some y)) (count + 1) h) u
+        started-left bytes p new y a u h k l =
             let xs : List Instance = instancesIn count t in
-            let g : Instance = started (s .key) (allocated next .handle .0) in
+            let g : Instance = started (s .key) (allocated (next .0) .handle .0) in
             let act : Acted c s g y = subst (λ (z : Instance). Acted c s z y) new a in
-            let q = call-started c s (stateWith xs next) places i blank (ready-rises r) (begin .missing) (begin .starts) (sym counted ∙ m)
-            (omega (arith, ready-length r)) (y .state) p (act .left) in
-            let w =
-            ap (λ (z : Instance). turnWith (answerOf (saysOf c) s (some g) (some z)) (take i xs ++ z ∷ drop i xs) (allocated next .counter)) (sym (act .same)) in
-            let o : n ≡ length (take i xs ++ y ∷ drop i xs) =
+            let q = call-started c s st places i blank (ready-rises r) (begin .missing) (begin .starts) (sym counted ∙ m) room-left (y .state) p (act .left) in
+            let w = ap (λ (z : Instance). turnWith (answerOf (saysOf c) s (some g) (some z)) (take i xs ++ z ∷ drop i xs) (allocated (next .0) .counter)) (sym (act .same)) in
+            let o : count + 1 ≡ length (take i xs ++ y ∷ drop i xs) =
             omega (
               arith,
               length-append (take i xs) (y ∷ drop i xs),
@@ -234,30 +233,9 @@ module _ {places count next : ℕ} {t : List ℕ} (r : Ready places count next t
               starts-within,
               ready-length r,
             ) in
-            done-left (q ∙ w) b n h (e ∙ rw new) o k (l places xs (ready-laid r bytes) (ready-length r) f)
+            rw new (done-left (count + 1) h (rw k (q ∙ w)) o (l places xs (ready-laid r bytes) (ready-length r) f))
 
 -- ---- from what was found to what is reached
-
-handled-only : (r : Reach) (s : Sheet) (xs : List Instance) (i : ℕ) → handled r ≡ true → Only (hasHandle (s .handle)) xs i blank → Only (reachesBy r s) xs i blank
-handled-only byKey s xs i h o = clash false h refl
-handled-only startingByKey s xs i h o = clash false h refl
-handled-only startingWithin s xs i h o = clash false h refl
-handled-only byHandle s xs i h o = o
-handled-only every s xs i h o = clash false h refl
-
-handled-nowhere : (r : Reach) (s : Sheet) (xs : List Instance) → handled r ≡ true → Nowhere (hasHandle (s .handle)) xs blank → Nowhere (reachesBy r s) xs blank
-handled-nowhere byKey s xs h n = clash false h refl
-handled-nowhere startingByKey s xs h n = clash false h refl
-handled-nowhere startingWithin s xs h n = clash false h refl
-handled-nowhere byHandle s xs h n = n
-handled-nowhere every s xs h n = clash false h refl
-
-handled-is : (r : Reach) → handled r ≡ true → (single r ≡ true) × (startsBy r ≡ false)
-handled-is byKey h = clash false h refl
-handled-is startingByKey h = clash false h refl
-handled-is startingWithin h = clash false h refl
-handled-is byHandle h = (refl, refl)
-handled-is every h = clash false h refl
 
 module _ (c : InstanceCall) (s : Sheet) (xs : List Instance) where
   module _ (one : single (rule c .reach) ≡ true) (keyed : handled (rule c .reach) ≡ false) (r : rising instanceKey xs ≡ true) (i : ℕ) where
@@ -267,7 +245,7 @@ module _ (c : InstanceCall) (s : Sheet) (xs : List Instance) where
         record {
           one = one;
           old = rw (any-only (hasKey (s .key)) blank xs i o) (and-false (startsBy (rule c .reach)));
-          only = keyed-only (rule c .reach) s xs i blank one keyed o;
+          only = key-reach (λ p. Only p xs i blank) s o (rule c .reach) one keyed;
         }
 
     pub absent-key : foundIn (map instanceKey xs) (num (s .key)) ≡ Missing i → startsBy (rule c .reach) ≡ false → Absent c s xs
@@ -275,23 +253,29 @@ module _ (c : InstanceCall) (s : Sheet) (xs : List Instance) where
         record {
           one = one;
           idle = idle;
-          nowhere = keyed-nowhere (rule c .reach) s xs blank one keyed (missing-nowhere instanceKey xs blank r (num (s .key)) i f);
+          nowhere = key-reach (λ p. Nowhere p xs blank) s (missing-nowhere instanceKey xs blank r (num (s .key)) i f) (rule c .reach) one keyed;
         }
 
   module _ (h : handled (rule c .reach) ≡ true) (i : ℕ) (e : i ≡ placeOf (hasHandle (s .handle)) xs) where
+    one-handle : single (rule c .reach) ≡ true
+    one-handle = handle-reach (λ w. single w ≡ true) refl (rule c .reach) h
+
+    idle-handle : startsBy (rule c .reach) ≡ false
+    idle-handle = handle-reach (λ w. startsBy w ≡ false) refl (rule c .reach) h
+
     pub reached-handle : handlesDistinct xs ≡ true → i < length xs → Reached c s xs i
     reached-handle d l =
         let p : hasHandle (s .handle) (getD xs i blank) ≡ true = rw e (place-at (hasHandle (s .handle)) xs blank (rw e at l)) in
         record {
-          one = handled-is (rule c .reach) h .0;
-          old = rw (handled-is (rule c .reach) h .1);
-          only = handled-only (rule c .reach) s xs i h (only-handle blank xs d i (s .handle .0) l (eqb-true (getD xs i blank .handle .0) (s .handle .0) p));
+          one = one-handle;
+          old = rw idle-handle;
+          only = handle-reach (λ w. Only (reachesBy w s) xs i blank) (only-handle blank xs d i (s .handle .0) l (eqb-true (getD xs i blank .handle .0) (s .handle .0) p)) (rule c .reach) h;
         }
 
     pub absent-handle : length xs ≤ i → Absent c s xs
     absent-handle l =
         record {
-          one = handled-is (rule c .reach) h .0;
-          idle = handled-is (rule c .reach) h .1;
-          nowhere = handled-nowhere (rule c .reach) s xs h (noplace (hasHandle (s .handle)) xs blank (rw e at l));
+          one = one-handle;
+          idle = idle-handle;
+          nowhere = handle-reach (λ w. Nowhere (reachesBy w s) xs blank) (noplace (hasHandle (s .handle)) xs blank (rw e at l)) (rule c .reach) h;
         }

@@ -1,9 +1,7 @@
 -- A call that reaches one instance, in terms of the list of instances. The laws speak of how the call reaches, not of which
 -- call it is.
---     told-says                            the answer, from the instance before the call and after it
---     unlisted                             nothing is listed
---     effect-some                          nothing is purged
---     reaches-with                         a call reaches an instance by its key and handle alone
+--     of-call                              what the table of the calls says of one
+--     key-reach, handle-reach, starts-is    what each way to reach is
 --     turn-found, turn-none, turn-started  the turn: one instance changed; none; one put in
 --     call-found, call-crowded             the call: one instance changed; refusal 10
 --     call-none                            no instance is reached, and none started
@@ -28,7 +26,7 @@ use Rattle.model.specs.Answers.{silent}
 use Rattle.model.specs.Guids.{num}
 use Rattle.model.specs.Handles.{allocated}
 use Rattle.model.specs.InstanceCalls.{refused, unchanged, withInstances, known, begins, begun, nextAfter, acts, instancesAfter, listedBy, handleBytes, reached, told, atLimit, full, spent, crowds, lateRefusal, instanceTurn, instanceCall}
-use Rattle.model.specs.Instances.{Reach, byKey, startingByKey, startingWithin, byHandle, every, effect, rule, hasKey, reachesBy, reaches, startsBy, limitedBy, started}
+use Rattle.model.specs.Instances.{Reach, byKey, startingByKey, startingWithin, byHandle, every, effect, rule, hasKey, reachesBy, reaches, startsBy, limitedBy, started, startedState}
 use Rattle.model.specs.State.{State, instanceKey}
 use Rattle.model.specs.Tables.{isSome, pick, put, sift, rising}
 use Rattle.model.specs.Times.{negative}
@@ -43,99 +41,37 @@ use Rattle.instance_tracker.specs.Turned.{withState}
 
 -- ---- of the table of the calls
 
-pub told-says : (c : InstanceCall) (s : Sheet) (before after : List Instance) → single (rule c .reach) ≡ true →
-    told c s before after ≡ answerOf (saysOf c) s (reached c s before) (reached c s after)
-told-says Register s b a h = refl
-told-says EnsureRegisteredLimited s b a h = refl
-told-says Dispose s b a h = refl
-told-says Unregister s b a h = refl
-told-says UnregisterWriter s b a h = refl
-told-says NoteWriter s b a h = refl
-told-says DropWriter s b a h = clash false h refl
-told-says ObserveLifecycle s b a h = refl
-told-says ObserveAdmitted s b a h = refl
-told-says NoteAdmitted s b a h = refl
-told-says RecordDelivery s b a h = refl
-told-says NoteTaken s b a h = refl
-told-says MarkViewSeen s b a h = refl
-told-says MarkViewNew s b a h = refl
-told-says DrainSamples s b a h = refl
-told-says AcceptUnderExclusiveOwnership s b a h = refl
-told-says UpdateOwnerStrength s b a h = clash false h refl
-told-says ClearOwnerForWriter s b a h = clash false h refl
-told-says ClearOwnerForWriterPrefix s b a h = clash false h refl
-told-says ReleaseOwnerOf s b a h = refl
-told-says Autopurge s b a h = clash false h refl
+-- of a call on one instance: what it answers, from that instance before the call and after it; it lists nothing, and purges
+-- nothing. A call that starts an instance adds no writer
+pub record OfCall (c : InstanceCall) (s : Sheet) (x : InstanceState) : Type 0 where
+  pub tells : single (rule c .reach) ≡ true → (before after : List Instance) →
+      told c s before after ≡ answerOf (saysOf c) s (reached c s before) (reached c s after)
+  pub quiet : single (rule c .reach) ≡ true → rule c .listsLeft ≡ false
+  pub lasting : single (rule c .reach) ≡ true → isSome (effect c s x) ≡ true
+  pub alone : startsBy (rule c .reach) ≡ true → rule c .addsWriter ≡ false
 
-lists-none : (c : InstanceCall) → single (rule c .reach) ≡ true → rule c .listsLeft ≡ false
-lists-none Register h = refl
-lists-none EnsureRegisteredLimited h = refl
-lists-none Dispose h = refl
-lists-none Unregister h = refl
-lists-none UnregisterWriter h = refl
-lists-none NoteWriter h = refl
-lists-none DropWriter h = clash false h refl
-lists-none ObserveLifecycle h = refl
-lists-none ObserveAdmitted h = refl
-lists-none NoteAdmitted h = refl
-lists-none RecordDelivery h = refl
-lists-none NoteTaken h = refl
-lists-none MarkViewSeen h = refl
-lists-none MarkViewNew h = refl
-lists-none DrainSamples h = refl
-lists-none AcceptUnderExclusiveOwnership h = refl
-lists-none UpdateOwnerStrength h = refl
-lists-none ClearOwnerForWriter h = refl
-lists-none ClearOwnerForWriterPrefix h = refl
-lists-none ReleaseOwnerOf h = refl
-lists-none Autopurge h = refl
-
-pub effect-some : (c : InstanceCall) (s : Sheet) (x : InstanceState) → single (rule c .reach) ≡ true → isSome (effect c s x) ≡ true
-effect-some Register s x h = refl
-effect-some EnsureRegisteredLimited s x h = refl
-effect-some Dispose s x h = refl
-effect-some Unregister s x h = refl
-effect-some UnregisterWriter s x h = refl
-effect-some NoteWriter s x h = refl
-effect-some DropWriter s x h = refl
-effect-some ObserveLifecycle s x h = refl
-effect-some ObserveAdmitted s x h = refl
-effect-some NoteAdmitted s x h = refl
-effect-some RecordDelivery s x h = refl
-effect-some NoteTaken s x h = refl
-effect-some MarkViewSeen s x h = refl
-effect-some MarkViewNew s x h = refl
-effect-some DrainSamples s x h = refl
-effect-some AcceptUnderExclusiveOwnership s x h = refl
-effect-some UpdateOwnerStrength s x h = refl
-effect-some ClearOwnerForWriter s x h = refl
-effect-some ClearOwnerForWriterPrefix s x h = refl
-effect-some ReleaseOwnerOf s x h = refl
-effect-some Autopurge s x h = clash false h refl
-
--- a call that starts an instance adds no writer
-pub starts-alone : (c : InstanceCall) → startsBy (rule c .reach) ≡ true → rule c .addsWriter ≡ false
-starts-alone Register h = refl
-starts-alone EnsureRegisteredLimited h = refl
-starts-alone Dispose h = refl
-starts-alone Unregister h = refl
-starts-alone UnregisterWriter h = refl
-starts-alone NoteWriter h = clash false h refl
-starts-alone DropWriter h = refl
-starts-alone ObserveLifecycle h = refl
-starts-alone ObserveAdmitted h = refl
-starts-alone NoteAdmitted h = clash false h refl
-starts-alone RecordDelivery h = refl
-starts-alone NoteTaken h = refl
-starts-alone MarkViewSeen h = refl
-starts-alone MarkViewNew h = refl
-starts-alone DrainSamples h = refl
-starts-alone AcceptUnderExclusiveOwnership h = refl
-starts-alone UpdateOwnerStrength h = refl
-starts-alone ClearOwnerForWriter h = refl
-starts-alone ClearOwnerForWriterPrefix h = refl
-starts-alone ReleaseOwnerOf h = refl
-starts-alone Autopurge h = refl
+pub of-call : (c : InstanceCall) (s : Sheet) (x : InstanceState) → OfCall c s x
+of-call Register s x = record { tells = λ h b a. refl; quiet = λ h. refl; lasting = λ h. refl; alone = λ h. refl }
+of-call EnsureRegisteredLimited s x = record { tells = λ h b a. refl; quiet = λ h. refl; lasting = λ h. refl; alone = λ h. refl }
+of-call Dispose s x = record { tells = λ h b a. refl; quiet = λ h. refl; lasting = λ h. refl; alone = λ h. refl }
+of-call Unregister s x = record { tells = λ h b a. refl; quiet = λ h. refl; lasting = λ h. refl; alone = λ h. refl }
+of-call UnregisterWriter s x = record { tells = λ h b a. refl; quiet = λ h. refl; lasting = λ h. refl; alone = λ h. refl }
+of-call NoteWriter s x = record { tells = λ h b a. refl; quiet = λ h. refl; lasting = λ h. refl; alone = λ h. clash false h refl }
+of-call DropWriter s x = record { tells = λ h b a. clash false h refl; quiet = λ h. clash false h refl; lasting = λ h. clash false h refl; alone = λ h. refl }
+of-call ObserveLifecycle s x = record { tells = λ h b a. refl; quiet = λ h. refl; lasting = λ h. refl; alone = λ h. refl }
+of-call ObserveAdmitted s x = record { tells = λ h b a. refl; quiet = λ h. refl; lasting = λ h. refl; alone = λ h. refl }
+of-call NoteAdmitted s x = record { tells = λ h b a. refl; quiet = λ h. refl; lasting = λ h. refl; alone = λ h. clash false h refl }
+of-call RecordDelivery s x = record { tells = λ h b a. refl; quiet = λ h. refl; lasting = λ h. refl; alone = λ h. refl }
+of-call NoteTaken s x = record { tells = λ h b a. refl; quiet = λ h. refl; lasting = λ h. refl; alone = λ h. refl }
+of-call MarkViewSeen s x = record { tells = λ h b a. refl; quiet = λ h. refl; lasting = λ h. refl; alone = λ h. refl }
+of-call MarkViewNew s x = record { tells = λ h b a. refl; quiet = λ h. refl; lasting = λ h. refl; alone = λ h. refl }
+of-call DrainSamples s x = record { tells = λ h b a. refl; quiet = λ h. refl; lasting = λ h. refl; alone = λ h. refl }
+of-call AcceptUnderExclusiveOwnership s x = record { tells = λ h b a. refl; quiet = λ h. refl; lasting = λ h. refl; alone = λ h. refl }
+of-call UpdateOwnerStrength s x = record { tells = λ h b a. clash false h refl; quiet = λ h. clash false h refl; lasting = λ h. clash false h refl; alone = λ h. refl }
+of-call ClearOwnerForWriter s x = record { tells = λ h b a. clash false h refl; quiet = λ h. clash false h refl; lasting = λ h. clash false h refl; alone = λ h. refl }
+of-call ClearOwnerForWriterPrefix s x = record { tells = λ h b a. clash false h refl; quiet = λ h. clash false h refl; lasting = λ h. clash false h refl; alone = λ h. refl }
+of-call ReleaseOwnerOf s x = record { tells = λ h b a. refl; quiet = λ h. refl; lasting = λ h. refl; alone = λ h. refl }
+of-call Autopurge s x = record { tells = λ h b a. clash false h refl; quiet = λ h. clash false h refl; lasting = λ h. clash false h refl; alone = λ h. refl }
 
 -- ---- of the ways to reach
 
@@ -147,44 +83,29 @@ with-reaches startingWithin s x z = refl
 with-reaches byHandle s x z = refl
 with-reaches every s x z = refl
 
-pub starts-single : (r : Reach) → startsBy r ≡ true → single r ≡ true
-starts-single byKey h = refl
-starts-single startingByKey h = refl
-starts-single startingWithin h = refl
-starts-single byHandle h = refl
-starts-single every h = clash false h refl
+-- what holds of the test of the key holds of the test of a call by key
+pub key-reach : (P : (Instance → Bool) → Type 0) (s : Sheet) → P (hasKey (s .key)) → (r : Reach) → single r ≡ true → handled r ≡ false → P (reachesBy r s)
+key-reach P s p byKey h k = p
+key-reach P s p startingByKey h k = p
+key-reach P s p startingWithin h k = p
+key-reach P s p byHandle h k = clash true refl k
+key-reach P s p every h k = clash false h refl
 
--- a call by key reaches the instance of its key
-pub keyed-only : (r : Reach) (s : Sheet) (xs : List Instance) (i : ℕ) (d : Instance) → single r ≡ true → handled r ≡ false →
-    Only (hasKey (s .key)) xs i d → Only (reachesBy r s) xs i d
-keyed-only byKey s xs i d h k o = o
-keyed-only startingByKey s xs i d h k o = o
-keyed-only startingWithin s xs i d h k o = o
-keyed-only byHandle s xs i d h k o = clash true refl k
-keyed-only every s xs i d h k o = clash false h refl
+-- what holds of reaching by handle holds of a call that does
+pub handle-reach : (P : Reach → Type 0) → P byHandle → (r : Reach) → handled r ≡ true → P r
+handle-reach P p byKey h = clash false h refl
+handle-reach P p startingByKey h = clash false h refl
+handle-reach P p startingWithin h = clash false h refl
+handle-reach P p byHandle h = p
+handle-reach P p every h = clash false h refl
 
-pub keyed-nowhere : (r : Reach) (s : Sheet) (xs : List Instance) (d : Instance) → single r ≡ true → handled r ≡ false →
-    Nowhere (hasKey (s .key)) xs d → Nowhere (reachesBy r s) xs d
-keyed-nowhere byKey s xs d h k n = n
-keyed-nowhere startingByKey s xs d h k n = n
-keyed-nowhere startingWithin s xs d h k n = n
-keyed-nowhere byHandle s xs d h k n = clash true refl k
-keyed-nowhere every s xs d h k n = clash false h refl
-
--- what starts reaches by key
-starts-keyed : (r : Reach) → startsBy r ≡ true → handled r ≡ false
-starts-keyed byKey h = refl
-starts-keyed startingByKey h = refl
-starts-keyed startingWithin h = refl
-starts-keyed byHandle h = clash false h refl
-starts-keyed every h = refl
-
-starts-reaches : (r : Reach) (s : Sheet) (x : Instance) → startsBy r ≡ true → reachesBy r s x ≡ hasKey (s .key) x
-starts-reaches byKey s x h = refl
-starts-reaches startingByKey s x h = refl
-starts-reaches startingWithin s x h = refl
-starts-reaches byHandle s x h = clash false h refl
-starts-reaches every s x h = clash false h refl
+-- what starts an instance reaches one, by key
+pub starts-is : (r : Reach) → startsBy r ≡ true → (single r ≡ true) × (handled r ≡ false)
+starts-is byKey h = (refl, refl)
+starts-is startingByKey h = (refl, refl)
+starts-is startingWithin h = (refl, refl)
+starts-is byHandle h = clash false h refl
+starts-is every h = clash false h refl
 
 -- only a call that starts an instance meets the limit
 limit-idle : (r : Reach) (k b : Bool) → (startsBy r && not k) ≡ false → (limitedBy r && (not k && b)) ≡ false
@@ -210,7 +131,7 @@ module _ (c : InstanceCall) (s : Sheet) where
   acts-on x z h e = rw (h, e)
 
   unlisted : (xs : List Instance) (d : Instance) → single (rule c .reach) ≡ true → pick (listedBy c s) xs ≡ []
-  unlisted xs d h = pick-nowhere (listedBy c s) d xs (λ j l. rw (lists-none c h))
+  unlisted xs d h = pick-nowhere (listedBy c s) d xs (λ j l. rw (of-call c s (d .state) .quiet h))
 
   module _ (st : State) where
     -- the turn, from its parts
@@ -220,7 +141,7 @@ module _ (c : InstanceCall) (s : Sheet) where
         ≡ record { answer = answerOf (saysOf c) s x y; state = withInstances after next st; list = [] }
     unfolding instanceTurn handleBytes
     turn-of before after next d x y h b a n p q =
-        rw (b, a, n, unlisted before d h, told-says c s before after h, p, q)
+        rw (b, a, n, unlisted before d h, of-call c s (d .state) .tells h before after, p, q)
 
     -- ---- the turn
 
@@ -273,10 +194,13 @@ module _ (c : InstanceCall) (s : Sheet) where
       new = rw (starts, unknown)
 
       one : single (rule c .reach) ≡ true
-      one = starts-single (rule c .reach) starts
+      one = starts-is (rule c .reach) starts .0
 
       keyed : handled (rule c .reach) ≡ false
-      keyed = starts-keyed (rule c .reach) starts
+      keyed = starts-is (rule c .reach) starts .1
+
+      by-key : (x : Instance) → reaches c s x ≡ hasKey (s .key) x
+      by-key x = key-reach (λ p. p x ≡ hasKey (s .key) x) s refl (rule c .reach) one keyed
 
       -- an instance of the key that is put in is the one reached
       reached-in : (y : Instance) → reaches c s y ≡ true → reached c s (take i (st .instances) ++ y ∷ drop i (st .instances)) ≡ some y
@@ -284,7 +208,7 @@ module _ (c : InstanceCall) (s : Sheet) where
           let xs : List Instance = st .instances in
           let l : i ≤ length xs = missing-le instanceKey xs d r (num (s .key)) i m in
           let n : Nowhere (reaches c s) xs d =
-          keyed-nowhere (rule c .reach) s xs d one keyed (missing-nowhere instanceKey xs d r (num (s .key)) i m) in
+          key-reach (λ p. Nowhere p xs d) s (missing-nowhere instanceKey xs d r (num (s .key)) i m) (rule c .reach) one keyed in
           find-only (reaches c s) d (take i xs ++ y ∷ drop i xs) i (only-insert (reaches c s) xs y d i l n h)
           ∙ ap some (getD-at (take i xs) y (drop i xs) d i (length-take-le i xs l))
 
@@ -293,7 +217,7 @@ module _ (c : InstanceCall) (s : Sheet) where
       first-key = refl
 
       reaches-first : reaches c s first ≡ true
-      reaches-first = starts-reaches (rule c .reach) s first starts ∙ eq-eqb (instanceKey first) (num (s .key)) first-key
+      reaches-first = by-key first ∙ eq-eqb (instanceKey first) (num (s .key)) first-key
 
       pub turn-started : (z : InstanceState) → effect c s (first .state) ≡ some z →
           instanceTurn c s st
@@ -311,7 +235,7 @@ module _ (c : InstanceCall) (s : Sheet) where
           turn-of (take i xs ++ first ∷ drop i xs) (take i xs ++ y ∷ drop i xs) (allocated (st .nextHandle) .counter) d (some first) (some y) one (b ∙ p)
           (ap (sift (acts c s)) b
           ∙ missing-sift instanceKey xs d r (num (s .key)) i (acts c s)
-          (λ x h. acts-reached x (starts-reaches (rule c .reach) s x starts ∙ h)) m first first-key y (acts-on first z reaches-first e))
+          (λ x h. acts-reached x (by-key x ∙ h)) m first first-key y (acts-on first z reaches-first e))
           (rw new) (reached-in first reaches-first) (reached-in y (with-reaches (rule c .reach) s first z ∙ reaches-first))
 
     -- ---- the call
@@ -368,7 +292,7 @@ module _ (c : InstanceCall) (s : Sheet) where
       module _ (h : limit ≡ false) where
         late-new : lateRefusal places c s st ≡ cond (full places st) 9 (cond (spent st) 13 0)
         unfolding lateRefusal
-        late-new = rw (new i d r m starts, starts-alone c starts)
+        late-new = rw (new i d r m starts, of-call c s startedState .alone starts)
 
         pub call-full : places ≤ length (st .instances) → instanceCall places c s st ≡ refused 9 st
         unfolding instanceCall

@@ -1,5 +1,6 @@
 -- What a call on one instance asks of the lent table, and what it leaves.
 --     Ready             the table is well formed
+--     left              what a call leaves by value
 --     Left, Turned      what comes back and what the table then holds is what model's call leaves
 --     Acted             what a call leaves of an instance
 --     Reached, Absent, Starts
@@ -11,8 +12,10 @@ use mathlib.Core.List.{List, [], map}
 use mathlib.Core.Option.{some}
 use mathlib.Core.Path.{_≡_}
 use lib.ListN.{length}
+use Rattle.model.specs.declared.Answer.{Answer}
 use Rattle.model.specs.declared.Instance.{Instance}
 use Rattle.model.specs.declared.InstanceCall.{InstanceCall}
+use Rattle.model.specs.declared.InstanceHandle.{InstanceHandle}
 use Rattle.model.specs.declared.InstanceState.{InstanceState}
 use Rattle.model.specs.declared.Sheet.{Sheet}
 use Rattle.model.specs.Guids.{num}
@@ -35,6 +38,10 @@ pub record Ready (places count next : ℕ) (t : List ℕ) : Type 0 where
   pub few : places ≤ 128
   pub size : length t ≡ places * 512
   pub formed : instanceTableOk places count next t ≡ true
+
+-- what a call leaves by value
+abbrev pub left : Answer → ℕ → InstanceHandle → TableCall
+left a count next = record { answer = a; count = count; «next_handle» = next }
 
 -- the state of which these instances and the next handle are all
 abbrev pub stateWith : List Instance → ℕ → State

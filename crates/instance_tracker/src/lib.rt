@@ -18,13 +18,14 @@ ghost use mathlib.Core.Option.{none, some};
 ghost use mathlib.Core.Path.{_≡_};
 ghost use Prim.Native.Nat.{_≤_, _<_};
 ghost use lib.Dec.{leb};
+ghost use Rattle.model.specs.Answers.{refusedWith};
 ghost use Rattle.model.specs.InstanceCalls.{crowds, samplesAnswer};
 ghost use Rattle.model.specs.Instances.{rule, startsBy, limitedBy, owns};
 ghost use Rattle.model.specs.State.{instancesIn};
 ghost use Rattle.model.specs.Times.{negative};
 ghost use Rattle.instance_state.specs.Effects.{Usable, Room};
 ghost use Rattle.instance_tracker.specs.Rules.{single, handled, saysOf, answerOf, atKey, atHandle, starting, ruleOf};
-ghost use Rattle.instance_tracker.specs.Turned.{Ready, Turned, Acted, Reached, Starts};
+ghost use Rattle.instance_tracker.specs.Turned.{left, Ready, Turned, Acted, Reached, Starts};
 
 // What a call leaves by value.
 pub struct TableCall {
@@ -57,6 +58,7 @@ pub struct CallRule {
     pub says: Says,
 }
 
+// A call by key that starts no instance.
 fn at_key(adds_writer: bool, says: Says) -> CallRule
     ensures { λ r. ⌜ r ≡ atKey «adds_writer» says ⌝ }
 {
@@ -69,6 +71,7 @@ fn at_key(adds_writer: bool, says: Says) -> CallRule
     }
 }
 
+// A call by handle.
 fn at_handle(adds_writer: bool, says: Says) -> CallRule
     ensures { λ r. ⌜ r ≡ atHandle «adds_writer» says ⌝ }
 {
@@ -81,6 +84,7 @@ fn at_handle(adds_writer: bool, says: Says) -> CallRule
     }
 }
 
+// A call by key that starts an absent instance.
 fn starting(limited: bool, says: Says) -> CallRule
     ensures { λ r. ⌜ r ≡ starting limited says ⌝ }
 {
@@ -93,7 +97,14 @@ fn starting(limited: bool, says: Says) -> CallRule
     }
 }
 
-// The table of the calls. Of those on every instance it says nothing: they come to none of its readers.
+// A call on every instance, which comes to none of those who read the table.
+fn on_every() -> CallRule
+    ensures { λ r. ⌜ r ≡ atKey false Says.Nothing ⌝ }
+{
+    at_key(false, Says::Nothing)
+}
+
+// The table of the calls.
 fn rule_of(c: InstanceCall) -> CallRule
     ensures { λ r. ⌜ r ≡ ruleOf c ⌝ }
 {
@@ -104,7 +115,7 @@ fn rule_of(c: InstanceCall) -> CallRule
         InstanceCall::Unregister => at_handle(false, Says::Known),
         InstanceCall::UnregisterWriter => at_handle(false, Says::Known),
         InstanceCall::NoteWriter => at_handle(true, Says::Nothing),
-        InstanceCall::DropWriter => at_key(false, Says::Nothing),
+        InstanceCall::DropWriter => on_every(),
         InstanceCall::ObserveLifecycle => starting(false, Says::Handle),
         InstanceCall::ObserveAdmitted => starting(true, Says::Samples),
         InstanceCall::NoteAdmitted => at_key(true, Says::Info),
@@ -114,14 +125,15 @@ fn rule_of(c: InstanceCall) -> CallRule
         InstanceCall::MarkViewNew => at_key(false, Says::Known),
         InstanceCall::DrainSamples => at_handle(false, Says::Nothing),
         InstanceCall::AcceptUnderExclusiveOwnership => at_key(false, Says::Accepted),
-        InstanceCall::UpdateOwnerStrength => at_key(false, Says::Nothing),
-        InstanceCall::ClearOwnerForWriter => at_key(false, Says::Nothing),
-        InstanceCall::ClearOwnerForWriterPrefix => at_key(false, Says::Nothing),
+        InstanceCall::UpdateOwnerStrength => on_every(),
+        InstanceCall::ClearOwnerForWriter => on_every(),
+        InstanceCall::ClearOwnerForWriterPrefix => on_every(),
         InstanceCall::ReleaseOwnerOf => at_key(false, Says::Released),
-        InstanceCall::Autopurge => at_key(false, Says::Nothing),
+        InstanceCall::Autopurge => on_every(),
     }
 }
 
+// The call reaches its instance by handle.
 fn reaches_by_handle(c: InstanceCall) -> bool
     ensures { λ r. ⌜ r ≡ handled (rule c .reach) ⌝ }
 {
@@ -129,6 +141,7 @@ fn reaches_by_handle(c: InstanceCall) -> bool
     r.by_handle
 }
 
+// The call starts an absent instance.
 fn starts(c: InstanceCall) -> bool
     ensures { λ r. ⌜ r ≡ startsBy (rule c .reach) ⌝ }
 {
@@ -136,6 +149,7 @@ fn starts(c: InstanceCall) -> bool
     r.starts
 }
 
+// It does so up to a limit.
 fn is_limited(c: InstanceCall) -> bool
     ensures { λ r. ⌜ r ≡ limitedBy (rule c .reach) ⌝ }
 {
@@ -143,6 +157,7 @@ fn is_limited(c: InstanceCall) -> bool
     r.limited
 }
 
+// The call puts a GUID into the writer set.
 fn adds_writer(c: InstanceCall) -> bool
     ensures { λ r. ⌜ r ≡ rule c .addsWriter ⌝ }
 {
@@ -150,6 +165,7 @@ fn adds_writer(c: InstanceCall) -> bool
     r.adds_writer
 }
 
+// What the call answers.
 fn says_of(c: InstanceCall) -> Says
     ensures { λ r. ⌜ r ≡ saysOf c ⌝ }
 {
@@ -250,6 +266,32 @@ fn unanswered(c: InstanceCall) -> Answer
     }
 }
 
+// ---- what a call leaves where it writes nothing
+
+// The call is refused with this number, or with 0 answers none.
+fn stopped(n: u8, count: u32, next: InstanceHandle) -> TableCall
+    ensures { λ r. ⌜ r ≡ left (refusedWith n) count next ⌝ }
+{
+    let a = answers::refused_with(n);
+    TableCall {
+        answer: a,
+        count: count,
+        next_handle: next,
+    }
+}
+
+// The call reaches no instance and starts none.
+fn idle(c: InstanceCall, count: u32, next: InstanceHandle) -> TableCall
+    ensures { λ r. ⌜ ((s : Sheet) → r ≡ left (answerOf (saysOf c) s none none) count next) ⌝ }
+{
+    let a = unanswered(c);
+    TableCall {
+        answer: a,
+        count: count,
+        next_handle: next,
+    }
+}
+
 // ---- the call on one instance
 
 // What the call leaves of an instance: its key and its handle stay.
@@ -284,11 +326,7 @@ fn change(
 {
     let x = instance_record::instance_at(pens, i);
     if crowded(c, s, x) {
-        return TableCall {
-            answer: answers::refused_with(10),
-            count: count,
-            next_handle: next,
-        };
+        return stopped(10, count, next);
     }
     let y = acted(c, s, x);
     instance_table::replace(pens, i, y);
@@ -340,25 +378,13 @@ fn begin(
     ensures { λ r. ⌜ Turned places c s (instancesIn count (now (pens .entry))) (next .0) r (now (pens .exit)) ⌝ }
 {
     if at_limit(c, s.first, count) {
-        return TableCall {
-            answer: answers::silent(),
-            count: count,
-            next_handle: next,
-        };
+        return stopped(0, count, next);
     }
     if places <= count as usize {
-        return TableCall {
-            answer: answers::refused_with(9),
-            count: count,
-            next_handle: next,
-        };
+        return stopped(9, count, next);
     }
     if 9223372036854775808 <= next.0 {
-        return TableCall {
-            answer: answers::refused_with(13),
-            count: count,
-            next_handle: next,
-        };
+        return stopped(13, count, next);
     }
     start(c, s, pens, places, i, count, next)
 }
@@ -385,11 +411,7 @@ pub fn by_key(
             if starts(c) {
                 return begin(c, s, pens, places, i, count, next);
             }
-            TableCall {
-                answer: unanswered(c),
-                count: count,
-                next_handle: next,
-            }
+            idle(c, count, next)
         }
     }
 }
@@ -412,11 +434,7 @@ pub fn by_handle(
     if i < n {
         return change(c, s, pens, places, i, count, next);
     }
-    TableCall {
-        answer: unanswered(c),
-        count: count,
-        next_handle: next,
-    }
+    idle(c, count, next)
 }
 
 // A call that reaches one instance, by key or by handle.

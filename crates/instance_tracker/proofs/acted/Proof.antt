@@ -8,7 +8,10 @@ take-effect-requires : tie.Need-take-effect-requires
 take-effect-requires c κs = search needs
 
 returns : tie.Need-returns
-returns c = let a = c .before .before .before .before .before in acted-of (a .args .c) (a .args .s) (a .args .x) (c .before .take-effect .result) (a .pre .0) (a .pre .1) (a .pre .2) (c .before .take-effect .ensures)
+returns c =
+    let e = c .before in
+    let a = e .before .before .before .before in
+    acted-of (a .args .c) (a .args .s) (a .args .x) (e .take-effect .result) (a .pre .0) (a .pre .1) (a .pre .2) (e .take-effect .ensures)
 
 pub acted-spec : {M : Type 1} → statement M
 acted-spec = tie.close (tie.spec take-effect-requires returns)

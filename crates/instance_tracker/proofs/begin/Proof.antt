@@ -1,7 +1,7 @@
 -- The limit, then the refusals, then the start. Assumes nothing.
-use Rattle.instance_tracker.proofs.Table.{limited-left, full-left, spent-left}
-use mathlib.Core.Path.{refl, sym, _∙_}
+use mathlib.Core.Path.{sym, _∙_}
 use native.Mathlib.Omega.{arith}
+use Rattle.instance_tracker.proofs.Table.{limited-left, full-left, spent-left}
 use borrow.Author.Needs.{needs}
 use Rattle.instance_tracker.proofs.begin.Statement.{statement}
 use Rattle.instance_tracker.proofs.begin.Tie as tie
@@ -9,26 +9,44 @@ use Rattle.instance_tracker.proofs.begin.Tie as tie
 at-limit-requires : tie.Need-at-limit-requires
 at-limit-requires c κs = search needs
 
-silent-requires : tie.Need-silent-requires
-silent-requires c κs = search needs
+stopped-requires : tie.Need-stopped-requires
+stopped-requires c κs = search needs
 
 returns : tie.Need-returns
-returns c = let a = c .before .before .before .before in limited-left (a .pre .0) (λ n. omega (arith, c .before .before .before .slice-known .given n)) (a .args .c) (a .args .s) (a .args .i) (a .pre .1) (c .silent .result) (a .args .next) (sym (c .before .before .at-limit .ensures) ∙ c .before .if1 .taken) (c .silent .ensures) refl
+returns c =
+    let k = c .before .before in
+    let a = k .before .before in
+    rw (c .stopped .ensures)
+    (limited-left (a .args .next) (a .pre .0) (a .pre .1) (λ n. omega (arith, k .before .slice-known .given n)) (sym (k .at-limit .ensures) ∙ c .before .if1 .taken))
 
-refused-with-requires : tie.Need-refused-with-requires
-refused-with-requires c κs = search needs
+stopped-requires-2 : tie.Need-stopped-requires-2
+stopped-requires-2 c κs = search needs
 
 returns-2 : tie.Need-returns-2
-returns-2 c = let a = c .before .before .before .before .before in full-left (a .pre .0) (λ n. omega (arith, c .before .before .before .before .slice-known .given n)) (a .args .c) (a .args .s) (a .args .i) (a .pre .1) (sym (c .before .before .before .at-limit .ensures) ∙ c .before .before .if1 .left) (c .refused-with .result) (a .args .next) (c .before .if2 .taken) (c .refused-with .ensures) refl
+returns-2 c =
+    let k = c .before .before .before in
+    let a = k .before .before in
+    rw (c .stopped2 .ensures)
+    (full-left (a .args .next) (a .pre .0) (a .pre .1) (sym (k .at-limit .ensures) ∙ c .before .before .if1 .left) (λ n. omega (arith, k .before .slice-known .given n))
+    (c .before .if2 .taken))
 
-refused-with-requires-2 : tie.Need-refused-with-requires-2
-refused-with-requires-2 c κs = search needs
+stopped-requires-3 : tie.Need-stopped-requires-3
+stopped-requires-3 c κs = search needs
 
 returns-3 : tie.Need-returns-3
-returns-3 c = let a = c .before .before .before .before .before .before .before in spent-left (a .pre .0) (λ n. omega (arith, c .before .before .before .before .before .before .slice-known .given n)) (a .args .c) (a .args .s) (a .args .i) (a .pre .1) (sym (c .before .before .before .before .before .at-limit .ensures) ∙ c .before .before .before .before .if1 .left) (c .before .before .before .if2 .left) (c .refused-with2 .result) (a .args .next) (c .before .if3 .taken) (c .refused-with2 .ensures) refl
+returns-3 c =
+    let m = c .before .before .before in
+    let k = m .before .before in
+    let a = k .before .before in
+    rw (c .stopped3 .ensures)
+    (spent-left (a .args .next) (a .pre .0) (a .pre .1) (sym (k .at-limit .ensures) ∙ m .before .if1 .left) (m .if2 .left) (λ n. omega (arith, k .before .slice-known .given n))
+    (c .before .if3 .taken))
 
 start-requires : tie.Need-start-requires
-start-requires c κs = let a = c .before .before .before .before .before .before .before in (a .pre .0, a .pre .1, c .before .before .before .if2 .left, c .before .if3 .left, (sym (c .before .before .before .before .before .at-limit .ensures) ∙ c .before .before .before .before .if1 .left))
+start-requires c κs =
+    let m = c .before .before .before in
+    let k = m .before .before in
+    let a = k .before .before in (a .pre .0, a .pre .1, m .if2 .left, c .before .if3 .left, sym (k .at-limit .ensures) ∙ m .before .if1 .left)
 
 same-length : tie.Need-same-length
 same-length c = search needs
@@ -41,11 +59,11 @@ begin-spec =
     tie.close
     (tie.spec
     at-limit-requires
-    silent-requires
+    stopped-requires
     returns
-    refused-with-requires
+    stopped-requires-2
     returns-2
-    refused-with-requires-2
+    stopped-requires-3
     returns-3
     start-requires
     same-length

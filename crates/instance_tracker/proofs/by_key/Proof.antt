@@ -1,7 +1,7 @@
 -- Where the key stands, or where its instance would go in. Assumes nothing.
-use Rattle.instance_tracker.proofs.Table.{ready-room-all, ready-rises, reached-key, absent-key, absent-left}
-use mathlib.Core.Path.{refl, sym, _∙_}
+use mathlib.Core.Path.{sym, _∙_}
 use native.Mathlib.Omega.{arith}
+use Rattle.instance_tracker.proofs.Table.{ready-room-all, ready-rises, reached-key, absent-key, absent-left}
 use borrow.Author.Needs.{needs}
 use Rattle.instance_tracker.proofs.by_key.Statement.{statement}
 use Rattle.instance_tracker.proofs.by_key.Tie as tie
@@ -13,7 +13,13 @@ enum-known-f : tie.Need-enum-known-f
 enum-known-f c = search needs
 
 change-requires : tie.Need-change-requires
-change-requires c κs = let a = c .before .before .before .before .before .before .before .before in (a .pre .0, reached-key (a .args .c) (a .args .s) _ (a .pre .1) (a .pre .2) (ready-rises (a .pre .0)) _ (sym (c .before .before .before .before .find-key .ensures) ∙ c .before .before .f .given .1))
+change-requires c κs =
+    let f = c .before .before .before .before in
+    let a = f .before .before .before .before in (
+      a .pre .0,
+      reached-key (a .args .c) (a .args .s) _ (a .pre .1) (a .pre .2) (ready-rises (a .pre .0)) _
+          (sym (f .find-key .ensures) ∙ c .before .before .f .given .1),
+    )
 
 enum-known-f-2 : tie.Need-enum-known-f-2
 enum-known-f-2 c = search needs
@@ -22,7 +28,16 @@ starts-requires : tie.Need-starts-requires
 starts-requires c κs = search needs
 
 begin-requires : tie.Need-begin-requires
-begin-requires c κs = let a = c .before .before .before .before .before .before .before .before .before .before in (a .pre .0, record { starts = sym (c .before .before .starts .ensures) ∙ c .before .if1 .taken; missing = sym (c .before .before .before .before .before .before .find-key .ensures) ∙ c .before .before .before .before .f2 .given .1 })
+begin-requires c κs =
+    let k = c .before .before in
+    let f = k .before .before .before .before in
+    let a = f .before .before .before .before in (
+      a .pre .0,
+      record {
+        starts = sym (k .starts .ensures) ∙ c .before .if1 .taken;
+        missing = sym (f .find-key .ensures) ∙ k .before .before .f2 .given .1;
+      },
+    )
 
 same-length : tie.Need-same-length
 same-length c = search needs
@@ -30,8 +45,8 @@ same-length c = search needs
 returns : tie.Need-returns
 returns c = search needs
 
-unanswered-requires : tie.Need-unanswered-requires
-unanswered-requires c κs = search needs
+idle-requires : tie.Need-idle-requires
+idle-requires c κs = search needs
 
 same-length-2 : tie.Need-same-length-2
 same-length-2 c = search needs
@@ -43,7 +58,15 @@ same-length-3 : tie.Need-same-length-3
 same-length-3 c = search needs
 
 returns-3 : tie.Need-returns-3
-returns-3 c = let a = c .before .before .before .before .before .before .before .before .before .before in absent-left (a .pre .0) (λ n. omega (arith, c .before .before .before .before .before .before .before .before .before .slice-known .given n)) (a .args .c) (a .args .s) (absent-key (a .args .c) (a .args .s) _ (a .pre .1) (a .pre .2) (ready-rises (a .pre .0)) _ (sym (c .before .before .before .before .before .before .find-key .ensures) ∙ c .before .before .before .before .f2 .given .1) (sym (c .before .before .starts .ensures) ∙ c .before .if1 .left)) (c .unanswered .result) (a .args .next) (c .unanswered .ensures (a .args .s)) refl
+returns-3 c =
+    let k = c .before .before in
+    let f = k .before .before .before .before in
+    let b = f .before .before .before in
+    let a = b .before in
+    rw (c .idle .ensures (a .args .s))
+    (absent-left (a .args .next) (a .pre .0)
+    (absent-key (a .args .c) (a .args .s) _ (a .pre .1) (a .pre .2) (ready-rises (a .pre .0)) _
+    (sym (f .find-key .ensures) ∙ k .before .before .f2 .given .1) (sym (k .starts .ensures) ∙ c .before .if1 .left)) (λ n. omega (arith, b .slice-known .given n)))
 
 pub by-key-spec : {M : Type 1} → statement M
 by-key-spec =
@@ -57,7 +80,7 @@ by-key-spec =
     begin-requires
     same-length
     returns
-    unanswered-requires
+    idle-requires
     same-length-2
     returns-2
     same-length-3

@@ -1,31 +1,44 @@
 -- The instance that is reached is read, and refused a writer or changed. Assumes nothing.
-use Rattle.instance_tracker.proofs.Table.{reached-place, reached-usable, reached-room, crowded-left, changed-left}
-use mathlib.Core.Path.{refl, sym, _∙_}
+use mathlib.Core.Path.{sym, _∙_}
 use native.Mathlib.Omega.{arith}
+use Rattle.instance_tracker.proofs.Table.{reached-place, reached-usable, reached-room, crowded-left, changed-left}
 use borrow.Author.Needs.{needs}
 use Rattle.instance_tracker.proofs.change.Statement.{statement}
 use Rattle.instance_tracker.proofs.change.Tie as tie
 
 instance-at-requires : tie.Need-instance-at-requires
-instance-at-requires c κs = let a = c .before .before in reached-place (a .pre .0) (λ n. omega (arith, c .before .slice-known .given n)) (a .args .c) (a .args .s) (a .args .i) (a .pre .1)
+instance-at-requires c κs = let a = c .before .before in reached-place (a .args .next) (a .pre .0) (a .pre .1)
 
 crowded-requires : tie.Need-crowded-requires
-crowded-requires c κs = let a = c .before .before .before in reached-usable (a .pre .0) (λ n. omega (arith, c .before .before .slice-known .given n)) (a .args .c) (a .args .s) (a .args .i) (c .instance-at .result) (c .instance-at .ensures) (a .pre .1)
+crowded-requires c κs = let a = c .before .before .before in reached-usable (a .args .next) (a .pre .0) (a .pre .1) (c .instance-at .ensures)
 
-refused-with-requires : tie.Need-refused-with-requires
-refused-with-requires c κs = search needs
+stopped-requires : tie.Need-stopped-requires
+stopped-requires c κs = search needs
 
 same-length : tie.Need-same-length
 same-length c = search needs
 
 returns : tie.Need-returns
-returns c = let a = c .before .before .before .before .before .before in crowded-left (a .pre .0) (λ n. omega (arith, c .before .before .before .before .before .slice-known .given n)) (a .args .c) (a .args .s) (a .args .i) (c .before .before .before .instance-at .result) (c .before .before .before .instance-at .ensures) (a .pre .1) (c .refused-with .result) (a .args .next) (sym (c .before .before .crowded .ensures) ∙ c .before .if1 .taken) (c .refused-with .ensures) refl
+returns c =
+    let k = c .before .before in
+    let x = k .before in
+    let b = x .before .before in
+    let a = b .before in
+    rw (c .stopped .ensures)
+    (crowded-left (a .args .next) (a .pre .0) (a .pre .1) (x .instance-at .ensures) (λ n. omega (arith, b .slice-known .given n))
+    (sym (k .crowded .ensures) ∙ c .before .if1 .taken))
 
 acted-requires : tie.Need-acted-requires
-acted-requires c κs = let a = c .before .before .before .before .before in (a .pre .1 .one, reached-usable (a .pre .0) (λ n. omega (arith, c .before .before .before .before .slice-known .given n)) (a .args .c) (a .args .s) (a .args .i) (c .before .before .instance-at .result) (c .before .before .instance-at .ensures) (a .pre .1), reached-room (a .pre .0) (λ n. omega (arith, c .before .before .before .before .slice-known .given n)) (a .args .c) (a .args .s) (a .args .i) (c .before .before .instance-at .result) (c .before .before .instance-at .ensures) (a .pre .1) (sym (c .before .crowded .ensures) ∙ c .if1 .left))
+acted-requires c κs =
+    let x = c .before .before in
+    let a = x .before .before .before in (
+      a .pre .1 .one,
+      reached-usable (a .args .next) (a .pre .0) (a .pre .1) (x .instance-at .ensures),
+      reached-room (a .args .next) (a .pre .0) (a .pre .1) (x .instance-at .ensures) (sym (c .before .crowded .ensures) ∙ c .if1 .left),
+    )
 
 replace-requires : tie.Need-replace-requires
-replace-requires c κs = let a = c .before .before .before .before .before .before .before in (reached-place (a .pre .0) (λ n. omega (arith, c .before .before .before .before .before .before .slice-known .given n)) (a .args .c) (a .args .s) (a .args .i) (a .pre .1), c .before .acted .ensures .few)
+replace-requires c κs = let a = c .before .before .before .before .before .before .before in (reached-place (a .args .next) (a .pre .0) (a .pre .1), c .before .acted .ensures .few)
 
 answered-requires : tie.Need-answered-requires
 answered-requires c κs = search needs
@@ -34,7 +47,16 @@ same-length-2 : tie.Need-same-length-2
 same-length-2 c = search needs
 
 returns-2 : tie.Need-returns-2
-returns-2 c = let a = c .before .before .before .before .before .before .before .before .before .before .before in changed-left (a .pre .0) (λ n. omega (arith, c .before .before .before .before .before .before .before .before .before .before .slice-known .given n)) (a .args .c) (a .args .s) (a .args .i) (c .before .before .before .before .before .before .before .before .instance-at .result) (c .before .before .before .before .before .before .before .before .instance-at .ensures) (a .pre .1) (c .before .before .before .before .before .acted .result) (c .answered .result) (a .args .next) (c .before .before .before .replace .last .0) (sym (c .before .before .before .before .before .before .before .crowded .ensures) ∙ c .before .before .before .before .before .before .if1 .left) (c .before .before .before .before .before .acted .ensures) (c .answered .ensures) refl (c .before .before .before .replace .ensures)
+returns-2 c =
+    let r = c .before .before .before in
+    let y = r .before .before in
+    let k = y .before .before in
+    let x = k .before in
+    let b = x .before .before in
+    let a = b .before in
+    rw (c .answered .ensures)
+    (changed-left (a .args .next) (a .pre .0) (a .pre .1) (x .instance-at .ensures) (λ n. omega (arith, b .slice-known .given n))
+    (sym (k .crowded .ensures) ∙ y .before .if1 .left) (y .acted .result) (y .acted .ensures) (r .replace .last .0) (r .replace .ensures))
 
 pub change-spec : {M : Type 1} → statement M
 change-spec =
@@ -42,7 +64,7 @@ change-spec =
     (tie.spec
     instance-at-requires
     crowded-requires
-    refused-with-requires
+    stopped-requires
     same-length
     returns
     acted-requires

@@ -16,10 +16,17 @@ holds-requires : tie.Need-holds-requires
 holds-requires c κs = search needs
 
 returns-2 : tie.Need-returns-2
-returns-2 c = rw (sym (c .before .before .before .adds-writer .ensures) ∙ not-false _ (c .before .before .if1 .left), sym (c .before .holds .ensures) ∙ c .if2 .taken)
+returns-2 c =
+    let k = c .before .before in
+    rw (sym (k .before .adds-writer .ensures) ∙ not-false _ (k .if1 .left), sym (c .before .holds .ensures) ∙ c .if2 .taken)
 
 returns-3 : tie.Need-returns-3
-returns-3 c = let a = c .before .before .before .before .before .before .before .before in rw (sym (c .before .before .before .before .adds-writer .ensures) ∙ not-false _ (c .before .before .before .if1 .left)) (sym (crowds-full (a .args .s) (a .args .x) (a .pre) (sym (c .before .before .holds .ensures) ∙ c .before .if2 .left)))
+returns-3 c =
+    let h = c .before .before in
+    let k = h .before in
+    let a = k .before .before .before .before .before in
+    rw (sym (k .before .adds-writer .ensures) ∙ not-false _ (k .if1 .left))
+    (sym (crowds-full (a .args .s) (a .args .x) (a .pre) (sym (h .holds .ensures) ∙ c .before .if2 .left)))
 
 pub crowded-spec : {M : Type 1} → statement M
 crowded-spec = tie.close (tie.spec adds-writer-requires returns holds-requires returns-2 returns-3)
