@@ -1,0 +1,2 @@
+-- What the contracts of liveliness_status cite.
+pub mod Status
