@@ -1,12 +1,13 @@
 -- The test of the first records, and the whole test of a table.
 --     recordTest, recordsTest            of one record's bytes, and of the first n records
 --     records-left, records-end          the records from a place on, the first of them apart
---     table-regrouped                    the parts of the table's test in the order of the code
+--     records-stop, records-turn         a turn of the code
+--     table-by                           the whole test, from its parts in the order of the code
 -- Assumes nothing.
 use Prim.Native.Nat.{ℕ, suc, _+_, _-_, _*_, _≤_, _<_}
 use mathlib.Core.Bool.{Bool, true, false, _&&_}
 use mathlib.Core.List.{List}
-use mathlib.Core.Path.{_≡_, refl, _∙_}
+use mathlib.Core.Path.{_≡_, refl, sym, _∙_}
 use native.Mathlib.Nat.{sub-zero}
 use native.Mathlib.Omega.{arith}
 use lib.Dec.{leb, ltb}
@@ -67,7 +68,7 @@ regroup true true false r i h d = refl
 regroup true false k r i h d = refl
 regroup false b k r i h d = refl
 
-pub table-regrouped : (places count next : ℕ) (t : List ℕ) →
+table-regrouped : (places count next : ℕ) (t : List ℕ) →
     instanceTableOk places count next t
     ≡ (leb count places && (allZero (drop (count * 512) t) && (recordsTest count t && (rising instanceKey (instancesIn count t)
     && (all (handleBelow next) (instancesIn count t) && handlesDistinct (instancesIn count t))))))
@@ -75,3 +76,22 @@ unfolding instanceTableOk instancesOk
 table-regrouped places count next t =
     regroup (leb count places) (allZero (drop (count * 512) t)) (kindsOk count t) (rising instanceKey (instancesIn count t))
     (all instanceOk (instancesIn count t)) (all (handleBelow next) (instancesIn count t)) (handlesDistinct (instancesIn count t))
+
+-- ---- a turn of the code, which lends the record as the part from i * 512 up to i * 512 + 512
+
+part-of : (i : ℕ) (t : List ℕ) → recordTest (take (i * 512 + 512 - i * 512) (drop (i * 512) t)) ≡ recordTest (take 512 (drop (i * 512) t))
+part-of i t = let e : i * 512 + 512 - i * 512 ≡ 512 = omega arith in rw e
+
+module _ (i n : ℕ) (t : List ℕ) (b : Bool) (h : i < n) (e : b ≡ recordTest (take (i * 512 + 512 - i * 512) (drop (i * 512) t)))
+    (left : recordsFrom i n t ≡ recordsTest n t) where
+  pub records-stop : b ≡ false → false ≡ recordsTest n t
+  records-stop f = sym (sym left ∙ records-left i n t h ∙ rw (sym (part-of i t) ∙ sym e ∙ f))
+
+  pub records-turn : b ≡ true → recordsFrom (i + 1) n t ≡ recordsTest n t
+  records-turn g = sym (sym left ∙ records-left i n t h ∙ rw (sym (part-of i t) ∙ sym e ∙ g))
+
+-- the whole test, from its parts
+pub table-by : (places count next : ℕ) (t : List ℕ) {a b k r h : Bool} → leb count places ≡ a → allZero (drop (count * 512) t) ≡ b → recordsTest count t ≡ k →
+    rising instanceKey (instancesIn count t) ≡ r → (all (handleBelow next) (instancesIn count t) && handlesDistinct (instancesIn count t)) ≡ h →
+    (a && (b && (k && (r && h)))) ≡ instanceTableOk places count next t
+table-by places count next t p q s u v = sym (table-regrouped places count next t ∙ rw (p, q, s, u, v))

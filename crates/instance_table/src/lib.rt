@@ -6,20 +6,20 @@
 // Copyright 2026 ZeroDDS Contributors. SPDX-License-Identifier: Apache-2.0. Changed: written anew in Rattle, with the map of
 // instances as a table of records in lent bytes.
 use model::Guid;
+use model::Instance;
 use model::InstanceHandle;
 use tables::Found;
 ghost use mathlib.Core.Bool.{true, _&&_};
-ghost use mathlib.Core.List.{List, map};
+ghost use mathlib.Core.List.{List, _∷_, _++_, map};
 ghost use mathlib.Core.Path.{_≡_};
 ghost use Prim.Native.Nat.{ℕ, _+_, _*_, _≤_, _<_};
-ghost use lib.ListN.{length, take};
-ghost use Rattle.model.specs.declared.Instance.{Instance};
+ghost use lib.ListN.{length, take, drop, set};
 ghost use Rattle.model.specs.Guids.{num};
 ghost use Rattle.model.specs.Instances.{hasHandle};
 ghost use Rattle.model.specs.Reads.{usedIn, tableOk};
 ghost use Rattle.model.specs.State.{instanceKey, instancesIn};
 ghost use Rattle.model.specs.Tables.{all, rising};
-ghost use Rattle.model.specs.WellFormed.{otherHandle, handleBelow, handlesDistinct, instanceTableOk};
+ghost use Rattle.model.specs.WellFormed.{instanceOk, otherHandle, handleBelow, handlesDistinct, kindsOk, instanceTableOk};
 ghost use Rattle.tables.specs.Found.{foundIn};
 ghost use Rattle.turns.specs.Places.{placeOf};
 ghost use Rattle.instance_table.specs.Laid.{handleAt, Laid};
@@ -78,6 +78,43 @@ fn handles_ok(t: &[u8], count: usize, next: u64) -> bool
     true
 }
 
+// Whether each of the first count records is well formed by itself.
+fn records_ok(t: &[u8], count: usize) -> bool
+    requires { ⌜ count * 512 ≤ length (now t) ⌝ }
+    ensures { λ r. ⌜ r ≡ (kindsOk count (now (t .entry)) && all instanceOk (instancesIn count (now (t .entry)))) ⌝ }
+{
+    let mut i = 0;
+    while i < count {
+        let o = i * 512;
+        let e = o + 512;
+        if !instance_record::record_ok(&t[o..e]) {
+            return false;
+        }
+        i += 1;
+    }
+    true
+}
+
+// Whether the table is well formed, with so many instances and that next handle.
+pub fn table_ok(t: &[u8], places: usize, count: usize, next: u64) -> bool
+    requires { ⌜ length (now t) ≡ places * 512 ⌝ }
+    ensures { λ r. ⌜ r ≡ instanceTableOk places count next (now (t .entry)) ⌝ }
+{
+    if places < count {
+        return false;
+    }
+    if !octets::zero_from(t, count * 512) {
+        return false;
+    }
+    if !records_ok(t, count) {
+        return false;
+    }
+    if !tables::keys_rise(t, 512, count) {
+        return false;
+    }
+    handles_ok(t, count, next)
+}
+
 // How many records stand before the first whose handle is 0.
 pub fn used(t: &[u8], places: usize) -> usize
     requires { ⌜ length (now t) ≡ places * 512 ⌝ }
@@ -91,6 +128,15 @@ pub fn used(t: &[u8], places: usize) -> usize
         i += 1;
     }
     i
+}
+
+// Whether a table that is lent alone is well formed: some head makes it so.
+pub fn lone_table_ok(t: &[u8], places: usize) -> bool
+    requires { ⌜ length (now t) ≡ places * 512 ⌝ }
+    ensures { λ r. ⌜ r ≡ tableOk places (now (t .entry)) ⌝ }
+{
+    let count = used(t, places);
+    table_ok(t, places, count, 9223372036854775808)
 }
 
 // ---- where an instance stands
@@ -119,7 +165,24 @@ pub fn find_handle(t: &[u8], count: usize, h: InstanceHandle) -> usize
     i
 }
 
-// ---- the table changes
+// ---- the table changes. Each contract speaks of whatever list of instances the table is the layout of
+
+// The instance at place i becomes x.
+pub fn replace(t: &mut [u8], i: usize, x: Instance)
+    requires { ⌜ (i * 512 + 512 ≤ length (now t)) × (x .state .writers .len < 32) ⌝ }
+    ensures { λ _. ⌜ ((places : ℕ) (xs : List Instance) → Laid places xs (now (t .entry)) → i < length xs → Laid places (set xs i x) (now (t .exit))) ⌝ }
+{
+    instance_record::put_instance(t, i, x);
+}
+
+// x goes in at place i of the first count instances.
+pub fn insert(t: &mut [u8], count: usize, i: usize, x: Instance)
+    requires { ⌜ (i ≤ count) × (count * 512 + 512 ≤ length (now t)) × (x .state .writers .len < 32) ⌝ }
+    ensures { λ _. ⌜ ((places : ℕ) (xs : List Instance) → Laid places xs (now (t .entry)) → length xs ≡ count → count < places → Laid places (take i xs ++ x ∷ drop i xs) (now (t .exit))) ⌝ }
+{
+    tables::open_gap(t, 512, i, count);
+    instance_record::put_instance(t, i, x);
+}
 
 // Of the first count instances only the first kept stay: the places behind them are cleared.
 pub fn truncate(t: &mut [u8], kept: usize, count: usize)

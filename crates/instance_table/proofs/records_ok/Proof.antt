@@ -1,0 +1,80 @@
+-- `records_ok` meets its contract: what is left of the test is the whole of it. Assumes nothing.
+use Prim.Native.Nat.{_-_, _≤_}
+use mathlib.Core.Path.{_≡_, sym, _∙_}
+use native.Mathlib.Omega.{arith}
+use borrow.Author.Tests.{not-true, not-false}
+use Rattle.instance_table.proofs.Records.{recordsTest, recordsFrom, records-start, records-stop, records-turn, records-end}
+use Rattle.instance_table.proofs.records_ok.Statement.{statement}
+use Rattle.instance_table.proofs.records_ok.Tie as tie
+
+abbrev Inv-loop : tie.InvT-loop
+Inv-loop t count i₀ i = (i ≤ count) × (recordsFrom i count t ≡ recordsTest count t)
+
+abbrev μ-loop : tie.MeasureT-loop
+μ-loop t count i₀ i = count - i
+
+loop-holds : tie.Need-loop-holds Inv-loop μ-loop
+loop-holds c = (omega arith, records-start (c .before .args .count) (c .before .args .t .now))
+
+mul-o : tie.Need-mul-o Inv-loop μ-loop
+mul-o c = omega arith
+
+add-e : tie.Need-add-e Inv-loop μ-loop
+add-e c = omega arith
+
+sub-record-ok : tie.Need-sub-record-ok Inv-loop μ-loop
+sub-record-ok c = omega arith
+
+part-record-ok-start : tie.Need-part-record-ok-start Inv-loop μ-loop
+part-record-ok-start c = omega arith
+
+part-record-ok-end : tie.Need-part-record-ok-end Inv-loop μ-loop
+part-record-ok-end c = omega arith
+
+record-ok-requires : tie.Need-record-ok-requires Inv-loop μ-loop
+record-ok-requires c κs = omega arith
+
+returns : tie.Need-returns Inv-loop μ-loop
+returns c =
+    let a = c .before .before .before .before .before .before .args in
+    let l = c .before .before .before .before .loop in
+    let r = c .before .record-ok in
+    records-stop (l .i) (a .count) (a .t .now) (r .result) (omega arith) (r .ensures) (l .inv .1) (not-true _ (c .if1 .taken))
+
+add-i : tie.Need-add-i Inv-loop μ-loop
+add-i c = omega arith
+
+loop-less : tie.Need-loop-less Inv-loop μ-loop
+loop-less c = omega arith
+
+loop-again : tie.Need-loop-again Inv-loop μ-loop
+loop-again c =
+    let a = c .before .before .before .before .before .before .args in
+    let l = c .before .before .before .before .loop in
+    let r = c .before .record-ok in
+    (omega arith, records-turn (l .i) (a .count) (a .t .now) (r .result) (omega arith) (r .ensures) (l .inv .1) (not-false _ (c .if1 .left)))
+
+returns-2 : tie.Need-returns-2 Inv-loop μ-loop
+returns-2 c =
+    let a = c .before .before .before .args in
+    let l = c .before .loop in
+    sym (records-end (l .i) (a .count) (a .t .now) (omega arith)) ∙ l .inv .1
+
+pub records-ok-spec : {M : Type 1} → statement M
+records-ok-spec =
+    tie.close
+    (tie.spec
+    Inv-loop
+    μ-loop
+    loop-holds
+    mul-o
+    add-e
+    sub-record-ok
+    part-record-ok-start
+    part-record-ok-end
+    record-ok-requires
+    returns
+    add-i
+    loop-less
+    loop-again
+    returns-2)

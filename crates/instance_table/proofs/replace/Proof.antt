@@ -1,0 +1,20 @@
+-- `replace` meets its contract: a write at a place is a `set`. Assumes nothing.
+use borrow.Author.Needs.{needs}
+use Rattle.instance_table.proofs.LaidOut.{replaced}
+use Rattle.instance_table.proofs.replace.Statement.{statement}
+use Rattle.instance_table.proofs.replace.Tie as tie
+
+put-instance-requires : tie.Need-put-instance-requires
+put-instance-requires c κs = search needs
+
+same-length : tie.Need-same-length
+same-length c = search needs
+
+returns : tie.Need-returns
+returns c =
+    let a = c .before .before .before .before .before .args in
+    let p = c .before .before .put-instance in
+    replaced (a .t .now) (p .last .0) (a .i) (a .x) (p .ensures) (search needs) (c .before .before .before .before .before .pre .0)
+
+pub replace-spec : {M : Type 1} → statement M
+replace-spec = tie.close (tie.spec put-instance-requires same-length returns)

@@ -1,0 +1,75 @@
+-- What a call on one instance asks of the lent table, and what it leaves.
+--     Ready             the table is well formed
+--     Left, Turned      what comes back and what the table then holds is what model's call leaves
+--     Reached, Absent, Starts
+--                       the instance that a call reaches stands at a place; it reaches none; it starts one there
+-- Rests on model's calls and on instance_table's layout.
+use Prim.Native.Nat.{ℕ, _*_, _≤_}
+use mathlib.Core.Bool.{true, false}
+use mathlib.Core.List.{List, [], map}
+use mathlib.Core.Path.{_≡_}
+use lib.ListN.{length}
+use Rattle.model.specs.declared.Instance.{Instance}
+use Rattle.model.specs.declared.InstanceCall.{InstanceCall}
+use Rattle.model.specs.declared.InstanceState.{InstanceState}
+use Rattle.model.specs.declared.Sheet.{Sheet}
+use Rattle.model.specs.Guids.{num}
+use Rattle.model.specs.InstanceCalls.{instanceCall, withInstances, begins} 
+use Rattle.model.specs.InstanceCalls as calls
+use Rattle.model.specs.InstanceRecord.{instanceOf}
+use Rattle.model.specs.Instances.{rule, reaches, startsBy}
+use Rattle.model.specs.State.{State, freshState, instanceKey}
+use Rattle.model.specs.WellFormed.{instanceTableOk}
+use Rattle.tables.specs.declared.Found.the-variants.{Missing}
+use Rattle.tables.specs.Found.{foundIn}
+use Rattle.turns.specs.Places.{Only, Nowhere}
+use Rattle.instance_table.specs.Laid.{Laid}
+use Rattle.instance_tracker.specs.declared.TableCall.{TableCall}
+use Rattle.instance_tracker.specs.Rules.{single}
+
+-- the table is well formed, with so many instances and that next handle
+pub record Ready (places count next : ℕ) (t : List ℕ) : Type 0 where
+  pub few : places ≤ 128
+  pub size : length t ≡ places * 512
+  pub formed : instanceTableOk places count next t ≡ true
+
+-- the state of which these instances and the next handle are all
+abbrev pub stateWith : List Instance → ℕ → State
+stateWith xs next = withInstances xs next freshState
+
+-- r, and the table t, are what is left of the turn T, which lists nothing
+pub record Left (places : ℕ) (T : calls.Turned) (r : TableCall) (t : List ℕ) : Type 0 where
+  pub answer : r .answer ≡ T .answer
+  pub count : r .count ≡ length (T .state .instances)
+  pub next : r .«next_handle» .0 ≡ T .state .nextHandle
+  pub laid : Laid places (T .state .instances) t
+  pub quiet : T .list ≡ []
+
+-- r and t are what the call leaves of the instances xs
+abbrev pub Turned : ℕ → InstanceCall → Sheet → List Instance → ℕ → TableCall → List ℕ → Type 0
+Turned places c s xs next r t = Left places (instanceCall places c s (stateWith xs next)) r t
+
+-- what stands in for an instance that is not there
+abbrev pub blank : Instance
+blank = instanceOf []
+
+-- the instance with another state
+abbrev pub withState : Instance → InstanceState → Instance
+withState x z = record { key = x .key; handle = x .handle; state = z }
+
+-- the call reaches one instance, that at place i, and starts none
+pub record Reached (c : InstanceCall) (s : Sheet) (xs : List Instance) (next i : ℕ) : Type 0 where
+  pub one : single (rule c .reach) ≡ true
+  pub old : begins c s (stateWith xs next) ≡ false
+  pub only : Only (reaches c s) xs i blank
+
+-- it reaches none, and starts none
+pub record Absent (c : InstanceCall) (s : Sheet) (xs : List Instance) : Type 0 where
+  pub one : single (rule c .reach) ≡ true
+  pub idle : startsBy (rule c .reach) ≡ false
+  pub nowhere : Nowhere (reaches c s) xs blank
+
+-- it starts the instance of its key, which goes in at place i
+pub record Starts (c : InstanceCall) (s : Sheet) (xs : List Instance) (i : ℕ) : Type 0 where
+  pub starts : startsBy (rule c .reach) ≡ true
+  pub missing : foundIn (map instanceKey xs) (num (s .key)) ≡ Missing i
