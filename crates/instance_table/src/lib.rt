@@ -83,14 +83,14 @@ fn records_ok(t: &[u8], count: usize) -> bool
     requires { ⌜ count * 512 ≤ length (now t) ⌝ }
     ensures { λ r. ⌜ r ≡ (kindsOk count (now (t .entry)) && all instanceOk (instancesIn count (now (t .entry)))) ⌝ }
 {
-    let mut i = 0;
-    while i < count {
-        let o = i * 512;
+    let mut k = 0;
+    while k < count {
+        let o = k * 512;
         let e = o + 512;
         if !instance_record::record_ok(&t[o..e]) {
             return false;
         }
-        i += 1;
+        k += 1;
     }
     true
 }
@@ -175,13 +175,13 @@ pub fn replace(t: &mut [u8], i: usize, x: Instance)
     instance_record::put_instance(t, i, x);
 }
 
-// x goes in at place i of the first count instances.
-pub fn insert(t: &mut [u8], count: usize, i: usize, x: Instance)
-    requires { ⌜ (i ≤ count) × (count * 512 + 512 ≤ length (now t)) × (x .state .writers .len < 32) ⌝ }
-    ensures { λ _. ⌜ ((places : ℕ) (xs : List Instance) → Laid places xs (now (t .entry)) → length xs ≡ count → count < places → Laid places (take i xs ++ x ∷ drop i xs) (now (t .exit))) ⌝ }
+// x goes in at place at of the first count instances.
+pub fn insert(t: &mut [u8], count: usize, at: usize, x: Instance)
+    requires { ⌜ (at ≤ count) × (count * 512 + 512 ≤ length (now t)) × (x .state .writers .len < 32) ⌝ }
+    ensures { λ _. ⌜ ((places : ℕ) (xs : List Instance) → Laid places xs (now (t .entry)) → length xs ≡ count → count < places → Laid places (take at xs ++ x ∷ drop at xs) (now (t .exit))) ⌝ }
 {
-    tables::open_gap(t, 512, i, count);
-    instance_record::put_instance(t, i, x);
+    tables::open_gap(t, 512, at, count);
+    instance_record::put_instance(t, at, x);
 }
 
 // Of the first count instances only the first kept stay: the places behind them are cleared.

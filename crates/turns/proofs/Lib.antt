@@ -3,3 +3,4 @@ pub mod Finds
 pub mod Sifts
 pub mod Keys
 pub mod Passes
+pub mod Keeps

@@ -10,6 +10,7 @@ use lib.ListN.{length, getD, take, drop}
 use Rattle.model.specs.declared.Instance.{Instance}
 use Rattle.model.specs.Tables.{sift}
 
+-- an instance's handle as a number
 abbrev pub handleOf : Instance → ℕ
 handleOf x = x .handle .0
 

@@ -19,7 +19,7 @@ returns c =
     let s = c .before .before .before .before .before .before .before .before .before in
     let g = c .before .before .before .before .before .before .open-gap in
     let p = c .before .before .put-instance in
-    inserted (s .args .t .now) (g .last .0) (p .last .0) (s .args .count) (s .args .i) (s .args .x) (g .ensures) (p .ensures) (search needs) (omega arith) (s .pre .0)
+    inserted (s .args .t .now) (g .last .0) (p .last .0) (s .args .count) (s .args .at) (s .args .x) (g .ensures) (p .ensures) (search needs) (omega arith) (s .pre .0)
 
 pub insert-spec : {M : Type 1} → statement M
 insert-spec = tie.close (tie.spec open-gap-requires put-instance-requires same-length returns)

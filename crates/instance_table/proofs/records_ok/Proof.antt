@@ -8,10 +8,10 @@ use Rattle.instance_table.proofs.records_ok.Statement.{statement}
 use Rattle.instance_table.proofs.records_ok.Tie as tie
 
 abbrev Inv-loop : tie.InvT-loop
-Inv-loop t count i₀ i = (i ≤ count) × (recordsFrom i count t ≡ recordsTest count t)
+Inv-loop t count k₀ k = (k ≤ count) × (recordsFrom k count t ≡ recordsTest count t)
 
 abbrev μ-loop : tie.MeasureT-loop
-μ-loop t count i₀ i = count - i
+μ-loop t count k₀ k = count - k
 
 loop-holds : tie.Need-loop-holds Inv-loop μ-loop
 loop-holds c = (omega arith, records-start (c .before .args .count) (c .before .args .t .now))
@@ -39,10 +39,10 @@ returns c =
     let a = c .before .before .before .before .before .before .args in
     let l = c .before .before .before .before .loop in
     let r = c .before .record-ok in
-    records-stop (l .i) (a .count) (a .t .now) (r .result) (omega arith) (r .ensures) (l .inv .1) (not-true _ (c .if1 .taken))
+    records-stop (l .k) (a .count) (a .t .now) (r .result) (omega arith) (r .ensures) (l .inv .1) (not-true _ (c .if1 .taken))
 
-add-i : tie.Need-add-i Inv-loop μ-loop
-add-i c = omega arith
+add-k : tie.Need-add-k Inv-loop μ-loop
+add-k c = omega arith
 
 loop-less : tie.Need-loop-less Inv-loop μ-loop
 loop-less c = omega arith
@@ -52,13 +52,13 @@ loop-again c =
     let a = c .before .before .before .before .before .before .args in
     let l = c .before .before .before .before .loop in
     let r = c .before .record-ok in
-    (omega arith, records-turn (l .i) (a .count) (a .t .now) (r .result) (omega arith) (r .ensures) (l .inv .1) (not-false _ (c .if1 .left)))
+    (omega arith, records-turn (l .k) (a .count) (a .t .now) (r .result) (omega arith) (r .ensures) (l .inv .1) (not-false _ (c .if1 .left)))
 
 returns-2 : tie.Need-returns-2 Inv-loop μ-loop
 returns-2 c =
     let a = c .before .before .before .args in
     let l = c .before .loop in
-    sym (records-end (l .i) (a .count) (a .t .now) (omega arith)) ∙ l .inv .1
+    sym (records-end (l .k) (a .count) (a .t .now) (omega arith)) ∙ l .inv .1
 
 pub records-ok-spec : {M : Type 1} → statement M
 records-ok-spec =
@@ -74,7 +74,7 @@ records-ok-spec =
     part-record-ok-end
     record-ok-requires
     returns
-    add-i
+    add-k
     loop-less
     loop-again
     returns-2)
