@@ -14,13 +14,11 @@ use Prim.Native.Nat.{ℕ, _≤_, _<_, _^_}
 use mathlib.Core.Bool.{Bool, true, false, not, _&&_, cond}
 use mathlib.Core.List.{List, [], _∷_, _++_, map}
 use mathlib.Core.Option.{Option, none, some}
-use mathlib.Core.Path.{_≡_, refl, sym, ap, _∙_}
-use native.Mathlib.Omega.{arith}
+use mathlib.Core.Path.{_≡_, refl, ap, _∙_}
 use borrow.Author.Tests.{eq-eqb, le-leb, lt-leb}
-use lib.Dec.{eqb, leb}
+use lib.Dec.{leb}
 use lib.ListN.{length, getD, take, drop, set}
 use lib.Seq.{getD-at, length-take-le}
-use Rattle.model.specs.declared.Answer.{Answer}
 use Rattle.model.specs.declared.Instance.{Instance}
 use Rattle.model.specs.declared.InstanceCall.{InstanceCall}
 use Rattle.model.specs.declared.InstanceCall.the-variants.{Register, EnsureRegisteredLimited, Dispose, Unregister, UnregisterWriter, NoteWriter, DropWriter, ObserveLifecycle, ObserveAdmitted, NoteAdmitted, RecordDelivery, NoteTaken, MarkViewSeen, MarkViewNew, DrainSamples, AcceptUnderExclusiveOwnership, UpdateOwnerStrength, ClearOwnerForWriter, ClearOwnerForWriterPrefix, ReleaseOwnerOf, Autopurge}
@@ -29,16 +27,16 @@ use Rattle.model.specs.declared.Sheet.{Sheet}
 use Rattle.model.specs.Answers.{silent}
 use Rattle.model.specs.Guids.{num}
 use Rattle.model.specs.Handles.{allocated}
-use Rattle.model.specs.InstanceCalls.{Turned, refused, unchanged, withInstances, known, begins, begun, nextAfter, acts, instancesAfter, listedBy, handleBytes, reached, told, atLimit, full, spent, crowds, lateRefusal, instanceTurn, instanceCall}
-use Rattle.model.specs.Instances.{Reach, byKey, startingByKey, startingWithin, byHandle, every, effect, rule, hasKey, reachesBy, reaches, startsBy, limitedBy, started, startedState}
+use Rattle.model.specs.InstanceCalls.{refused, unchanged, withInstances, known, begins, begun, nextAfter, acts, instancesAfter, listedBy, handleBytes, reached, told, atLimit, full, spent, crowds, lateRefusal, instanceTurn, instanceCall}
+use Rattle.model.specs.Instances.{Reach, byKey, startingByKey, startingWithin, byHandle, every, effect, rule, hasKey, reachesBy, reaches, startsBy, limitedBy, started}
 use Rattle.model.specs.State.{State, instanceKey}
-use Rattle.model.specs.Tables.{isSome, find, pick, any, put, sift, rising}
+use Rattle.model.specs.Tables.{isSome, pick, put, sift, rising}
 use Rattle.model.specs.Times.{negative}
-use Rattle.tables.specs.declared.Found.the-variants.{At, Missing}
+use Rattle.tables.specs.declared.Found.the-variants.{Missing}
 use Rattle.tables.specs.Found.{foundIn}
 use Rattle.turns.specs.Places.{Only, Nowhere}
 use Rattle.turns.proofs.Finds.{clash, find-only, find-nowhere, find-set, any-nowhere, pick-nowhere, only-insert}
-use Rattle.turns.proofs.Keys.{missing-nowhere, missing-put, missing-only, missing-sift, missing-le}
+use Rattle.turns.proofs.Keys.{missing-nowhere, missing-put, missing-sift, missing-le}
 use Rattle.turns.proofs.Sifts.{sift-only, sift-nowhere}
 use Rattle.instance_tracker.specs.Rules.{single, handled, saysOf, answerOf}
 use Rattle.instance_tracker.specs.Turned.{withState}
@@ -116,7 +114,7 @@ effect-some ReleaseOwnerOf s x h = refl
 effect-some Autopurge s x h = clash false h refl
 
 -- a call that starts an instance adds no writer
-starts-alone : (c : InstanceCall) → startsBy (rule c .reach) ≡ true → rule c .addsWriter ≡ false
+pub starts-alone : (c : InstanceCall) → startsBy (rule c .reach) ≡ true → rule c .addsWriter ≡ false
 starts-alone Register h = refl
 starts-alone EnsureRegisteredLimited h = refl
 starts-alone Dispose h = refl
@@ -197,7 +195,7 @@ limit-idle startingWithin false b h = clash true refl h
 limit-idle byHandle k b h = refl
 limit-idle every k b h = refl
 
-and-false : (b : Bool) → (b && false) ≡ false
+pub and-false : (b : Bool) → (b && false) ≡ false
 and-false true = refl
 and-false false = refl
 

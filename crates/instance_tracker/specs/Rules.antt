@@ -1,7 +1,8 @@
 -- What the calls on one instance need to know of a call: how it reaches its instance, and what it answers of it.
 --     single, handled          the call reaches one instance; it does so by its handle
 --     saysOf, answerOf         what the call answers, from its instance before the call and after it
---     ruleOf                   the whole rule of a call
+--     atKey, atHandle, starting, ruleOf
+--                              the rule of a call
 -- Rests on model's table of the calls.
 use mathlib.Core.Bool.{Bool, true, false}
 use mathlib.Core.Option.{Option}
@@ -64,6 +65,15 @@ answerOf Samples s before after = samplesAnswer after
 answerOf Info s before after = infoAnswer after
 answerOf Accepted s before after = saying (accepted s before)
 answerOf Released s before after = saying (released s before)
+
+abbrev pub atKey : Bool → Says → CallRule
+atKey adds says = record { «by_handle» = false; starts = false; limited = false; «adds_writer» = adds; says = says }
+
+abbrev pub atHandle : Bool → Says → CallRule
+atHandle adds says = record { «by_handle» = true; starts = false; limited = false; «adds_writer» = adds; says = says }
+
+abbrev pub starting : Bool → Says → CallRule
+starting limited says = record { «by_handle» = false; starts = true; limited = limited; «adds_writer» = false; says = says }
 
 abbrev pub ruleOf : InstanceCall → CallRule
 ruleOf c =

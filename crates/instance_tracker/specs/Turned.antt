@@ -1,12 +1,14 @@
 -- What a call on one instance asks of the lent table, and what it leaves.
 --     Ready             the table is well formed
 --     Left, Turned      what comes back and what the table then holds is what model's call leaves
+--     Acted             what a call leaves of an instance
 --     Reached, Absent, Starts
 --                       the instance that a call reaches stands at a place; it reaches none; it starts one there
 -- Rests on model's calls and on instance_table's layout.
-use Prim.Native.Nat.{ℕ, _*_, _≤_}
-use mathlib.Core.Bool.{true, false}
+use Prim.Native.Nat.{ℕ, _*_, _≤_, _<_}
+use mathlib.Core.Bool.{true, false, not, _&&_}
 use mathlib.Core.List.{List, [], map}
+use mathlib.Core.Option.{some}
 use mathlib.Core.Path.{_≡_}
 use lib.ListN.{length}
 use Rattle.model.specs.declared.Instance.{Instance}
@@ -14,11 +16,12 @@ use Rattle.model.specs.declared.InstanceCall.{InstanceCall}
 use Rattle.model.specs.declared.InstanceState.{InstanceState}
 use Rattle.model.specs.declared.Sheet.{Sheet}
 use Rattle.model.specs.Guids.{num}
-use Rattle.model.specs.InstanceCalls.{instanceCall, withInstances, begins} 
+use Rattle.model.specs.InstanceCalls.{instanceCall, withInstances}
 use Rattle.model.specs.InstanceCalls as calls
 use Rattle.model.specs.InstanceRecord.{instanceOf}
-use Rattle.model.specs.Instances.{rule, reaches, startsBy}
+use Rattle.model.specs.Instances.{effect, rule, hasKey, reaches, startsBy}
 use Rattle.model.specs.State.{State, freshState, instanceKey}
+use Rattle.model.specs.Tables.{any}
 use Rattle.model.specs.WellFormed.{instanceTableOk}
 use Rattle.tables.specs.declared.Found.the-variants.{Missing}
 use Rattle.tables.specs.Found.{foundIn}
@@ -57,10 +60,16 @@ blank = instanceOf []
 abbrev pub withState : Instance → InstanceState → Instance
 withState x z = record { key = x .key; handle = x .handle; state = z }
 
+-- y is what the call leaves of x
+pub record Acted (c : InstanceCall) (s : Sheet) (x y : Instance) : Type 0 where
+  pub left : effect c s (x .state) ≡ some (y .state)
+  pub same : y ≡ withState x (y .state)
+  pub few : y .state .writers .len < 32
+
 -- the call reaches one instance, that at place i, and starts none
-pub record Reached (c : InstanceCall) (s : Sheet) (xs : List Instance) (next i : ℕ) : Type 0 where
+pub record Reached (c : InstanceCall) (s : Sheet) (xs : List Instance) (i : ℕ) : Type 0 where
   pub one : single (rule c .reach) ≡ true
-  pub old : begins c s (stateWith xs next) ≡ false
+  pub old : (startsBy (rule c .reach) && not (any (hasKey (s .key)) xs)) ≡ false
   pub only : Only (reaches c s) xs i blank
 
 -- it reaches none, and starts none

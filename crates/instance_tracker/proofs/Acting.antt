@@ -1,0 +1,159 @@
+-- A call that acts on one instance.
+--     insert-known, room           a writer has room where it is known, or where fewer than 16 are
+--     crowds-is                    the test of it, by the set's own length
+--     few-left                     what a call leaves has at most 16 writers
+--     acted-of                     what the effect leaves, as an instance
+-- Assumes nothing.
+use Prim.Native.Nat.{ℕ, _≤_}
+use mathlib.Core.Bool.{Bool, true, false, not, _&&_, cond}
+use mathlib.Core.List.{List, [], _∷_}
+use mathlib.Core.Option.{Option, none, some}
+use mathlib.Core.Path.{_≡_, refl, sym, ap}
+use native.Mathlib.Omega.{arith}
+use borrow.Author.Tests.{ltb-true, ltb-false, leb-false, ne-eqb}
+use lib.Dec.{ltb, leb, eqb}
+use lib.ListN.{length, length-take}
+use Rattle.model.specs.declared.Guid.{Guid}
+use Rattle.model.specs.declared.Instance.{Instance}
+use Rattle.model.specs.declared.InstanceCall.{InstanceCall}
+use Rattle.model.specs.declared.InstanceCall.the-variants.{Register, EnsureRegisteredLimited, Dispose, Unregister, UnregisterWriter, NoteWriter, DropWriter, ObserveLifecycle, ObserveAdmitted, NoteAdmitted, RecordDelivery, NoteTaken, MarkViewSeen, MarkViewNew, DrainSamples, AcceptUnderExclusiveOwnership, UpdateOwnerStrength, ClearOwnerForWriter, ClearOwnerForWriterPrefix, ReleaseOwnerOf, Autopurge}
+use Rattle.model.specs.declared.InstanceState.{InstanceState}
+use Rattle.model.specs.declared.Holder.{Holder}
+use Rattle.model.specs.declared.MaybeOwner.{MaybeOwner}
+use Rattle.model.specs.declared.MaybeTime.{MaybeTime}
+use Rattle.model.specs.declared.Sheet.{Sheet}
+use Rattle.model.specs.declared.WriterSet.{WriterSet}
+use Rattle.model.specs.Guids.{num, same}
+use Rattle.model.specs.InstanceCalls.{crowds}
+use Rattle.model.specs.Instances.{effect, rule, writersIn}
+use Rattle.model.specs.Sets.{members, setOf, has, insert}
+use Rattle.model.specs.Tables.{isSome, rising, above}
+use Rattle.turns.proofs.Finds.{both, split, clash}
+use Rattle.writer_set.proofs.SetLaws.{insert-le, remove-le, sound-size}
+use Rattle.writer_set.proofs.PlaceLaws.{length-members}
+use Rattle.instance_state.specs.declared.Effect.{Effect}
+use Rattle.instance_state.specs.Effects.{Usable, Room, leftOf}
+use Rattle.instance_state.proofs.Keeps.{Closed, Asked, kept}
+use Rattle.instance_tracker.specs.Rules.{single}
+use Rattle.instance_tracker.specs.Turned.{withState, Acted}
+use Rattle.instance_tracker.proofs.Turns.{effect-some}
+
+-- ---- room for a writer
+
+-- a GUID that is not above n is none of those above it
+above-has : (g : Guid) (n : ℕ) (s : List Guid) → num g ≤ n → above num n s ≡ true → has g s ≡ false
+unfolding above has
+above-has g n [] l h = refl
+above-has g n (x ∷ s) l h =
+    let b = both (ltb n (num x)) (above num n s) h in
+    rw (ne-eqb (num x) (num g) (λ e. omega (arith, ltb-true n (num x) (b .0)))) (above-has g n s l (b .1))
+
+pub insert-known : (g : Guid) (s : List Guid) → rising num s ≡ true → has g s ≡ true → insert g s ≡ s
+unfolding rising has insert
+insert-known g [] r h = clash false h refl
+insert-known g (x ∷ s) r h =
+    let b = both (above num (num x) s) (rising num s) r in
+    split (ltb (num x) (num g))
+    (λ e.
+    let n : eqb (num x) (num g) ≡ false = ne-eqb (num x) (num g) (λ q. omega (arith, ltb-true (num x) (num g) e)) in
+    rw e (ap (λ (l : List Guid). x ∷ l) (insert-known g s (b .1) (rw n at h))))
+    (λ e.
+    rw e (split (eqb (num x) (num g)) (λ q. rw q)
+    (λ q. clash (has g s) (rw q at h) (above-has g (num x) s (ltb-false (num x) (num g) e) (b .0)))))
+
+module _ (g : Guid) (x : InstanceState) (r : rising num (writersIn x) ≡ true) where
+  pub room : (not (has g (writersIn x)) && leb 16 (length (writersIn x))) ≡ false → length (writersIn x) ≤ 16 → Room g x
+  room h l =
+      split (has g (writersIn x)) (λ e. omega (arith, ap length (insert-known g (writersIn x) r e)))
+      (λ e. omega (arith, insert-le g (writersIn x), leb-false 16 (length (writersIn x)) (rw e at h)))
+
+-- ---- what a call leaves has at most 16 writers
+
+abbrev Any : ℕ → Type 0
+Any n = Unit
+
+abbrev AnyTime : MaybeTime → Type 0
+AnyTime t = Unit
+
+abbrev AnyOwner : MaybeOwner → Type 0
+AnyOwner o = Unit
+
+abbrev AnyHolder : Holder → Type 0
+AnyHolder h = Unit
+
+abbrev Few : WriterSet → Type 0
+Few w = w .len ≤ 16
+
+closed : Closed Any Any AnyTime AnyOwner AnyHolder Few
+unfolding setOf
+closed =
+    record {
+      generation = λ n h. tt;
+      more = λ n h. tt;
+      some = λ n h. tt;
+      fewer = λ n k h. tt;
+      absent = tt;
+      nobody = tt;
+      without = λ g w h. omega (arith, remove-le g (members w), length-take (w .len) (w .items));
+    }
+
+module _ (s : Sheet) (x : InstanceState) where
+  asked : (c : InstanceCall) → (rule c .addsWriter ≡ true → Room (s .guid) x) → Asked Any Any AnyTime AnyOwner AnyHolder Few c s x
+  unfolding setOf
+  asked Register r = (tt, tt)
+  asked EnsureRegisteredLimited r = tt
+  asked Dispose r = tt
+  asked Unregister r = tt
+  asked UnregisterWriter r = tt
+  asked NoteWriter r = r refl
+  asked DropWriter r = tt
+  asked ObserveLifecycle r = (tt, (λ e. tt))
+  asked ObserveAdmitted r = (tt, tt)
+  asked NoteAdmitted r = (tt, tt, r refl)
+  asked RecordDelivery r = tt
+  asked NoteTaken r = tt
+  asked MarkViewSeen r = tt
+  asked MarkViewNew r = tt
+  asked DrainSamples r = tt
+  asked AcceptUnderExclusiveOwnership r = (tt, tt)
+  asked UpdateOwnerStrength r = tt
+  asked ClearOwnerForWriter r = tt
+  asked ClearOwnerForWriterPrefix r = tt
+  asked ReleaseOwnerOf r = tt
+  asked Autopurge r = tt
+
+  pub few-left : (c : InstanceCall) → x .writers .len ≤ 16 → (rule c .addsWriter ≡ true → Room (s .guid) x) →
+      (y : InstanceState) → effect c s x ≡ some y → y .writers .len ≤ 16
+  few-left c f r y e =
+      kept Any Any AnyTime AnyOwner AnyHolder Few closed s x
+      (record {
+        life = record { disposed = tt; noWriters = tt; count = tt; samples = tt };
+        times = record { sample = tt; delivered = tt; filter = tt; disposed = tt; noWriters = tt; owner = tt };
+        owner = tt;
+        holder = tt;
+        writers = f;
+      }) c (asked c r) y e .writers
+
+-- ---- the instance that is left
+
+-- what is left is there
+left-is : (keep : Bool) (z : InstanceState) (o : Option InstanceState) → cond keep (some z) none ≡ o → isSome o ≡ true → o ≡ some z
+left-is true z o e h = sym e
+left-is false z o e h = clash (isSome o) h (ap isSome (sym e))
+
+pub acted-of : (c : InstanceCall) (s : Sheet) (x : Instance) (e : Effect) → single (rule c .reach) ≡ true → Usable (x .state) →
+    (rule c .addsWriter ≡ true → Room (s .guid) (x .state)) → leftOf e ≡ effect c s (x .state) → Acted c s x (withState x (e .state))
+acted-of c s x e h u r q =
+    let l : effect c s (x .state) ≡ some (e .state) = left-is (e .keep) (e .state) (effect c s (x .state)) q (effect-some c s (x .state) h) in
+    record { left = l; same = refl; few = omega (arith, few-left s (x .state) c (u .writers .few) r (e .state) l) }
+
+-- ---- the tests of the code
+
+-- where the writer is known, and where it is not
+module _ (s : Sheet) (x : Instance) (u : Usable (x .state)) where
+  pub crowds-known : has (s .guid) (writersIn (x .state)) ≡ true → crowds s (some x) ≡ false
+  crowds-known h = rw h
+
+  pub crowds-full : has (s .guid) (writersIn (x .state)) ≡ false → crowds s (some x) ≡ leb 16 (x .state .writers .len)
+  crowds-full h =
+      rw (h, length-members (x .state .writers) (sound-size (x .state .writers) (u .writers)) (u .writers .few))

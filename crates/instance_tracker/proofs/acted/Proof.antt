@@ -1,0 +1,14 @@
+-- What the effect leaves, with the key and the handle that were there. Assumes nothing.
+use Rattle.instance_tracker.proofs.Acting.{acted-of}
+use borrow.Author.Needs.{needs}
+use Rattle.instance_tracker.proofs.acted.Statement.{statement}
+use Rattle.instance_tracker.proofs.acted.Tie as tie
+
+take-effect-requires : tie.Need-take-effect-requires
+take-effect-requires c κs = search needs
+
+returns : tie.Need-returns
+returns c = let a = c .before .before .before .before .before in acted-of (a .args .c) (a .args .s) (a .args .x) (c .before .take-effect .result) (a .pre .0) (a .pre .1) (a .pre .2) (c .before .take-effect .ensures)
+
+pub acted-spec : {M : Type 1} → statement M
+acted-spec = tie.close (tie.spec take-effect-requires returns)

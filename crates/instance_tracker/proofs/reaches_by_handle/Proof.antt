@@ -1,0 +1,13 @@
+-- A part of the rule. Assumes nothing.
+use borrow.Author.Needs.{needs}
+use Rattle.instance_tracker.proofs.reaches_by_handle.Statement.{statement}
+use Rattle.instance_tracker.proofs.reaches_by_handle.Tie as tie
+
+rule-of-requires : tie.Need-rule-of-requires
+rule-of-requires c κs = search needs
+
+returns : tie.Need-returns
+returns c = rw (c .rule-of .ensures)
+
+pub reaches-by-handle-spec : {M : Type 1} → statement M
+reaches-by-handle-spec = tie.close (tie.spec rule-of-requires returns)
