@@ -5,3 +5,4 @@ pub mod InstanceRange
 pub mod Chain
 pub mod Admit
 pub mod Whole
+pub mod SheetChain

@@ -5,11 +5,16 @@
 // Copyright 2026 ZeroDDS Contributors. SPDX-License-Identifier: Apache-2.0. Changed: written anew in Rattle, with the state
 // lent as head and buffers.
 use model::InstanceCall;
+use model::JoinedCall;
+use model::Sheet;
 use model::TrackerCall;
 ghost use mathlib.Core.Option.{some};
 ghost use mathlib.Core.Path.{_≡_};
 ghost use Prim.Native.Nat.{_≤_};
-ghost use Rattle.model.specs.Calls.{instances, tracker, callOfCode};
+ghost use Rattle.model.specs.declared.JoinedCall.the-variants.{Admit, Lapse, Part, Depart};
+ghost use Rattle.model.specs.Calls.{instances, tracker, joined, callOfCode};
+ghost use Rattle.model.specs.Refusals.{sheetRefusal};
+ghost use Rattle.model.specs.State.{State};
 
 // The call on instances of a code from 1 to 21.
 pub fn instance_call(code: u8) -> InstanceCall
@@ -57,4 +62,58 @@ pub fn tracker_call(code: u8) -> TrackerCall
         39 => TrackerCall::TakeStatus,
         _ => TrackerCall::Acknowledge,
     }
+}
+
+// The joined call of a code from 48 to 51.
+pub fn joined_call(code: u8) -> JoinedCall
+    requires { ⌜ (48 ≤ code) × (code ≤ 51) ⌝ }
+    ensures { λ r. ⌜ callOfCode code ≡ some (joined r) ⌝ }
+{
+    match code {
+        48 => JoinedCall::Admit,
+        49 => JoinedCall::Lapse,
+        50 => JoinedCall::Part,
+        _ => JoinedCall::Depart,
+    }
+}
+
+// The number of the refusal that the sheet of code 48 meets, 0 for none.
+fn admit_refusal(s: Sheet) -> u8
+    ensures { λ r. ⌜ ((st : State) → r ≡ sheetRefusal (joined Admit) s st) ⌝ }
+{
+    let t = s.time_1;
+    let u = s.time_2;
+    if !call_sheet::both_ok(t, u) {
+        return 4;
+    }
+    let h = s.holder;
+    if 144 < h.len {
+        return 6;
+    }
+    0
+}
+
+// The same of code 49.
+fn lapse_refusal(s: Sheet) -> u8
+    ensures { λ r. ⌜ ((st : State) → r ≡ sheetRefusal (joined Lapse) s st) ⌝ }
+{
+    let t = s.time_1;
+    if !call_sheet::optional_ok(t) {
+        return 4;
+    }
+    if !call_sheet::clock_ok(s.a) {
+        return 5;
+    }
+    0
+}
+
+// The same of codes 50 and 51.
+fn leave_refusal(s: Sheet) -> u8
+    ensures { λ r. ⌜ ((st : State) → (r ≡ sheetRefusal (joined Part) s st) × (r ≡ sheetRefusal (joined Depart) s st)) ⌝ }
+{
+    let t = s.time_1;
+    if !call_sheet::optional_ok(t) {
+        return 4;
+    }
+    0
 }

@@ -1,0 +1,110 @@
+-- Codes 16, 9 and 10 one after the other, in terms of the list of instances.
+--     admitted-known      the instance at place i changed
+--     admitted-new        an instance put in at place i; code 16 does nothing to an absent one
+--     same-answer         the answers of codes 9 and 10, both by the instance that is left
+-- Assumes nothing.
+use Prim.Native.Nat.{ℕ, _≤_}
+use mathlib.Core.Bool.{true, false}
+use mathlib.Core.List.{List, [], _∷_, _++_, map}
+use mathlib.Core.Option.{some}
+use mathlib.Core.Path.{_≡_, refl, subst}
+use borrow.Author.Tests.{eq-eqb}
+use lib.ListN.{length, getD, take, drop, set}
+use lib.Seq.{getD-at, getD-set-same, length-take-le, set-at, set-set}
+use Rattle.model.specs.declared.Answer.{Answer}
+use Rattle.model.specs.declared.Instance.{Instance}
+use Rattle.model.specs.declared.InstanceCall.{InstanceCall}
+use Rattle.model.specs.declared.InstanceCall.the-variants.{ObserveAdmitted, NoteAdmitted, AcceptUnderExclusiveOwnership}
+use Rattle.model.specs.declared.InstanceState.{InstanceState}
+use Rattle.model.specs.declared.Sheet.{Sheet}
+use Rattle.model.specs.Answers.{both}
+use Rattle.model.specs.Guids.{num}
+use Rattle.model.specs.Handles.{allocated}
+use Rattle.model.specs.InstanceCalls.{Turned, withInstances, begins, samplesAnswer, infoAnswer, instanceTurn}
+use Rattle.model.specs.Instances.{effect, rule, hasKey, reaches, ownershipTried, admittedObserved, admittedNoted, writerNoted, started}
+use Rattle.model.specs.Joined.{admitted}
+use Rattle.model.specs.State.{State, instanceKey}
+use Rattle.model.specs.Tables.{rising}
+use Rattle.tables.specs.declared.Found.the-variants.{Missing}
+use Rattle.tables.specs.Found.{foundIn}
+use Rattle.turns.specs.Places.{Only, Nowhere}
+use Rattle.turns.proofs.Finds.{any-only, only-insert, only-set}
+use Rattle.turns.proofs.Keys.{missing-nowhere, missing-le}
+use Rattle.instance_tracker.specs.Rules.{single, saysOf, answerOf}
+use Rattle.instance_tracker.specs.Turned.{withState}
+use Rattle.instance_tracker.proofs.Turns.{turn-found, turn-none, turn-started}
+
+-- the turn that leaves the instances ys
+abbrev pub leaving : Answer → List Instance → ℕ → State → Turned
+leaving a ys next st = record { answer = a; state = withInstances ys next st; list = [] }
+
+-- the answers of codes 9 and 10, by the instance that they leave
+abbrev pub answersOf : Instance → Answer
+answersOf y = both (samplesAnswer (some y)) (infoAnswer (some y))
+
+-- code 10 leaves the samples as they are
+pub same-answer : (s : Sheet) (x : Instance) (z : InstanceState) →
+    both (samplesAnswer (some (withState x z))) (infoAnswer (some (withState x (admittedNoted s z)))) ≡ answersOf (withState x (admittedNoted s z))
+unfolding admittedNoted writerNoted
+same-answer s x z = refl
+
+module _ (s : Sheet) (d : Instance) where
+  -- one turn, on the instance x at place i
+  turn-at : (c : InstanceCall) (st : State) (i : ℕ) (x : Instance) (z : InstanceState) → single (rule c .reach) ≡ true → begins c s st ≡ false →
+      Only (reaches c s) (st .instances) i d → getD (st .instances) i d ≡ x → effect c s (x .state) ≡ some z →
+      instanceTurn c s st
+      ≡ leaving (answerOf (saysOf c) s (some x) (some (withState x z))) (set (st .instances) i (withState x z)) (st .nextHandle) st
+  turn-at c st i x z h old o is e =
+      subst
+      (λ (y : Instance). instanceTurn c s st
+      ≡ leaving (answerOf (saysOf c) s (some y) (some (withState y z))) (set (st .instances) i (withState y z)) (st .nextHandle) st) is
+      (turn-found c s st old i d z h o (rw is e))
+
+  module _ (st : State) (i : ℕ) where
+    abbrev xs : List Instance
+    xs = st .instances
+
+    -- the key stands at place i
+    pub admitted-known : (x : Instance) → Only (hasKey (s .key)) xs i d → getD xs i d ≡ x →
+        admitted s st
+        ≡ leaving (answersOf (withState x (admittedNoted s (admittedObserved s (ownershipTried s (x .state))))))
+        (set xs i (withState x (admittedNoted s (admittedObserved s (ownershipTried s (x .state)))))) (st .nextHandle) st
+    unfolding admitted
+    admitted-known x o is =
+        let k = hasKey (s .key) in
+        let here : k x ≡ true = rw is at (o .here) in
+        let z1 : InstanceState = ownershipTried s (x .state) in
+        let z2 : InstanceState = admittedObserved s z1 in
+        let z3 : InstanceState = admittedNoted s z2 in
+        let x1 : Instance = withState x z1 in
+        let x2 : Instance = withState x z2 in
+        let o1 : Only k (set xs i x1) i d = only-set k xs x1 d i o here in
+        let o2 : Only k (set (set xs i x1) i x2) i d = only-set k (set xs i x1) x2 d i o1 here in
+        let e1 = turn-at AcceptUnderExclusiveOwnership st i x z1 refl refl o is refl in
+        let e2 = turn-at ObserveAdmitted (withInstances (set xs i x1) (st .nextHandle) st) i x1 z2 refl (rw (any-only k d (set xs i x1) i o1)) o1
+        (getD-set-same xs i x1 d (o .within)) refl in
+        let e3 = turn-at NoteAdmitted (withInstances (set (set xs i x1) i x2) (st .nextHandle) st) i x2 z3 refl refl o2
+        (getD-set-same (set xs i x1) i x2 d (o1 .within)) refl in
+        rw (e1, e2, e3, same-answer s x z2, set-set xs i x1 x2, set-set xs i x2 (withState x z3))
+
+    -- the key is missing, and its instance goes in at place i
+    module _ (r : rising instanceKey xs ≡ true) (m : foundIn (map instanceKey xs) (num (s .key)) ≡ Missing i) where
+      pub admitted-new : (x : Instance) → x ≡ started (s .key) (allocated (st .nextHandle) .handle .0) →
+          admitted s st
+          ≡ leaving (answersOf (withState x (admittedNoted s (admittedObserved s (x .state)))))
+          (take i xs ++ withState x (admittedNoted s (admittedObserved s (x .state))) ∷ drop i xs) (allocated (st .nextHandle) .counter) st
+      unfolding admitted started
+      admitted-new x is =
+          let k = hasKey (s .key) in
+          let g : Instance = started (s .key) (allocated (st .nextHandle) .handle .0) in
+          let n : Nowhere k xs d = missing-nowhere instanceKey xs d r (num (s .key)) i m in
+          let l : i ≤ length xs = missing-le instanceKey xs d r (num (s .key)) i m in
+          let z2 : InstanceState = admittedObserved s (g .state) in
+          let z3 : InstanceState = admittedNoted s z2 in
+          let x2 : Instance = withState g z2 in
+          let ys : List Instance = take i xs ++ x2 ∷ drop i xs in
+          let e1 = turn-none AcceptUnderExclusiveOwnership s st refl d refl n in
+          let e2 = turn-started ObserveAdmitted s st i d r m refl z2 refl in
+          let e3 = turn-at NoteAdmitted (withInstances ys (allocated (st .nextHandle) .counter) st) i x2 z3 refl refl
+          (only-insert k xs x2 d i l n (eq-eqb (num (s .key)) (num (s .key)) refl)) (getD-at (take i xs) x2 (drop i xs) d i (length-take-le i xs l)) refl in
+          rw (is, e1, e2, e3, same-answer s g z2, set-at (take i xs) x2 (drop i xs) (withState g z3) i (length-take-le i xs l))

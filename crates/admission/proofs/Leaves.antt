@@ -1,0 +1,148 @@
+-- From the lent table to what code 48 leaves, answer by answer.
+--     known-read, known-place, known-usable, known-room    what a known instance gives
+--     order-left, filter-left, crowded-left, weaker-left   a known key: nothing is written
+--     admitted-left                                        the instance is replaced
+--     limited-left, full-left, spent-left                  a new key: nothing is written
+--     new-within, first-left                               the instance is put in
+-- Assumes nothing.
+use Prim.Native.Nat.{ℕ, _+_, _*_, _≤_, _<_, _^_}
+use mathlib.Core.Bool.{true, false}
+use mathlib.Core.List.{List, _∷_, _++_, map}
+use mathlib.Core.Option.{none, some}
+use mathlib.Core.Path.{_≡_, sym, ap, _∙_}
+use native.Mathlib.Omega.{arith}
+use borrow.Author.Tests.{le-leb, lt-leb}
+use lib.ListN.{length, take, drop, set, length-append, length-drop, length-set}
+use lib.Seq.{length-take-le}
+use Rattle.octets.specs.Bounds.{Bytes}
+use Rattle.model.specs.declared.Answer.{Answer}
+use Rattle.model.specs.declared.Instance.{Instance}
+use Rattle.model.specs.declared.InstanceHandle.{InstanceHandle}
+use Rattle.model.specs.declared.InstanceState.{InstanceState}
+use Rattle.model.specs.declared.Sheet.{Sheet}
+use Rattle.model.specs.Answers.{refusedWith, stopping}
+use Rattle.model.specs.Guids.{num}
+use Rattle.model.specs.Handles.{allocated}
+use Rattle.model.specs.InstanceCalls.{unchanged, crowds}
+use Rattle.model.specs.InstanceRecord.{instanceOf}
+use Rattle.model.specs.Instances.{hasKey, takesOver, ownershipTried, admittedObserved, admittedNoted, started}
+use Rattle.model.specs.Joined.{admitCall, inOrder, passesFilter}
+use Rattle.model.specs.State.{State, instanceKey, instancesIn}
+use Rattle.model.specs.Tables.{find}
+use Rattle.tables.specs.declared.Found.the-variants.{Missing}
+use Rattle.tables.specs.Found.{foundIn}
+use Rattle.turns.specs.Places.{Only}
+use Rattle.turns.proofs.Finds.{find-only, find-nowhere}
+use Rattle.turns.proofs.Keys.{missing-nowhere, missing-le}
+use Rattle.instance_state.specs.Effects.{Usable, Room}
+use Rattle.instance_table.specs.Laid.{Laid}
+use Rattle.instance_tracker.specs.Turned.{Ready, stateWith, blank, withState}
+use Rattle.instance_tracker.proofs.Table.{ready-length, ready-rises, ready-few, ready-laid, ready-place, ready-read, ready-usable, ready-room, done-left}
+use Rattle.admission.specs.Admits.{Admits, Known, Timely, Noted, limited}
+use Rattle.admission.proofs.Admitted.{leaving, answersOf, admitted-known, admitted-new}
+use Rattle.admission.proofs.Tests.{out-of-order, filtered, crowded-out, weaker, admits-known, new-limited, new-full, new-spent, admits-new}
+
+module _ {places count next : ℕ} {t : List ℕ} (r : Ready places count next t) (s : Sheet) where
+  abbrev xs : List Instance
+  xs = instancesIn count t
+
+  abbrev st : State
+  st = stateWith xs next
+
+  -- ---- the instance of the key stands at place i
+
+  module _ (i : ℕ) where
+    within : Only (hasKey (s .key)) xs i blank → i < count
+    within o = omega (arith, o .within, ready-length r)
+
+    pub known-place : Only (hasKey (s .key)) xs i blank → i * 512 + 512 ≤ length t
+    known-place o = ready-place r i (omega (arith, within o, ready-few r))
+
+    pub known-read : (x : Instance) → Only (hasKey (s .key)) xs i blank → x ≡ instanceOf (take 512 (drop (i * 512) t)) → Known s xs i x
+    known-read x o e = record { only = o; is = e ∙ sym (ready-read r i (within o)) }
+
+    module _ (x : Instance) (k : Known s xs i x) where
+      pub known-usable : Usable (x .state)
+      known-usable = rw (k .is) (ready-usable r i (within (k .only)))
+
+      pub known-room : crowds s (some x) ≡ false → Room (s .guid) (x .state)
+      known-room h = rw (k .is) (ready-room r i (within (k .only)) (s .guid) (rw (k .is) at h))
+
+  -- ---- what is left
+
+  module _ (bytes : Bytes t) where
+    -- nothing is written
+    same-left : (a b : Answer) (h : InstanceHandle) → admitCall places s st ≡ unchanged a st → b ≡ a → h .0 ≡ next →
+        Admits places s xs next (record { answer = b; count = count; «next_handle» = h }) t
+    same-left a b h q e k = done-left q b count h e (sym (ready-length r)) k (ready-laid r bytes)
+
+    module _ (i : ℕ) (x : Instance) (k : Known s xs i x) (b : Answer) (h : InstanceHandle) (same : h .0 ≡ next) where
+      found : find (hasKey (s .key)) xs ≡ some x
+      found = find-only (hasKey (s .key)) blank xs i (k .only) ∙ ap some (sym (k .is))
+
+      pub order-left : inOrder s (some x) ≡ false → b ≡ stopping 1 → Admits places s xs next (record { answer = b; count = count; «next_handle» = h }) t
+      order-left a e = same-left (stopping 1) b h (out-of-order places s st x found a) e same
+
+      pub filter-left : inOrder s (some x) ≡ true → passesFilter s (some x) ≡ false → b ≡ stopping 2 →
+          Admits places s xs next (record { answer = b; count = count; «next_handle» = h }) t
+      filter-left a f e = same-left (stopping 2) b h (filtered places s st x found a f) e same
+
+      module _ (timely : Timely s x) where
+        pub crowded-left : crowds s (some x) ≡ true → b ≡ refusedWith 10 → Admits places s xs next (record { answer = b; count = count; «next_handle» = h }) t
+        crowded-left c e = same-left (refusedWith 10) b h (crowded-out places s st x found timely c) e same
+
+        module _ (c : crowds s (some x) ≡ false) where
+          pub weaker-left : takesOver s (x .state) ≡ false → b ≡ stopping 4 → Admits places s xs next (record { answer = b; count = count; «next_handle» = h }) t
+          weaker-left w e = same-left (stopping 4) b h (weaker places s st x found timely c w) e same
+
+          pub admitted-left : (z : InstanceState) (y : Instance) (u : List ℕ) → takesOver s (x .state) ≡ true → z ≡ ownershipTried s (x .state) → Noted s x z y →
+              b ≡ answersOf y → ((places : ℕ) (xs : List Instance) → Laid places xs t → i < length xs → Laid places (set xs i y) u) →
+              Admits places s xs next (record { answer = b; count = count; «next_handle» = h }) u
+          admitted-left z y u w o n e l =
+              let q : y ≡ withState x (admittedNoted s (admittedObserved s (ownershipTried s (x .state)))) =
+              n .left ∙ ap (λ (v : InstanceState). withState x (admittedNoted s (admittedObserved s v))) o in
+              done-left (admits-known places s st x found timely c w ∙ admitted-known s blank st i x (k .only) (sym (k .is))
+              ∙ ap (λ (v : Instance). leaving (answersOf v) (set xs i v) next st) (sym q)) b count h e
+              (sym (length-set xs i y ∙ ready-length r)) same (l places xs (ready-laid r bytes) (k .only .within))
+
+    -- no instance has the key, and place i is where it would go in
+    module _ (i : ℕ) (m : foundIn (map instanceKey xs) (num (s .key)) ≡ Missing i) (b : Answer) (h : InstanceHandle) where
+      nobody : find (hasKey (s .key)) xs ≡ none
+      nobody = find-nowhere (hasKey (s .key)) blank xs (missing-nowhere instanceKey xs blank (ready-rises r) (num (s .key)) i m)
+
+      counted : limited s (length xs) ≡ limited s count
+      counted = rw (ready-length r)
+
+      pub limited-left : limited s count ≡ true → b ≡ stopping 3 → h .0 ≡ next → Admits places s xs next (record { answer = b; count = count; «next_handle» = h }) t
+      limited-left l e same = same-left (stopping 3) b h (new-limited places s st nobody (counted ∙ l)) e same
+
+      module _ (l : limited s count ≡ false) where
+        pub full-left : places ≤ count → b ≡ refusedWith 9 → h .0 ≡ next → Admits places s xs next (record { answer = b; count = count; «next_handle» = h }) t
+        full-left f e same =
+            same-left (refusedWith 9) b h (new-full places s st nobody (counted ∙ l) (le-leb places (length xs) (omega (arith, ready-length r)))) e same
+
+        module _ (f : count < places) where
+          free : length xs < places
+          free = omega (arith, ready-length r)
+
+          pub spent-left : 9223372036854775808 ≤ next → b ≡ refusedWith 13 → h .0 ≡ next →
+              Admits places s xs next (record { answer = b; count = count; «next_handle» = h }) t
+          spent-left p e same =
+              same-left (refusedWith 13) b h
+              (new-spent places s st nobody (counted ∙ l) (lt-leb places (length xs) free) (le-leb (2 ^ 63) next p)) e same
+
+          pub first-left : (x y : Instance) (n : ℕ) (u : List ℕ) → next < 9223372036854775808 → x ≡ started (s .key) (allocated next .handle .0) →
+              Noted s x (x .state) y → b ≡ answersOf y → n ≡ count + 1 → h .0 ≡ allocated next .counter →
+              ((places : ℕ) (xs : List Instance) → Laid places xs t → length xs ≡ count → count < places → Laid places (take i xs ++ y ∷ drop i xs) u) →
+              Admits places s xs next (record { answer = b; count = n; «next_handle» = h }) u
+          first-left x y n u p new a e grown k laid =
+              let w : i ≤ length xs = missing-le instanceKey xs blank (ready-rises r) (num (s .key)) i m in
+              let o : n ≡ length (take i xs ++ y ∷ drop i xs) =
+              omega (arith, length-append (take i xs) (y ∷ drop i xs), length-take-le i xs w, length-drop i xs, ready-length r) in
+              done-left
+              (admits-new places s st nobody (counted ∙ l) (lt-leb places (length xs) free) (lt-leb (2 ^ 63) next p)
+              ∙ admitted-new s blank st i (ready-rises r) m x new
+              ∙ ap (λ (v : Instance). leaving (answersOf v) (take i xs ++ v ∷ drop i xs) (allocated next .counter) st) (sym (a .left))) b n h e o k (laid places xs (ready-laid r bytes) (ready-length r) f)
+
+  pub new-within : (i : ℕ) → foundIn (map instanceKey xs) (num (s .key)) ≡ Missing i → i ≤ count
+  new-within i m = omega (arith, missing-le instanceKey xs blank (ready-rises r) (num (s .key)) i m, ready-length r)

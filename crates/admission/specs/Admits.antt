@@ -1,0 +1,45 @@
+-- What code 48 asks of the lent table on its way, and what it leaves.
+--     Admits            what comes back and what the table then holds is what model's admit leaves
+--     Known, Timely     the instance of the key stands at a place; its sample passes order and filter
+--     Noted             what codes 9 and 10 leave of an instance
+--     limited           the limit of instances, for a new key
+-- Rests on model's joined calls and on instance_tracker's turns.
+use Prim.Native.Nat.{ℕ, _<_}
+use mathlib.Core.Bool.{Bool, true, not, _&&_}
+use mathlib.Core.List.{List}
+use mathlib.Core.Option.{some}
+use mathlib.Core.Path.{_≡_}
+use lib.Dec.{leb}
+use lib.ListN.{getD}
+use Rattle.model.specs.declared.Instance.{Instance}
+use Rattle.model.specs.declared.InstanceState.{InstanceState}
+use Rattle.model.specs.declared.Sheet.{Sheet}
+use Rattle.model.specs.Instances.{hasKey, admittedObserved, admittedNoted}
+use Rattle.model.specs.Joined.{admitCall, inOrder, passesFilter}
+use Rattle.model.specs.Times.{negative}
+use Rattle.turns.specs.Places.{Only}
+use Rattle.instance_tracker.specs.declared.TableCall.{TableCall}
+use Rattle.instance_tracker.specs.Turned.{Left, stateWith, blank, withState}
+
+-- r and t are what admit leaves of the instances xs
+abbrev pub Admits : ℕ → Sheet → List Instance → ℕ → TableCall → List ℕ → Type 0
+Admits places s xs next r t = Left places (admitCall places s (stateWith xs next)) r t
+
+-- x, at place i, is the instance of the sheet's key
+pub record Known (s : Sheet) (xs : List Instance) (i : ℕ) (x : Instance) : Type 0 where
+  pub only : Only (hasKey (s .key)) xs i blank
+  pub is : x ≡ getD xs i blank
+
+-- neither outcome 1 nor outcome 2
+pub record Timely (s : Sheet) (x : Instance) : Type 0 where
+  pub order : inOrder s (some x) ≡ true
+  pub filter : passesFilter s (some x) ≡ true
+
+-- y is x with what codes 9 and 10 leave of the state z
+pub record Noted (s : Sheet) (x : Instance) (z : InstanceState) (y : Instance) : Type 0 where
+  pub left : y ≡ withState x (admittedNoted s (admittedObserved s z))
+  pub few : y .state .writers .len < 32
+
+-- outcome 3 for a key that is not known
+abbrev pub limited : Sheet → ℕ → Bool
+limited s count = not (negative (s .first)) && leb (s .first) count

@@ -1,0 +1,2 @@
+-- Definitions that the contracts of admission cite.
+pub mod Admits

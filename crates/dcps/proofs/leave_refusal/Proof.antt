@@ -1,0 +1,24 @@
+-- `dcps::leave_refusal` meets its contract: one law a link of the chain. Assumes nothing.
+use mathlib.Core.Path.{refl, sym, _∙_}
+use borrow.Author.Tests.{not-true, not-false}
+use Rattle.model.specs.declared.JoinedCall.the-variants.{Part, Depart}
+use Rattle.model.specs.Calls.{joined}
+use Rattle.model.specs.Tables.{all}
+use Rattle.dcps.proofs.SheetChain.{sheet-4, sheet-none}
+use borrow.Author.Needs.{needs}
+use Rattle.dcps.proofs.leave_refusal.Statement.{statement}
+use Rattle.dcps.proofs.leave_refusal.Tie as tie
+
+optional-ok-requires : tie.Need-optional-ok-requires
+optional-ok-requires c κs = search needs
+
+returns : tie.Need-returns
+returns c = λ st. (sheet-4 (joined Part) (c .before .before .before .args .s) st (sym (c .before .optional-ok .ensures) ∙ not-true _ (c .if1 .taken)), sheet-4 (joined Depart) (c .before .before .before .args .s) st (sym (c .before .optional-ok .ensures) ∙ not-true _ (c .if1 .taken)))
+
+returns-2 : tie.Need-returns-2
+unfolding all
+returns-2 c =
+    λ st. (sheet-none (joined Part) (c .before .before .before .args .s) st (sym (c .before .optional-ok .ensures) ∙ not-false _ (c .if1 .left)) refl refl refl refl, sheet-none (joined Depart) (c .before .before .before .args .s) st (sym (c .before .optional-ok .ensures) ∙ not-false _ (c .if1 .left)) refl refl refl refl)
+
+pub leave-refusal-spec : {M : Type 1} → statement M
+leave-refusal-spec = tie.close (tie.spec optional-ok-requires returns returns-2)
