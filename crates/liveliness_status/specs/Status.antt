@@ -1,9 +1,19 @@
 -- The status by value.
-use Prim.Native.Nat.{_+_}
-use mathlib.Core.Bool.{Bool, _&&_}
+use Prim.Native.Nat.{ℕ, _+_}
+use mathlib.Core.Bool.{Bool, true, _&&_}
+use mathlib.Core.Path.{_≡_}
+use mathlib.Core.List.{List}
+use lib.IntN.{ℤ}
 use lib.Dec.{leb, ltb}
+use Rattle.model.specs.declared.Called.{Called}
 use Rattle.model.specs.declared.Head.{Head}
-use Rattle.model.specs.State.{writerPlaces, lostPlaces}
+use Rattle.model.specs.declared.Sheet.{Sheet}
+use Rattle.model.specs.declared.TrackerCall.{TrackerCall}
+use Rattle.model.specs.InstanceCalls.{Turned}
+use Rattle.model.specs.State.{writerPlaces, lostPlaces, headOf, writersIn}
+use Rattle.model.specs.WellFormed.{countsOk}
+use Rattle.model.specs.Writers.{trackerCall}
+use Rattle.liveliness_turns.specs.Held.{heldBy}
 
 -- the counts of a head are such as buffers can have: what model's headAlone asks beside headOk, for 128 instances
 abbrev pub countsFit : Head → Bool
@@ -11,3 +21,30 @@ countsFit h =
     leb (h .«instance_count») 128 && (ltb (h .«instance_count») (h .«next_handle» .0)
     && (leb (h .«writer_count») writerPlaces && (leb (h .alive + h .«not_alive») (h .«writer_count»)
     && leb (h .«lost_count») lostPlaces)))
+
+-- the head with both changes and the number of GUIDs in Lost anew
+abbrev pub changedHead : Head → ℕ → ℤ → ℤ → Head
+changedHead h m a n =
+    record {
+      «instance_count» = h .«instance_count»;
+      «next_handle» = h .«next_handle»;
+      «writer_count» = h .«writer_count»;
+      «lost_count» = m;
+      alive = h .alive;
+      «not_alive» = h .«not_alive»;
+      «alive_change» = a;
+      «not_alive_change» = n;
+      «last_writer» = h .«last_writer»;
+      changes = h .changes;
+    }
+
+-- what a call returned is the turn's: its answer and its head
+pub record Kept (t : Turned) (r : Called) : Type 0 where
+  pub answer : r .answer ≡ t .answer
+  pub head : r .head ≡ headOf (t .state)
+
+-- a call by value: it returns what model's turn says, whatever the buffers hold, if the head counts the writers
+abbrev pub Keeps : TrackerCall → Sheet → Head → Called → Type 0
+Keeps c sheet head r =
+    (pens writers lost : List ℕ) → countsOk head (writersIn (head .«writer_count») writers) ≡ true →
+    Kept (trackerCall c sheet (heldBy head pens writers lost)) r

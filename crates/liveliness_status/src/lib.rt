@@ -13,8 +13,9 @@ use model::LivelinessChangedStatus;
 use model::Sheet;
 use model::StatusRead;
 ghost use mathlib.Core.Bool.{true, _&&_};
+ghost use mathlib.Core.List.{List};
 ghost use mathlib.Core.Path.{_≡_};
-ghost use Prim.Native.Nat.{_≤_};
+ghost use Prim.Native.Nat.{ℕ, _≤_};
 ghost use lib.Dec.{eqb};
 ghost use lib.IntN.{pos, _+ℤ_, _-ℤ_};
 ghost use mir.Syntax.{w32};
@@ -25,7 +26,8 @@ ghost use Rattle.model.specs.Reads.{headAlone, headStatus, statusRead, changesR
 ghost use Rattle.model.specs.Refusals.{kindOk};
 ghost use Rattle.model.specs.WellFormed.{within, headOk};
 ghost use Rattle.model.specs.Writers.{publication, acknowledgeable};
-ghost use Rattle.liveliness_status.specs.Status.{countsFit};
+ghost use Rattle.liveliness_turns.specs.Held.{heldBy};
+ghost use Rattle.liveliness_status.specs.Status.{countsFit, changedHead, Keeps};
 
 // The handle of the last writer, nil where there is none.
 fn publication(last: LastWriter) -> InstanceHandle
@@ -136,4 +138,86 @@ pub fn kind_ok(sheet: Sheet) -> bool
     ensures { λ r. ⌜ r ≡ kindOk (tracker Matched) sheet ⌝ }
 {
     sheet.kind != 3
+}
+
+// What is acknowledged of a count once a part more is.
+fn acknowledged_after(count: u32, change: i32, part: u32) -> i64
+    requires { ⌜ within (pos count -ℤ change) ≡ true ⌝ }
+    ensures { λ r. ⌜ r ≡ (pos count -ℤ change) +ℤ toZ w32 part ⌝ }
+{
+    let before = numbers::acknowledged(count, change);
+    let more = numbers::of_bits(part);
+    numbers::add_i64(before, more)
+}
+
+// What would be acknowledged lies within its bound.
+fn part_within(count: u32, change: i32, part: u32) -> bool
+    requires { ⌜ within (pos count -ℤ change) ≡ true ⌝ }
+    ensures { λ r. ⌜ r ≡ within ((pos count -ℤ change) +ℤ toZ w32 part) ⌝ }
+{
+    numbers::within_bound(acknowledged_after(count, change, part))
+}
+
+// The change of a count once a part of it is acknowledged.
+fn change_less(count: u32, change: i32, part: u32) -> i32
+    requires { ⌜ (count ≤ 128) × (within (pos count -ℤ change) ≡ true) × (within ((pos count -ℤ change) +ℤ toZ w32 part) ≡ true) ⌝ }
+    ensures { λ r. ⌜ r ≡ pos count -ℤ ((pos count -ℤ change) +ℤ toZ w32 part) ⌝ }
+{
+    numbers::change_of(count, acknowledged_after(count, change, part))
+}
+
+// Refusal 8: whether both acknowledged amounts stay within their bound.
+pub fn acknowledge_ok(sheet: Sheet, head: Head) -> bool
+    requires { ⌜ headOk head ≡ true ⌝ }
+    ensures { λ r. ⌜ ((pens writers lost : List ℕ) → r ≡ acknowledgeable Acknowledge sheet (heldBy head pens writers lost)) ⌝ }
+{
+    if part_within(head.alive, head.alive_change, sheet.first) {
+        return part_within(head.not_alive, head.not_alive_change, sheet.second);
+    }
+    false
+}
+
+// The head with both changes and the number of GUIDs in Lost anew.
+pub fn with_changes(head: Head, lost_count: u32, alive_change: i32, not_alive_change: i32) -> Head
+    ensures { λ r. ⌜ r ≡ changedHead head «lost_count» «alive_change» «not_alive_change» ⌝ }
+{
+    let next_handle = head.next_handle;
+    let last = head.last_writer;
+    Head {
+        instance_count: head.instance_count,
+        next_handle: next_handle,
+        writer_count: head.writer_count,
+        lost_count: lost_count,
+        alive: head.alive,
+        not_alive: head.not_alive,
+        alive_change: alive_change,
+        not_alive_change: not_alive_change,
+        last_writer: last,
+        changes: head.changes,
+    }
+}
+
+// Code 39: the status, and its changes are no longer pending.
+pub fn take_status(sheet: Sheet, head: Head) -> Called
+    ensures { λ r. ⌜ Keeps TakeStatus sheet head r ⌝ }
+{
+    let due = liveliness_counts::no_due();
+    let a = liveliness_counts::answer(0, false, 0, due, head_status(head));
+    let h = with_changes(head, head.lost_count, 0, 0);
+    Called { answer: a, head: h }
+}
+
+// Code 40: the reported changes were handed to a listener; what changed after stays pending.
+pub fn acknowledge(sheet: Sheet, head: Head) -> Called
+    requires { ⌜ (headOk head ≡ true) × (head .alive ≤ 128) × (head .«not_alive» ≤ 128)
+        × ((pens writers lost : List ℕ) → acknowledgeable Acknowledge sheet (heldBy head pens writers lost) ≡ true) ⌝ }
+    ensures { λ r. ⌜ Keeps Acknowledge sheet head r ⌝ }
+{
+    let first = change_less(head.alive, head.alive_change, sheet.first);
+    let second = change_less(head.not_alive, head.not_alive_change, sheet.second);
+    let due = liveliness_counts::no_due();
+    let status = liveliness_counts::no_status();
+    let a = liveliness_counts::answer(0, false, 0, due, status);
+    let h = with_changes(head, head.lost_count, first, second);
+    Called { answer: a, head: h }
 }
