@@ -295,11 +295,11 @@ fn writes(r: &[u8], g: Guid) -> bool
     requires { ⌜ (length (now r) ≡ 512) × (instanceOk (instanceOf (now r)) ≡ true) ⌝ }
     ensures { λ b. ⌜ b ≡ writesIn g (instanceOf (now (r .entry))) ⌝ }
 {
-    let f = octets::get_u16(r, 24);
-    if 16384 <= f {
+    let flags = octets::get_u16(r, 24);
+    if 16384 <= flags {
         return false;
     }
-    has_guid(&r[256..], (f % 32) as usize, g)
+    has_guid(&r[256..], (flags % 32) as usize, g)
 }
 
 // The place of the first alive instance with the GUID among its writers, count where there is none.
