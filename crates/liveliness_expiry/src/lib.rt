@@ -1,6 +1,6 @@
 // The tracker calls on Lost: code 37, which declares the writers whose lease ran out, and code 38, which takes the list.
 // Each does what model's `trackerCall` says; refusal 12 is answered here, with nothing written. Rests on octets, model,
-// writer_pass, liveliness_counts and liveliness_turns.
+// writer_pass, liveliness_counts, liveliness_turns and liveliness_status.
 //
 // Derives from liveliness_tracker.rs of ZeroDDS (DDS 1.4, 2.2.2.5.1.3, 2.2.3.9.2 and 2.2.4.1).
 // Copyright 2026 ZeroDDS Contributors. SPDX-License-Identifier: Apache-2.0. Changed: written anew in Rattle, Lost as a
@@ -19,7 +19,7 @@ ghost use Rattle.model.specs.Tables.{pick};
 ghost use Rattle.model.specs.WellFormed.{lostOk};
 ghost use Rattle.model.specs.Writers.{expires};
 ghost use Rattle.liveliness_turns.specs.Held.{Held};
-ghost use Rattle.liveliness_expiry.specs.Losing.{Expires};
+ghost use Rattle.liveliness_expiry.specs.Losing.{Expires, Takes};
 
 // What the expiry leaves, once there is room for the writers that expire: they go to Lost, and the pass declares them.
 fn expire_within(sheet: Sheet, head: Head, writers: &mut [u8], lost: &mut [u8], gone: u32) -> Called
@@ -50,4 +50,22 @@ pub fn expire(sheet: Sheet, head: Head, writers: &mut [u8], lost: &mut [u8]) -> 
         return liveliness_counts::refused(12, head);
     }
     expire_within(sheet, head, writers, lost, gone)
+}
+
+// Code 38: the writers that expired since the latest such call go to Out, and Lost is empty.
+pub fn take_lost(sheet: Sheet, head: Head, lost: &mut [u8], out: &mut [u8]) -> Called
+    requires { ⌜ (length (now lost) ≡ 4096) × (lostOk (head .«lost_count») (now lost) ≡ true) × (length (now out) ≡ 4096) ⌝ }
+    ensures { λ r. ⌜ Takes sheet head (now (lost .entry)) (now (out .entry)) r (now (lost .exit)) (now (out .exit)) ⌝ }
+{
+    let n = head.lost_count;
+    let size = n as usize * 16;
+    octets::copy(lost, 0, out, 0, size);
+    octets::clear(lost, 0, size);
+    let due = liveliness_counts::no_due();
+    let status = liveliness_counts::no_status();
+    let a = liveliness_counts::answer(0, false, n, due, status);
+    let alive = head.alive_change;
+    let not_alive = head.not_alive_change;
+    let h = liveliness_status::with_changes(head, 0, alive, not_alive);
+    Called { answer: a, head: h }
 }

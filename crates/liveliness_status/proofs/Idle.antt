@@ -38,7 +38,7 @@ use Rattle.liveliness_turns.specs.Held.{heldBy}
 use Rattle.liveliness_turns.proofs.Turning.{sift-same, pick-same}
 use Rattle.liveliness_status.specs.Status.{changedHead, Keeps}
 
-less-less : (a z : ℤ) → a -ℤ (a -ℤ z) ≡ z
+pub less-less : (a z : ℤ) → a -ℤ (a -ℤ z) ≡ z
 less-less a z =
     ap (λ (y : ℤ). a +ℤ y) (negℤ-+ℤ a (negℤ z) ∙ ap (λ (y : ℤ). negℤ a +ℤ y) (negℤ-negℤ z))
     ∙ sym (+ℤ-assoc a (negℤ a) z) ∙ ap (λ (y : ℤ). y +ℤ z) (+ℤ-invr a) ∙ +ℤ-idl z

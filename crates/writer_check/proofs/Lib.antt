@@ -1,0 +1,2 @@
+-- Laws that the proofs of writer_check cite.
+pub mod Forming
