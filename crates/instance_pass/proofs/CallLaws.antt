@@ -1,14 +1,14 @@
--- The calls on every instance: what they leave of the state, from what a pass leaves.
+-- The calls on every instance, and the loss of writers: what they leave of the state, from what a pass leaves.
 --     usable-all             the instances of a well-formed table are usable
 --     Held, ready-held       what a pass asks of it
 --     Few, passed-few        a tally is no more than the instances allow
 --     Every, every-turn      model's call, by the steps of a pass
 --     every-few, every-left  the bounds of its tally; the call from its pass
+--     Lost, lost             what model says of the loss of writers, by the steps of a pass
 -- Assumes nothing.
-use Prim.Native.Nat.{ℕ, zero, suc, _*_, _≤_}
+use Prim.Native.Nat.{ℕ, zero, suc, _+_, _*_, _≤_}
 use mathlib.Core.Bool.{Bool, true}
 use mathlib.Core.List.{List, [], _∷_}
-use mathlib.Core.Option.{Option}
 use mathlib.Core.Path.{_≡_, refl, ap, _∙_}
 use native.Mathlib.Nat.{mul-le-mul-right}
 use native.Mathlib.Omega.{arith}
@@ -27,16 +27,19 @@ use Rattle.model.specs.Guids.{guidOf}
 use Rattle.model.specs.InstanceCalls as calls
 use Rattle.model.specs.InstanceCalls.{begun, nextAfter, instancesAfter, lateRefusal, instanceTurn, instanceCall, handleBytes, ownedBy, prefixOwned, isPurged}
 use Rattle.model.specs.InstanceRecord.{instanceOf}
+use Rattle.model.specs.Joined.{afterLoss, clearings, clearingsIn}
 use Rattle.model.specs.Layout.{readRows}
 use Rattle.model.specs.State.{instancesIn}
 use Rattle.model.specs.Tables.{pick, sift, all}
+use Rattle.model.specs.Times.{ifPresent}
 use Rattle.model.specs.WellFormed.{instanceOk}
 use Rattle.model.proofs.RowLaws.{both, length-read}
 use Rattle.turns.proofs.Finds.{split}
 use Rattle.turns.proofs.Sifts.{length-sift}
 use Rattle.instance_state.proofs.Valid.{usable}
 use Rattle.instance_table.proofs.LaidOut.{table-formed, table-laid}
-use Rattle.instance_pass.specs.declared.Passing.the-variants.{Call}
+use Rattle.instance_pass.specs.declared.Passing.{Passing}
+use Rattle.instance_pass.specs.declared.Passing.the-variants.{Call, Loss}
 use Rattle.instance_pass.specs.declared.Tally.{Tally}
 use Rattle.instance_pass.specs.Steps.{onEvery, reportOf}
 use Rattle.instance_pass.specs.Passes.{remaining, listing, amount, total, UsableIn, Passed}
@@ -85,13 +88,13 @@ pub record Few (r : Tally) (n : ℕ) : Type 0 where
   pub listed : r .listed ≤ n
   pub counted : r .counted ≤ n * 256
 
-pub passed-few : (f : Instance → Option Instance) (q : Instance → Bool) (a : Instance → ℕ) (xs : List Instance) (t out t′ out′ : List ℕ) (r : Tally) →
-    ((x : Instance) → a x ≤ 256) → Passed f q a xs t out t′ out′ r → Few r (length xs)
-passed-few f q a xs t out t′ out′ r h p =
+pub passed-few : (p : Passing) (s : Sheet) (gone : List Guid) (xs : List Instance) (t out t′ out′ : List ℕ) (r : Tally) →
+    ((x : Instance) → amount p s gone x ≤ 256) → Passed p s gone xs t out t′ out′ r → Few r (length xs)
+passed-few p s gone xs t out t′ out′ r h d =
     record {
-      kept = omega (arith, p .kept, length-sift f xs);
-      listed = omega (arith, p .listed, length-pick q xs);
-      counted = omega (arith, p .counted, total-le a h xs);
+      kept = omega (arith, d .kept, length-sift (remaining p s gone) xs);
+      listed = omega (arith, d .listed, length-pick (listing p s gone) xs);
+      counted = omega (arith, d .counted, total-le (amount p s gone) h xs);
     }
 
 -- ---- model's call
@@ -113,22 +116,22 @@ every-turn places c s gone xs next e =
     record { answer = ap counting (total-pick (isPurged s) xs); instances = refl; same = refl; list = refl }
 
 -- the bounds of its tally
-pub every-few : (places count next : ℕ) (c : InstanceCall) (s : Sheet) (t out t′ out′ : List ℕ) (r : Tally) → Ready places count next t →
-    Passed (remaining (Call c) s []) (listing (Call c) s []) (amount (Call c) s []) (instancesIn count t) t out t′ out′ r → Few r 128
-every-few places count next c s t out t′ out′ r d p =
+pub every-few : (places count next : ℕ) (c : InstanceCall) (s : Sheet) (gone : List Guid) (t out t′ out′ : List ℕ) (r : Tally) → Ready places count next t →
+    Passed (Call c) s gone (instancesIn count t) t out t′ out′ r → Few r 128
+every-few places count next c s gone t out t′ out′ r d p =
     let h = ready-held places count next t d in
     let n : length (instancesIn count t) ≡ count = length-read instanceOf 512 count t in
-    let w = passed-few _ _ _ (instancesIn count t) t out t′ out′ r (λ x. counted-le (Call c) s [] (x .state) (omega arith)) p in
+    let w = passed-few (Call c) s gone (instancesIn count t) t out t′ out′ r (λ x. counted-le (Call c) s [] (x .state) (omega arith)) p in
     record { kept = omega (arith, w .kept, h .few); listed = omega (arith, w .listed, h .few); counted = omega (arith, w .counted, h .few) }
 
 -- the call from its pass
-pub every-left : (places count : ℕ) (c : InstanceCall) (s : Sheet) (next : InstanceHandle) (t out t′ out′ : List ℕ) (r : Tally) (a : Answer) → onEvery c ≡ true →
+pub every-left : (places count : ℕ) (c : InstanceCall) (s : Sheet) (gone : List Guid) (next : InstanceHandle) (t out t′ out′ : List ℕ) (r : Tally) (a : Answer) → onEvery c ≡ true →
     Bytes t → Ready places count (next .0) t →
-    Passed (remaining (Call c) s []) (listing (Call c) s []) (amount (Call c) s []) (instancesIn count t) t out t′ out′ r →
+    Passed (Call c) s gone (instancesIn count t) t out t′ out′ r →
     a ≡ answerAs (reportOf c) (r .listed) (r .counted) →
     Left places (instanceCall places c s (stateWith (instancesIn count t) (next .0))) out record { answer = a; count = r .kept; «next_handle» = next } t′ out′
-every-left places count c s next t out t′ out′ r a e b d p q =
-    let v = every-turn places c s [] (instancesIn count t) (next .0) e in
+every-left places count c s gone next t out t′ out′ r a e b d p q =
+    let v = every-turn places c s gone (instancesIn count t) (next .0) e in
     record {
       answer = q ∙ rw (p .listed, p .counted) (v .answer);
       count = p .kept ∙ ap length (v .instances);
@@ -136,3 +139,19 @@ every-left places count c s next t out t′ out′ r a e b d p q =
       laid = rw (v .instances) at (p .laid places (table-laid places count (next .0) t (d .size) b (table-formed places count (next .0) t (d .formed))));
       list = p .list ∙ ap (λ (l : List ℕ). listIn l out) (v .list);
     }
+
+-- ---- the loss of writers after a tracker call
+
+pub record Lost (s : Sheet) (gone : List Guid) (T : calls.Turned) : Type 0 where
+  pub instances : sift (remaining Loss s gone) (T .state .instances) ≡ afterLoss gone (ifPresent (s .«time_1»)) T .state .instances
+  pub list : handleBytes (pick (listing Loss s gone) (T .state .instances)) ≡ afterLoss gone (ifPresent (s .«time_1»)) T .list
+  pub counted : total (amount Loss s gone) (T .state .instances) ≡ clearingsIn gone (ifPresent (s .«time_1»)) (T .state .instances)
+
+loss-total : (s : Sheet) (gone : List Guid) (xs : List Instance) → total (amount Loss s gone) xs ≡ clearingsIn gone (ifPresent (s .«time_1»)) xs
+unfolding total clearingsIn
+loss-total s gone [] = refl
+loss-total s gone (x ∷ xs) = ap (λ (n : ℕ). clearings gone (ifPresent (s .«time_1»)) (x .state) + n) (loss-total s gone xs)
+
+pub lost : (s : Sheet) (gone : List Guid) (T : calls.Turned) → Lost s gone T
+unfolding afterLoss
+lost s gone T = record { instances = refl; list = refl; counted = loss-total s gone (T .state .instances) }

@@ -40,7 +40,7 @@ use Rattle.instance_pass.specs.declared.Tally.{Tally}
 use Rattle.instance_pass.specs.Steps.{Passable, leftIn, listedIn, countedIn, remains, Stepped}
 use Rattle.instance_pass.specs.Passes.{remaining, listing, amount, total, UsableIn, keptAt, withStep, Ahead, Turned, Passed}
 use Rattle.instance_pass.proofs.ListLaws.{list-start, list-more, total-take, drop-same}
-use Rattle.instance_pass.proofs.StepLaws.{SoundLeft, bit-le}
+use Rattle.instance_pass.proofs.StepLaws.{SoundLeft, bit-le, counted-le}
 
 -- ---- one record from its parts
 
@@ -57,7 +57,7 @@ is-kept false x y = refl
 pub turned : (p : Passing) (s : Sheet) (gone : List Guid) (x y : Instance) (r : Step) (t out t′ out′ : List ℕ) (c c′ : Tally) → x ≡ y →
     Stepped (leftIn p s gone (x .state)) (listedIn p s gone (x .state)) (countedIn p s gone (x .state)) r →
     t′ ≡ keptAt t (c .kept) (kept x (remains r)) → out′ ≡ cond (r .listed) (put 8 out (c .listed * 8) (x .handle .0)) out → c′ ≡ withStep c r →
-    Turned (remaining p s gone) (listing p s gone) (amount p s gone) y t out c t′ out′ c′
+    Turned p s gone y t out c t′ out′ c′
 turned p s gone x y r t out t′ out′ c c′ e h a b d =
     rw (← e, d)
     record {
@@ -75,8 +75,17 @@ as-bit : (n : ℕ) (b : Bool) → n + cond b 1 0 ≡ n + bit b
 as-bit n true = refl
 as-bit n false = refl
 
-module _ (f : Instance → Option Instance) (q : Instance → Bool) (a : Instance → ℕ) (count : ℕ) (t₀ out₀ : List ℕ) where
-  abbrev pub xs : List Instance
+module _ (p : Passing) (s : Sheet) (gone : List Guid) (count : ℕ) (t₀ out₀ : List ℕ) where
+  abbrev f : Instance → Option Instance
+  f = remaining p s gone
+
+  abbrev q : Instance → Bool
+  q = listing p s gone
+
+  abbrev a : Instance → ℕ
+  a = amount p s gone
+
+  abbrev xs : List Instance
   xs = instancesIn count t₀
 
   pub record During (i : ℕ) (t out : List ℕ) (c : Tally) : Type 0 where
@@ -120,9 +129,9 @@ module _ (f : Instance → Option Instance) (q : Instance → Bool) (a : Instanc
     during-read h =
         ap (λ (z : List ℕ). instanceOf (take 512 z)) (d .ahead) ∙ sym (get-read instanceOf 512 count t₀ i (instanceOf (recordAt t i)) h)
 
-    pub during-ahead : (p : Passing) (gone : List ℕ) → Passable p → length gone ≤ 4096 → count ≤ 128 → count * 512 ≤ length t₀ → 1024 ≤ length out₀ →
-        All UsableIn xs → i < count → Ahead p gone t out i c (instanceOf (recordAt t i))
-    during-ahead p gone e g n m w u h =
+    pub during-ahead : (b : List ℕ) → Passable p → length b ≤ 4096 → count ≤ 128 → count * 512 ≤ length t₀ → 1024 ≤ length out₀ →
+        All UsableIn xs → i < count → Ahead p b t out i c (instanceOf (recordAt t i))
+    during-ahead b e g n m w u h =
         record {
           passable = e;
           few = g;
@@ -135,7 +144,7 @@ module _ (f : Instance → Option Instance) (q : Instance → Bool) (a : Instanc
           usable = rw (during-read h) (all-get UsableIn xs i (instanceOf (recordAt t i)) (omega (arith, size)) u);
         }
 
-    module _ (most : count ≤ 128) (held : count * 512 ≤ length t₀) (broad : 1024 ≤ length out₀) (h : i < count) (small : (x : Instance) → a x ≤ 256) where
+    module _ (most : count ≤ 128) (held : count * 512 ≤ length t₀) (broad : 1024 ≤ length out₀) (h : i < count) (list : length gone ≤ 256) where
       inside : i < length xs
       inside = omega (arith, size)
 
@@ -153,46 +162,46 @@ module _ (f : Instance → Option Instance) (q : Instance → Bool) (a : Instanc
       onward = drop-same (i * 512) ((i + 1) * 512) t t₀ (omega arith) (d .ahead)
 
       behind : (x : Instance) → x ≡ getD xs i x → (o : Option Instance) → f x ≡ o → (t′ : List ℕ) → t′ ≡ keptAt t (c .kept) o → length t′ ≡ length t → Behind o t′
-      behind x e none g t′ q n =
+      behind x e none g t′ v n =
           let k : f (getD xs i x) ≡ none = sym (ap f e) ∙ g in
           record {
             kept = omega (arith, d .kept, survivors-drop f xs i x inside k);
             few = omega (arith, d .fewKept);
-            ahead = rw q onward;
-            laid = λ places l. rw (q, midway-drop f xs i x inside k) (d .laid places l);
+            ahead = rw v onward;
+            laid = λ places l. rw (v, midway-drop f xs i x inside k) (d .laid places l);
           }
-      behind x e (some y) g t′ q n =
+      behind x e (some y) g t′ v n =
           let k : f (getD xs i x) ≡ some y = sym (ap f e) ∙ g in
-          let w : length (instanceBytes y) ≡ 512 = patch-width t (c .kept * 512) 512 (instanceBytes y) fits (sym (ap length q) ∙ n) in
+          let w : length (instanceBytes y) ≡ 512 = patch-width t (c .kept * 512) 512 (instanceBytes y) fits (sym (ap length v) ∙ n) in
           let z : drop (c .kept * 512 + 512) t′ ≡ drop (c .kept * 512 + 512) t =
-          ap (drop (c .kept * 512 + 512)) q ∙ drop-patch t (c .kept * 512) 512 (instanceBytes y) (omega (arith, fits)) w in
+          ap (drop (c .kept * 512 + 512)) v ∙ drop-patch t (c .kept * 512) 512 (instanceBytes y) (omega (arith, fits)) w in
           record {
             kept = omega (arith, d .kept, survivors-keep f xs i x inside y k);
             few = omega (arith, d .fewKept);
             ahead = drop-same (c .kept * 512 + 512) ((i + 1) * 512) t′ t (omega (arith, d .fewKept)) z ∙ onward;
             laid = λ places l.
                 rw (← midway-keep f xs i x inside y k, ← d .kept)
-                (replaced t t′ (c .kept) y q n fits places (midway f xs i) (d .laid places l)
+                (replaced t t′ (c .kept) y v n fits places (midway f xs i) (d .laid places l)
                 (omega (arith, d .fewKept, length-midway f xs i (omega (arith, size)), size)));
           }
 
       -- Out behind x, which is listed where b says so
       noted : (x : Instance) → x ≡ getD xs i x → (b : Bool) → q x ≡ b → (out′ : List ℕ) → out′ ≡ cond b (put 8 out (c .listed * 8) (x .handle .0)) out →
           out′ ≡ listIn (handleBytes (pick q (take (i + 1) xs))) out₀
-      noted x e false g out′ p =
+      noted x e false g out′ v =
           let k : q (getD xs i x) ≡ false = sym (ap q e) ∙ g in
-          p ∙ d .list ∙ rw (pick-take q xs i x inside, k, append-nil (pick q (take i xs)))
-      noted x e true g out′ p =
+          v ∙ d .list ∙ rw (pick-take q xs i x inside, k, append-nil (pick q (take i xs)))
+      noted x e true g out′ v =
           let k : q (getD xs i x) ≡ true = sym (ap q e) ∙ g in
-          p
+          v
           ∙ rw (pick-take q xs i x inside, k, ← e, d .listed, d .list)
           (list-more (pick q (take i xs)) x out₀ (omega (arith, d .listed, d .fewListed)))
 
       pub during-turn : (t′ out′ : List ℕ) (c′ : Tally) → length t′ ≡ length t → length out′ ≡ length out →
-          Turned f q a (instanceOf (recordAt t i)) t out c t′ out′ c′ → During (i + 1) t′ out′ c′
+          Turned p s gone (instanceOf (recordAt t i)) t out c t′ out′ c′ → During (i + 1) t′ out′ c′
       during-turn t′ out′ c′ n m w = go (instanceOf (recordAt t i)) (during-read h) w
         where
-          go : (x : Instance) → x ≡ getD xs i x → Turned f q a x t out c t′ out′ c′ → During (i + 1) t′ out′ c′
+          go : (x : Instance) → x ≡ getD xs i x → Turned p s gone x t out c t′ out′ c′ → During (i + 1) t′ out′ c′
           go x e w =
               let b = behind x e (f x) refl t′ (w .table) n in
               record {
@@ -206,7 +215,7 @@ module _ (f : Instance → Option Instance) (q : Instance → Bool) (a : Instanc
                     ∙ sym (total-take a xs i x inside ∙ ap (λ (y : Instance). total a (take i xs) + a y) (sym e));
                 fewKept = omega (arith, w .kept, b .few);
                 fewListed = omega (arith, w .listed, d .fewListed, bit-le (q x));
-                fewCounted = omega (arith, w .counted, d .fewCounted, small x);
+                fewCounted = omega (arith, w .counted, d .fewCounted, counted-le p s gone (x .state) list);
                 ahead = b .ahead;
                 list = noted x e (q x) refl out′ (w .list);
                 laid = b .laid;
@@ -214,7 +223,7 @@ module _ (f : Instance → Option Instance) (q : Instance → Bool) (a : Instanc
 
     -- all are passed; t′ is the table with the places behind those kept cleared
     pub during-end : count ≤ i → (t′ : List ℕ) →
-        ((places : ℕ) (ys : List Instance) → Laid places ys t → length ys ≡ count → Laid places (take (c .kept) ys) t′) → Passed f q a xs t₀ out₀ t′ out c
+        ((places : ℕ) (ys : List Instance) → Laid places ys t → length ys ≡ count → Laid places (take (c .kept) ys) t′) → Passed p s gone xs t₀ out₀ t′ out c
     during-end h t′ g =
         let e : i ≡ count = omega (arith, d .below) in
         let j : i ≡ length xs = e ∙ sym size in

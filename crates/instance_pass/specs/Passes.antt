@@ -28,19 +28,24 @@ use Rattle.instance_pass.specs.declared.Step.{Step}
 use Rattle.instance_pass.specs.declared.Tally.{Tally}
 use Rattle.instance_pass.specs.Steps.{Passable, leftIn, listedIn, countedIn}
 
+-- what is left, with its key and its handle
 abbrev pub remaining : Passing → Sheet → List Guid → Instance → Option Instance
 remaining p s gone x = kept x (leftIn p s gone (x .state))
 
+-- its handle goes to Out
 abbrev pub listing : Passing → Sheet → List Guid → Instance → Bool
 listing p s gone x = listedIn p s gone (x .state)
 
+-- the owners cleared, or 1 for an instance purged
 abbrev pub amount : Passing → Sheet → List Guid → Instance → ℕ
 amount p s gone x = countedIn p s gone (x .state)
 
+-- the sum of the amounts
 unfoldable pub total : (Instance → ℕ) → List Instance → ℕ
 total f [] = 0
 total f (x ∷ xs) = f x + total f xs
 
+-- the steps can take it
 abbrev pub UsableIn : Instance → Type 0
 UsableIn x = Usable (x .state)
 
@@ -69,18 +74,18 @@ pub record Ahead (p : Passing) (gone t out : List ℕ) (i : ℕ) (c : Tally) (x 
   pub usable : UsableIn x
 
 -- from the table t, Out and the tally so far to those behind the instance x
-pub record Turned (f : Instance → Option Instance) (q : Instance → Bool) (a : Instance → ℕ) (x : Instance) (t out : List ℕ) (c : Tally) (t′ out′ : List ℕ) (c′ : Tally) : Type 0 where
-  pub table : t′ ≡ keptAt t (c .kept) (f x)
-  pub list : out′ ≡ cond (q x) (put 8 out (c .listed * 8) (x .handle .0)) out
-  pub kept : c′ .kept ≡ c .kept + bit (isSome (f x))
-  pub listed : c′ .listed ≡ c .listed + bit (q x)
-  pub counted : c′ .counted ≡ c .counted + a x
+pub record Turned (p : Passing) (s : Sheet) (gone : List Guid) (x : Instance) (t out : List ℕ) (c : Tally) (t′ out′ : List ℕ) (c′ : Tally) : Type 0 where
+  pub table : t′ ≡ keptAt t (c .kept) (remaining p s gone x)
+  pub list : out′ ≡ cond (listing p s gone x) (put 8 out (c .listed * 8) (x .handle .0)) out
+  pub kept : c′ .kept ≡ c .kept + bit (isSome (remaining p s gone x))
+  pub listed : c′ .listed ≡ c .listed + bit (listing p s gone x)
+  pub counted : c′ .counted ≡ c .counted + amount p s gone x
 
 -- ---- the whole pass, of the instances xs
 
-pub record Passed (f : Instance → Option Instance) (q : Instance → Bool) (a : Instance → ℕ) (xs : List Instance) (t out t′ out′ : List ℕ) (r : Tally) : Type 0 where
-  pub laid : (places : ℕ) → Laid places xs t → Laid places (sift f xs) t′
-  pub list : out′ ≡ listIn (handleBytes (pick q xs)) out
-  pub kept : r .kept ≡ length (sift f xs)
-  pub listed : r .listed ≡ length (pick q xs)
-  pub counted : r .counted ≡ total a xs
+pub record Passed (p : Passing) (s : Sheet) (gone : List Guid) (xs : List Instance) (t out t′ out′ : List ℕ) (r : Tally) : Type 0 where
+  pub laid : (places : ℕ) → Laid places xs t → Laid places (sift (remaining p s gone) xs) t′
+  pub list : out′ ≡ listIn (handleBytes (pick (listing p s gone) xs)) out
+  pub kept : r .kept ≡ length (sift (remaining p s gone) xs)
+  pub listed : r .listed ≡ length (pick (listing p s gone) xs)
+  pub counted : r .counted ≡ total (amount p s gone) xs

@@ -29,6 +29,7 @@ use Rattle.instance_pass.specs.declared.Report.{Report}
 use Rattle.instance_pass.specs.declared.Report.the-variants.{Nothing, Left, Owner, Prefix, Purge}
 use Rattle.instance_pass.specs.declared.Step.{Step}
 
+-- a reach of every instance
 abbrev pub isEvery : Reach → Bool
 isEvery byKey = false
 isEvery startingByKey = false
@@ -51,6 +52,7 @@ gonesIn gone = guidsIn (length gone / guidSize) gone
 
 -- ---- a call
 
+-- what a call reports of an instance
 abbrev pub reportOf : InstanceCall → Report
 reportOf Register = Nothing
 reportOf EnsureRegisteredLimited = Nothing
@@ -82,6 +84,7 @@ countedAs Owner s x = owns (s .guid) (x .owner)
 countedAs Prefix s x = ownsPrefix (s .guid) (x .owner)
 countedAs Purge s x = purged s x
 
+-- it is left writerless
 abbrev pub listedAs : Report → Sheet → InstanceState → Bool
 listedAs Nothing s x = false
 listedAs Left s x = leftBy (s .guid) x
@@ -89,28 +92,34 @@ listedAs Owner s x = false
 listedAs Prefix s x = false
 listedAs Purge s x = false
 
+-- a call counts it
 abbrev pub counts : InstanceCall → Sheet → InstanceState → Bool
 counts c s x = countedAs (reportOf c) s x
 
 -- ---- a call, or the loss of the writers gone, at time 1 if it is present
 
+-- what is left of an instance, none where it is purged
 abbrev pub leftIn : Passing → Sheet → List Guid → InstanceState → Option InstanceState
 leftIn (Call c) s gone x = effect c s x
 leftIn Loss s gone x = some (leftWithoutAll gone (ifPresent (s .«time_1»)) x)
 
+-- it is listed in Out
 abbrev pub listedIn : Passing → Sheet → List Guid → InstanceState → Bool
 listedIn (Call c) s gone x = rule c .listsLeft && leftBy (s .guid) x
 listedIn Loss s gone x = leftByOne gone (ifPresent (s .«time_1»)) x
 
+-- how much it counts
 abbrev pub countedIn : Passing → Sheet → List Guid → InstanceState → ℕ
 countedIn (Call c) s gone x = bit (counts c s x)
 countedIn Loss s gone x = clearings gone (ifPresent (s .«time_1»)) x
 
 -- ---- a step
 
+-- what a step leaves
 abbrev pub remains : Step → Option InstanceState
 remains r = cond (r .keep) (some (r .state)) none
 
+-- the step r leaves, lists and counts so
 pub record Stepped (left : Option InstanceState) (listed : Bool) (counted : ℕ) (r : Step) : Type 0 where
   pub stays : remains r ≡ left
   pub lists : r .listed ≡ listed

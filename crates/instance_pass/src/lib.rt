@@ -29,7 +29,7 @@ ghost use Rattle.writer_set.specs.Places.{Sound};
 ghost use Rattle.instance_record.specs.Parts.{recordAt};
 ghost use Rattle.instance_state.specs.Effects.{Usable};
 ghost use Rattle.instance_pass.specs.EveryCalls.{answerAs, Ready, stateWith, Left};
-ghost use Rattle.instance_pass.specs.Passes.{remaining, listing, amount, UsableIn, keptAt, withStep, Ahead, Turned, Passed};
+ghost use Rattle.instance_pass.specs.Passes.{UsableIn, keptAt, withStep, Ahead, Turned, Passed};
 ghost use Rattle.instance_pass.specs.Steps.{onEvery, Passable, gonesIn, reportOf, countedAs, listedAs, counts, leftIn, listedIn, countedIn, remains, Stepped, lostOne};
 
 // What passes over the instances: a call on every one, or the loss of the writers of a list.
@@ -278,7 +278,7 @@ fn pass_at(
     gone: &[u8],
 ) -> Tally
     requires { ⌜ Ahead p (now gone) (now pens) (now out) i tally (instanceOf (recordAt (now pens) i)) ⌝ }
-    ensures { λ r. ⌜ Turned (remaining p s (gonesIn (now (gone .entry)))) (listing p s (gonesIn (now (gone .entry)))) (amount p s (gonesIn (now (gone .entry)))) (instanceOf (recordAt (now (pens .entry)) i)) (now (pens .entry)) (now (out .entry)) tally (now (pens .exit)) (now (out .exit)) r ⌝ }
+    ensures { λ r. ⌜ Turned p s (gonesIn (now (gone .entry))) (instanceOf (recordAt (now (pens .entry)) i)) (now (pens .entry)) (now (out .entry)) tally (now (pens .exit)) (now (out .exit)) r ⌝ }
 {
     let x = instance_record::instance_at(pens, i);
     let state = x.state;
@@ -300,7 +300,7 @@ pub fn pass(
     gone: &[u8],
 ) -> Tally
     requires { ⌜ Passable p × (length (now gone) ≤ 4096) × (count ≤ 128) × (count * 512 ≤ length (now pens)) × (1024 ≤ length (now out)) × All UsableIn (instancesIn count (now pens)) ⌝ }
-    ensures { λ r. ⌜ Passed (remaining p s (gonesIn (now (gone .entry)))) (listing p s (gonesIn (now (gone .entry)))) (amount p s (gonesIn (now (gone .entry)))) (instancesIn count (now (pens .entry))) (now (pens .entry)) (now (out .entry)) (now (pens .exit)) (now (out .exit)) r ⌝ }
+    ensures { λ r. ⌜ Passed p s (gonesIn (now (gone .entry))) (instancesIn count (now (pens .entry))) (now (pens .entry)) (now (out .entry)) (now (pens .exit)) (now (out .exit)) r ⌝ }
 {
     let mut tally = Tally {
         kept: 0,
