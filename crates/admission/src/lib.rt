@@ -20,7 +20,7 @@ ghost use mathlib.Core.List.{map};
 ghost use mathlib.Core.Option.{some};
 ghost use mathlib.Core.Path.{_≡_};
 ghost use Prim.Native.Nat.{_≤_, _<_};
-ghost use Rattle.model.specs.Answers.{stopping, both};
+ghost use Rattle.model.specs.Answers.{refusedWith, stopping, both};
 ghost use Rattle.model.specs.Guids.{num};
 ghost use Rattle.model.specs.InstanceCalls.{samplesAnswer, infoAnswer, crowds};
 ghost use Rattle.model.specs.Instances.{hasKey, takesOver};
@@ -35,11 +35,13 @@ ghost use Rattle.admission.specs.Admits.{Admits, Known, Timely, Noted, l
 
 // ---- the answers
 
-// The sample is not admitted: why.
-fn stopping(outcome: u8) -> Answer
-    ensures { λ r. ⌜ r ≡ stopping outcome ⌝ }
+// The sample is not admitted: the number of a refusal, or the outcome that says why.
+fn stopped(number: u8, outcome: u8) -> Answer
+    ensures refusal { λ r. ⌜ (outcome ≡ 0 → r ≡ refusedWith number) ⌝ }
+    ensures stop { λ r. ⌜ (number ≡ 0 → r ≡ stopping outcome) ⌝ }
 {
     let mut r = answers::silent();
+    r.number = number;
     r.outcome = outcome;
     r
 }
@@ -194,17 +196,19 @@ fn admit_timely(
     requires { ⌜ Ready places count (next .0) (now pens) × Known s (instancesIn count (now pens)) i x × Timely s x ⌝ }
     ensures { λ r. ⌜ Admits places s (instancesIn count (now (pens .entry))) (next .0) r (now (pens .exit)) ⌝ }
 {
-    if crowded(s, x) {
+    let before = x.state;
+    let full = crowded(s, x);
+    let stronger = instance_state::takes_over(s, before);
+    if full {
         return TableCall {
-            answer: answers::refused_with(10),
+            answer: stopped(10, 0),
             count: count,
             next_handle: next,
         };
     }
-    let before = x.state;
-    if !instance_state::takes_over(s, before) {
+    if !stronger {
         return TableCall {
-            answer: stopping(4),
+            answer: stopped(0, 4),
             count: count,
             next_handle: next,
         };
@@ -225,16 +229,18 @@ fn admit_known(
     ensures { λ r. ⌜ Admits places s (instancesIn count (now (pens .entry))) (next .0) r (now (pens .exit)) ⌝ }
 {
     let x = instance_record::instance_at(pens, i);
-    if !in_order(s, x) {
+    let ordered = in_order(s, x);
+    let passes = passes_filter(s, x);
+    if !ordered {
         return TableCall {
-            answer: stopping(1),
+            answer: stopped(0, 1),
             count: count,
             next_handle: next,
         };
     }
-    if !passes_filter(s, x) {
+    if !passes {
         return TableCall {
-            answer: stopping(2),
+            answer: stopped(0, 2),
             count: count,
             next_handle: next,
         };
@@ -255,23 +261,25 @@ fn admit_new(
     requires { ⌜ Ready places count (next .0) (now pens) × (foundIn (map instanceKey (instancesIn count (now pens))) (num (s .key)) ≡ Missing i) ⌝ }
     ensures { λ r. ⌜ Admits places s (instancesIn count (now (pens .entry))) (next .0) r (now (pens .exit)) ⌝ }
 {
+    let used = count as usize;
+    let counter = next.0;
     if at_limit(s, count) {
         return TableCall {
-            answer: stopping(3),
+            answer: stopped(0, 3),
             count: count,
             next_handle: next,
         };
     }
-    if places <= count as usize {
+    if places <= used {
         return TableCall {
-            answer: answers::refused_with(9),
+            answer: stopped(9, 0),
             count: count,
             next_handle: next,
         };
     }
-    if 9223372036854775808 <= next.0 {
+    if 9223372036854775808 <= counter {
         return TableCall {
-            answer: answers::refused_with(13),
+            answer: stopped(13, 0),
             count: count,
             next_handle: next,
         };

@@ -13,29 +13,29 @@ instance-at-requires c κs = let a = c .before .before in known-place (a .pre .0
 in-order-requires : tie.Need-in-order-requires
 in-order-requires c κs = search needs
 
-stopping-requires : tie.Need-stopping-requires
-stopping-requires c κs = search needs
+passes-filter-requires : tie.Need-passes-filter-requires
+passes-filter-requires c κs = search needs
+
+stopped-requires : tie.Need-stopped-requires
+stopped-requires c κs = search needs
 
 same-length : tie.Need-same-length
 same-length c = search needs
 
 returns : tie.Need-returns
-returns c = let a = c .before .before .before .before .before .before in order-left (a .pre .0) (a .args .s) (λ n. omega (arith, c .before .before .before .before .before .slice-known .given n)) (a .args .i) (c .before .before .before .instance-at .result) (known-read (a .pre .0) (a .args .s) (a .args .i) (c .before .before .before .instance-at .result) (a .pre .1) (c .before .before .before .instance-at .ensures)) (c .stopping .result) (a .args .next) refl (sym (c .before .before .in-order .ensures) ∙ not-true _ (c .before .if1 .taken)) (c .stopping .ensures)
+returns c = let a = c .before .before .before .before .before .before .before in order-left (a .pre .0) (a .args .s) (λ n. omega (arith, c .before .before .before .before .before .before .slice-known .given n)) (a .args .i) (c .before .before .before .before .instance-at .result) (known-read (a .pre .0) (a .args .s) (a .args .i) (c .before .before .before .before .instance-at .result) (a .pre .1) (c .before .before .before .before .instance-at .ensures)) (c .stopped .result) (a .args .next) refl (sym (c .before .before .before .in-order .ensures) ∙ not-true _ (c .before .if1 .taken)) (c .stopped .ensures .1 refl)
 
-passes-filter-requires : tie.Need-passes-filter-requires
-passes-filter-requires c κs = search needs
-
-stopping-requires-2 : tie.Need-stopping-requires-2
-stopping-requires-2 c κs = search needs
+stopped-requires-2 : tie.Need-stopped-requires-2
+stopped-requires-2 c κs = search needs
 
 same-length-2 : tie.Need-same-length-2
 same-length-2 c = search needs
 
 returns-2 : tie.Need-returns-2
-returns-2 c = let a = c .before .before .before .before .before .before .before .before in filter-left (a .pre .0) (a .args .s) (λ n. omega (arith, c .before .before .before .before .before .before .before .slice-known .given n)) (a .args .i) (c .before .before .before .before .before .instance-at .result) (known-read (a .pre .0) (a .args .s) (a .args .i) (c .before .before .before .before .before .instance-at .result) (a .pre .1) (c .before .before .before .before .before .instance-at .ensures)) (c .stopping2 .result) (a .args .next) refl (sym (c .before .before .before .before .in-order .ensures) ∙ not-false _ (c .before .before .before .if1 .left)) (sym (c .before .before .passes-filter .ensures) ∙ not-true _ (c .before .if2 .taken)) (c .stopping2 .ensures)
+returns-2 c = let a = c .before .before .before .before .before .before .before .before in filter-left (a .pre .0) (a .args .s) (λ n. omega (arith, c .before .before .before .before .before .before .before .slice-known .given n)) (a .args .i) (c .before .before .before .before .before .instance-at .result) (known-read (a .pre .0) (a .args .s) (a .args .i) (c .before .before .before .before .before .instance-at .result) (a .pre .1) (c .before .before .before .before .before .instance-at .ensures)) (c .stopped2 .result) (a .args .next) refl (sym (c .before .before .before .before .in-order .ensures) ∙ not-false _ (c .before .before .if1 .left)) (sym (c .before .before .before .passes-filter .ensures) ∙ not-true _ (c .before .if2 .taken)) (c .stopped2 .ensures .1 refl)
 
 admit-timely-requires : tie.Need-admit-timely-requires
-admit-timely-requires c κs = let a = c .before .before .before .before .before .before .before .before in (a .pre .0, (known-read (a .pre .0) (a .args .s) (a .args .i) (c .before .before .before .before .before .instance-at .result) (a .pre .1) (c .before .before .before .before .before .instance-at .ensures)), record { order = sym (c .before .before .before .before .in-order .ensures) ∙ not-false _ (c .before .before .before .if1 .left); filter = sym (c .before .before .passes-filter .ensures) ∙ not-false _ (c .before .if2 .left) })
+admit-timely-requires c κs = let a = c .before .before .before .before .before .before .before .before in (a .pre .0, (known-read (a .pre .0) (a .args .s) (a .args .i) (c .before .before .before .before .before .instance-at .result) (a .pre .1) (c .before .before .before .before .before .instance-at .ensures)), record { order = sym (c .before .before .before .before .in-order .ensures) ∙ not-false _ (c .before .before .if1 .left); filter = sym (c .before .before .before .passes-filter .ensures) ∙ not-false _ (c .before .if2 .left) })
 
 same-length-3 : tie.Need-same-length-3
 same-length-3 c = search needs
@@ -49,11 +49,11 @@ admit-known-spec =
     (tie.spec
     instance-at-requires
     in-order-requires
-    stopping-requires
+    passes-filter-requires
+    stopped-requires
     same-length
     returns
-    passes-filter-requires
-    stopping-requires-2
+    stopped-requires-2
     same-length-2
     returns-2
     admit-timely-requires
