@@ -193,7 +193,7 @@ fn match_again(sheet: Sheet, head: Head, writers: &mut [u8], i: usize) -> Called
     writer_record::put_writer(writers, i, writer_state::matched_again(sheet, w));
     let l = w.liveliness;
     let s = l.state;
-    if writer_state::is_tracked(s) {
+    if writer_state::is_tracked(s) { // it asserts nothing
         return kept(head);
     }
     match_asserts(sheet, head, writers, head.writer_count)
