@@ -7,9 +7,9 @@
 -- Assumes nothing.
 use Prim.Native.Nat.{ℕ, _+_, _*_, _≤_, _<_, _^_}
 use mathlib.Core.Bool.{true, false}
-use mathlib.Core.List.{List, _∷_, _++_, map}
+use mathlib.Core.List.{List, [], _∷_, _++_, map}
 use mathlib.Core.Option.{none, some}
-use mathlib.Core.Path.{_≡_, sym, ap, _∙_}
+use mathlib.Core.Path.{_≡_, refl, sym, ap, _∙_}
 use native.Mathlib.Omega.{arith}
 use borrow.Author.Tests.{le-leb, lt-leb}
 use lib.ListN.{length, take, drop, set, length-append, length-drop, length-set}
@@ -23,7 +23,7 @@ use Rattle.model.specs.declared.Sheet.{Sheet}
 use Rattle.model.specs.Answers.{refusedWith, stopping}
 use Rattle.model.specs.Guids.{num}
 use Rattle.model.specs.Handles.{allocated}
-use Rattle.model.specs.InstanceCalls.{unchanged, crowds}
+use Rattle.model.specs.InstanceCalls.{Turned, unchanged, crowds}
 use Rattle.model.specs.InstanceRecord.{instanceOf}
 use Rattle.model.specs.Instances.{hasKey, takesOver, ownershipTried, admittedObserved, admittedNoted, started}
 use Rattle.model.specs.Joined.{admitCall, inOrder, passesFilter}
@@ -36,11 +36,17 @@ use Rattle.turns.proofs.Finds.{find-only, find-nowhere}
 use Rattle.turns.proofs.Keys.{missing-nowhere, missing-le}
 use Rattle.instance_state.specs.Effects.{Usable, Room}
 use Rattle.instance_table.specs.Laid.{Laid}
-use Rattle.instance_tracker.specs.Turned.{Ready, stateWith, blank, withState}
-use Rattle.instance_tracker.proofs.Table.{ready-length, ready-rises, ready-few, ready-laid, ready-place, ready-read, ready-usable, ready-room, done-left}
+use Rattle.instance_tracker.specs.Turned.{Ready, Left, stateWith, blank, withState}
+use Rattle.instance_tracker.proofs.Table.{ready-length, ready-rises, ready-few, ready-laid, ready-place, ready-read, ready-usable, ready-room}
 use Rattle.admission.specs.Admits.{Admits, Known, Timely, Noted, limited}
 use Rattle.admission.proofs.Admitted.{leaving, answersOf, admitted-known, admitted-new}
 use Rattle.admission.proofs.Tests.{out-of-order, filtered, crowded-out, weaker, admits-known, new-limited, new-full, new-spent, admits-new}
+
+-- what the code leaves is what the turn leaves
+done-left : {places : ℕ} {T : Turned} {a : Answer} {ys : List Instance} {next : ℕ} {t : List ℕ} →
+    T ≡ record { answer = a; state = stateWith ys next; list = [] } → (b : Answer) (n : ℕ) (h : InstanceHandle) → b ≡ a → n ≡ length ys →
+    h .0 ≡ next → Laid places ys t → Left places T (record { answer = b; count = n; «next_handle» = h }) t
+done-left q b n h e m k l = rw q (record { answer = e; count = m; next = k; laid = l; quiet = refl })
 
 module _ {places count next : ℕ} {t : List ℕ} (r : Ready places count next t) (s : Sheet) where
   abbrev xs : List Instance
