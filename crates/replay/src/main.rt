@@ -1,0 +1,910 @@
+// Replays the recorded lists (docs/LISTS.md) of instance calls alone and of liveliness calls alone from standard input
+// against the port: a line for each disagreement, then how many calls there were and how many disagreed. What it prints is
+// compared with the file `stdout`.
+use libc::STDIN_FILENO;
+use libc::STDOUT_FILENO;
+use model::Answer;
+use model::Called;
+use model::Head;
+use model::InstanceCall;
+use model::InstanceHandle;
+use model::InstanceStateKind;
+use model::LastWriter;
+use model::Sheet;
+ghost use mathlib.Core.Bool.{true};
+ghost use mathlib.Core.Path.{_≡_};
+ghost use Prim.Native.Nat.{_≤_, _*_};
+ghost use lib.ListN.{length};
+ghost use Rattle.model.specs.WellFormed.{instanceTableOk, lostOk};
+ghost use Rattle.instance_pass.specs.Steps.{onEvery};
+ghost use Rattle.liveliness_turns.specs.Held.{Held};
+
+// How far the replay is.
+struct Progress {
+    pub list: u64,
+    pub calls: u64,
+    pub wrong: u64,
+    pub taken: bool,
+    pub over: bool,
+    pub ended: bool,
+    pub head: Head,
+}
+
+fn main() {
+    let mut body = [0u8; 4792];
+    let mut pens = [0u8; 66048];
+    let mut writers = [0u8; 5160];
+    let mut lost = [0u8; 4112];
+    let mut out = [0u8; 4112];
+    let p = run(&mut body, &mut pens, &mut writers, &mut lost, &mut out);
+    closing(p);
+}
+
+// The records of the file, one after the other.
+fn run(
+    body: &mut [u8],
+    pens: &mut [u8],
+    writers: &mut [u8],
+    lost: &mut [u8],
+    out: &mut [u8],
+) -> Progress
+    requires { ⌜ (length (now body) ≡ 4792) × (length (now pens) ≡ 66048) × (length (now writers) ≡ 5160) × (length (now lost) ≡ 4112) × (length (now out) ≡ 4112) ⌝ }
+{
+    let mut p = Progress {
+        list: 0,
+        calls: 0,
+        wrong: 0,
+        taken: false,
+        over: false,
+        ended: false,
+        head: fresh_head(),
+    };
+    let mut records: u64 = 0;
+    while records < 10_000_000 {
+        p = next(p, body, pens, writers, lost, out);
+        if p.over {
+            break;
+        }
+        records += 1;
+    }
+    p
+}
+
+// The front of a buffer is filled from standard input.
+fn read_front(body: &mut [u8], n: usize) -> bool
+    requires { ⌜ n ≤ length (now body) ⌝ }
+{
+    io::read_full(STDIN_FILENO, &mut body[..n]) == n
+}
+
+// One record, whose body is the front of a buffer.
+fn record_in(
+    p: Progress,
+    kind: u8,
+    body: &[u8],
+    n: usize,
+    pens: &mut [u8],
+    writers: &mut [u8],
+    lost: &mut [u8],
+    out: &mut [u8],
+) -> Progress
+    requires { ⌜ (n ≤ length (now body)) × (length (now pens) ≡ 66048) × (length (now writers) ≡ 5160) × (length (now lost) ≡ 4112) × (length (now out) ≡ 4112) ⌝ }
+{
+    record(p, kind, &body[..n], pens, writers, lost, out)
+}
+
+// The next record, if there is a whole one; else the replay is over.
+fn next(
+    p: Progress,
+    body: &mut [u8],
+    pens: &mut [u8],
+    writers: &mut [u8],
+    lost: &mut [u8],
+    out: &mut [u8],
+) -> Progress
+    requires { ⌜ (length (now body) ≡ 4792) × (length (now pens) ≡ 66048) × (length (now writers) ≡ 5160) × (length (now lost) ≡ 4112) × (length (now out) ≡ 4112) ⌝ }
+{
+    let mut front = [0u8; 8];
+    if io::read_full(STDIN_FILENO, &mut front) != 8 {
+        return finished(p);
+    }
+    let n = size(&front);
+    if !read_front(body, n) {
+        return finished(p);
+    }
+    record_in(p, front[0], body, n, pens, writers, lost, out)
+}
+
+// There is no more to read.
+fn finished(p: Progress) -> Progress {
+    let mut q = p;
+    q.over = true;
+    q
+}
+
+// The length of a record's body, 4,792 at most.
+fn size(front: &[u8]) -> usize
+    ensures { λ r. ⌜ r ≤ 4792 ⌝ }
+{
+    if front.len() < 8 {
+        return 0;
+    }
+    let n = octets::get_u32(front, 4) as usize;
+    if n < 4792 { n } else { 4792 }
+}
+
+// How many calls there were, and how many disagreed.
+fn closing(p: Progress) {
+    if !p.ended {
+        io::write_all(STDOUT_FILENO, b"the file has no end\n");
+    }
+    io::print_decimal(STDOUT_FILENO, p.calls);
+    io::write_all(STDOUT_FILENO, b" calls, ");
+    io::print_decimal(STDOUT_FILENO, p.wrong);
+    io::write_all(STDOUT_FILENO, b" disagreements\n");
+}
+
+// One more disagreement, told by what disagrees.
+fn disagrees(p: Progress, what: &[u8]) -> Progress {
+    io::write_all(STDOUT_FILENO, b"list ");
+    io::print_decimal(STDOUT_FILENO, p.list);
+    io::write_all(STDOUT_FILENO, b", call ");
+    io::print_decimal(STDOUT_FILENO, p.calls);
+    io::write_all(STDOUT_FILENO, b": ");
+    io::write_all(STDOUT_FILENO, what);
+    io::write_all(STDOUT_FILENO, b"\n");
+    let mut q = p;
+    q.wrong = numbers::wrapping_add_u64(p.wrong, 1);
+    q
+}
+
+// ---- head and answer in bytes, as docs/LISTS.md lays them out
+
+fn fresh_head() -> Head {
+    Head {
+        instance_count: 0,
+        next_handle: InstanceHandle(1),
+        writer_count: 0,
+        lost_count: 0,
+        alive: 0,
+        not_alive: 0,
+        alive_change: 0,
+        not_alive_change: 0,
+        last_writer: LastWriter::Nobody,
+        changes: 0,
+    }
+}
+
+// The last writer of a head's 64 bytes.
+fn read_last(b: &[u8]) -> LastWriter {
+    if b.len() != 64 {
+        return LastWriter::Nobody;
+    }
+    if octets::get_u16(b, 28) == 0 {
+        return LastWriter::Nobody;
+    }
+    let g = tables::key_at(b, 48);
+    LastWriter::Is(g)
+}
+
+// The head of 64 bytes.
+fn read_head(b: &[u8]) -> Head {
+    if b.len() != 64 {
+        return fresh_head();
+    }
+    let last = read_last(b);
+    let next = InstanceHandle(octets::get_u64(b, 32));
+    Head {
+        instance_count: octets::get_u32(b, 0),
+        next_handle: next,
+        writer_count: octets::get_u32(b, 4),
+        lost_count: octets::get_u32(b, 8),
+        alive: octets::get_u32(b, 12),
+        not_alive: octets::get_u32(b, 16),
+        alive_change: numbers::of_bits(octets::get_u32(b, 20)),
+        not_alive_change: numbers::of_bits(octets::get_u32(b, 24)),
+        last_writer: last,
+        changes: octets::get_u64(b, 40),
+    }
+}
+
+// The last writer's bytes of a head.
+fn write_last(b: &mut [u8], last: LastWriter) {
+    if b.len() != 64 {
+        return;
+    }
+    match last {
+        LastWriter::Nobody => {
+            octets::put_u16(b, 28, 0);
+        }
+        LastWriter::Is(g) => {
+            octets::put_u16(b, 28, 1);
+            octets::put_u64(b, 48, g.hi);
+            octets::put_u64(b, 56, g.lo);
+        }
+    }
+}
+
+// The counts of a head.
+fn write_head_counts(b: &mut [u8], h: Head) {
+    if b.len() != 64 {
+        return;
+    }
+    octets::put_u32(b, 0, h.instance_count);
+    octets::put_u32(b, 4, h.writer_count);
+    octets::put_u32(b, 8, h.lost_count);
+    octets::put_u32(b, 12, h.alive);
+    octets::put_u32(b, 16, h.not_alive);
+}
+
+// The changes and the next handle of a head.
+fn write_head_changes(b: &mut [u8], h: Head) {
+    if b.len() != 64 {
+        return;
+    }
+    let next = h.next_handle;
+    octets::put_u32(b, 20, numbers::bits_of(h.alive_change));
+    octets::put_u32(b, 24, numbers::bits_of(h.not_alive_change));
+    octets::put_u64(b, 32, next.0);
+    octets::put_u64(b, 40, h.changes);
+}
+
+// The 64 bytes of a head.
+fn write_head(b: &mut [u8], h: Head) {
+    if b.len() != 64 {
+        return;
+    }
+    octets::clear(b, 0, 64);
+    let last = h.last_writer;
+    write_head_counts(b, h);
+    write_head_changes(b, h);
+    write_last(b, last);
+}
+
+fn bit(b: bool) -> u8 {
+    if b { 1 } else { 0 }
+}
+
+fn kind_number(k: InstanceStateKind) -> u8 {
+    match k {
+        InstanceStateKind::Alive => 0,
+        InstanceStateKind::NotAliveDisposed => 1,
+        InstanceStateKind::NotAliveNoWriters => 2,
+    }
+}
+
+// The yes and no of an answer's 72 bytes, and its numbers of one byte.
+fn write_bits(b: &mut [u8], a: Answer) {
+    if b.len() != 72 {
+        return;
+    }
+    let info = a.info;
+    let kind = info.kind;
+    octets::put_u8(b, 0, a.number);
+    octets::put_u8(b, 1, a.outcome);
+    octets::put_u8(b, 2, bit(a.yes));
+    octets::put_u8(b, 3, bit(a.present));
+    octets::put_u8(b, 4, bit(info.view_new));
+    octets::put_u8(b, 5, kind_number(kind));
+}
+
+// The counts of an instance and of a list.
+fn write_counts(b: &mut [u8], a: Answer) {
+    if b.len() != 72 {
+        return;
+    }
+    let info = a.info;
+    octets::put_u32(b, 16, a.samples);
+    octets::put_u32(b, 20, info.disposed_generations);
+    octets::put_u32(b, 24, info.no_writers_generations);
+    octets::put_u32(b, 28, a.count);
+    octets::put_u32(b, 32, a.listed);
+}
+
+// The status.
+fn write_status(b: &mut [u8], a: Answer) {
+    if b.len() != 72 {
+        return;
+    }
+    let status = a.status;
+    let publication = status.last_publication_handle;
+    octets::put_u32(b, 36, status.alive_count);
+    octets::put_u32(b, 40, status.not_alive_count);
+    octets::put_u32(b, 44, numbers::bits_of(status.alive_count_change));
+    octets::put_u32(b, 48, numbers::bits_of(status.not_alive_count_change));
+    octets::put_u64(b, 64, publication.0);
+}
+
+// The 72 bytes of an answer.
+fn write_answer(b: &mut [u8], a: Answer) {
+    if b.len() != 72 {
+        return;
+    }
+    octets::clear(b, 0, 72);
+    let due = a.next_due;
+    let h = a.handle;
+    octets::put_u8(b, 6, bit(due.present));
+    octets::put_u64(b, 8, h.0);
+    octets::put_u64(b, 56, due.at);
+    write_bits(b, a);
+    write_counts(b, a);
+    write_status(b, a);
+}
+
+// ---- records
+
+// Two parts have the same bytes.
+fn same(a: &[u8], b: &[u8]) -> bool {
+    if a.len() != b.len() {
+        return false;
+    }
+    let mut i = 0;
+    while i < a.len() {
+        if a[i] != b[i] {
+            return false;
+        }
+        i += 1;
+    }
+    true
+}
+
+// The bytes of a put record go into a buffer; what does not fit is left out.
+fn put(body: &[u8], buffer: &mut [u8]) {
+    if body.len() < 8 {
+        return;
+    }
+    let at = octets::get_u32(body, 4) as usize;
+    let n = body.len() - 8;
+    if buffer.len() < n {
+        return;
+    }
+    if buffer.len() - n < at {
+        return;
+    }
+    octets::copy(body, 8, buffer, at, n);
+}
+
+// The bytes of an expect record stand in a buffer.
+fn stands(body: &[u8], buffer: &[u8]) -> bool {
+    if body.len() < 8 {
+        return false;
+    }
+    let at = octets::get_u32(body, 4) as usize;
+    let n = body.len() - 8;
+    if buffer.len() < n {
+        return false;
+    }
+    if buffer.len() - n < at {
+        return false;
+    }
+    let end = at + n;
+    same(&body[8..], &buffer[at..end])
+}
+
+// What a call record lends: the lengths, cut to what there is.
+struct Lengths {
+    pub sheet: usize,
+    pub out: usize,
+    pub pens: usize,
+    pub writers: usize,
+    pub lost: usize,
+}
+
+// The smaller of two lengths.
+fn at_most(n: usize, most: usize) -> usize
+    ensures { λ r. ⌜ r ≤ most ⌝ }
+{
+    if n < most { n } else { most }
+}
+
+// The lengths of a call record.
+fn lent_lengths(body: &[u8]) -> Lengths
+    requires { ⌜ 184 ≤ length (now body) ⌝ }
+    ensures { λ r. ⌜ (r .sheet ≤ 512) × (r .out ≤ 4112) × (r .pens ≤ 66048) × (r .writers ≤ 5160) × (r .lost ≤ 4112) ⌝ }
+{
+    Lengths {
+        sheet: at_most(octets::get_u16(body, 0) as usize, 512),
+        out: at_most(octets::get_u16(body, 2) as usize, 4112),
+        pens: at_most(octets::get_u32(body, 4) as usize, 66048),
+        writers: at_most(octets::get_u16(body, 8) as usize, 5160),
+        lost: at_most(octets::get_u16(body, 10) as usize, 4112),
+    }
+}
+
+// Every byte of Out becomes the one given.
+fn fill(out: &mut [u8], b: u8) {
+    let mut i = 0;
+    while i < out.len() {
+        out[i] = b;
+        i += 1;
+    }
+}
+
+// The digest of the front of a buffer; 0 where it is not so long.
+fn front_digest(buffer: &[u8], n: usize) -> u64 {
+    if buffer.len() < n {
+        return 0;
+    }
+    instance_handle::fnv_1a(&buffer[..n])
+}
+
+// The digest of the front of a buffer is the one recorded at an index.
+fn digests(p: Progress, body: &[u8], at: usize, buffer: &[u8], n: usize, what: &[u8]) -> Progress {
+    if body.len() < 184 {
+        return p;
+    }
+    if 176 < at {
+        return p;
+    }
+    if octets::get_u64(body, at) == front_digest(buffer, n) {
+        return p;
+    }
+    disagrees(p, what)
+}
+
+// The answer and the head after a call are those recorded.
+fn answers(p: Progress, body: &[u8], called: Called) -> Progress {
+    if body.len() < 184 {
+        return p;
+    }
+    let mut q = p;
+    let mut answer = [0u8; 72];
+    let a = called.answer;
+    write_answer(&mut answer, a);
+    if !same(&answer, &body[48..120]) {
+        q = disagrees(q, b"answer");
+    }
+    let mut head = [0u8; 64];
+    let h = called.head;
+    write_head(&mut head, h);
+    if !same(&head, &body[120..184]) {
+        q = disagrees(q, b"head");
+    }
+    q.head = h;
+    q
+}
+
+// ---- the calls, as the entry will join them
+
+// A refusal: its number alone, and the head as it was.
+fn refused(number: u8, head: Head) -> Called {
+    let a = answers::refused_with(number);
+    Called {
+        answer: a,
+        head: head,
+    }
+}
+
+// What a call on the instances leaves.
+fn settled(answer: Answer, head: Head, count: u32, next: InstanceHandle) -> Called {
+    let mut h = head;
+    h.instance_count = count;
+    h.next_handle = next;
+    Called {
+        answer: answer,
+        head: h,
+    }
+}
+
+// Whether a call is one on every instance.
+fn on_every(c: InstanceCall) -> bool
+    ensures { λ r. ⌜ r ≡ onEvery c ⌝ }
+{
+    match c {
+        InstanceCall::Register => false,
+        InstanceCall::EnsureRegisteredLimited => false,
+        InstanceCall::Dispose => false,
+        InstanceCall::Unregister => false,
+        InstanceCall::UnregisterWriter => false,
+        InstanceCall::NoteWriter => false,
+        InstanceCall::DropWriter => true,
+        InstanceCall::ObserveLifecycle => false,
+        InstanceCall::ObserveAdmitted => false,
+        InstanceCall::NoteAdmitted => false,
+        InstanceCall::RecordDelivery => false,
+        InstanceCall::NoteTaken => false,
+        InstanceCall::MarkViewSeen => false,
+        InstanceCall::MarkViewNew => false,
+        InstanceCall::DrainSamples => false,
+        InstanceCall::AcceptUnderExclusiveOwnership => false,
+        InstanceCall::UpdateOwnerStrength => true,
+        InstanceCall::ClearOwnerForWriter => true,
+        InstanceCall::ClearOwnerForWriterPrefix => true,
+        InstanceCall::ReleaseOwnerOf => false,
+        InstanceCall::Autopurge => true,
+    }
+}
+
+// A call on the instances.
+fn instance_turn(c: InstanceCall, s: Sheet, head: Head, pens: &mut [u8], out: &mut [u8]) -> Called
+    requires { ⌜ (length (now pens) ≡ 65536) × (length (now out) ≡ 4096) × (instanceTableOk 128 (head .«instance_count») (head .«next_handle» .0) (now pens) ≡ true) ⌝ }
+{
+    let number = call_sheet::instance_refusal(c, s);
+    if number != 0 {
+        return refused(number, head);
+    }
+    let count = head.instance_count;
+    let next = head.next_handle;
+    if on_every(c) {
+        let r = instance_pass::every_call(c, s, pens, out, 128, count, next);
+        let a = r.answer;
+        let n = r.next_handle;
+        return settled(a, head, r.count, n);
+    }
+    let r = instance_tracker::single_call(c, s, pens, 128, count, next);
+    let a = r.answer;
+    let n = r.next_handle;
+    settled(a, head, r.count, n)
+}
+
+// Code 32.
+fn match_turn(s: Sheet, head: Head, writers: &mut [u8]) -> Called
+    requires { ⌜ Held head (now writers) ⌝ }
+{
+    if !call_sheet::lease_ok(s) {
+        return refused(5, head);
+    }
+    if s.kind == 3 {
+        return refused(7, head);
+    }
+    liveliness_tracker::matched(s, head, writers)
+}
+
+// Codes 33 to 36.
+fn writers_turn(code: u8, s: Sheet, head: Head, writers: &mut [u8]) -> Called
+    requires { ⌜ Held head (now writers) ⌝ }
+{
+    if code == 33 {
+        return liveliness_tracker::unmatched(s, head, writers);
+    }
+    if code == 34 {
+        return liveliness_tracker::lost_with_participant(s, head, writers);
+    }
+    if !call_sheet::clock_ok(s.a) {
+        return refused(5, head);
+    }
+    if code == 35 {
+        return liveliness_tracker::writer_asserted(s, head, writers);
+    }
+    liveliness_tracker::participant_asserted(s, head, writers)
+}
+
+// Code 37.
+fn expire_turn(s: Sheet, head: Head, writers: &mut [u8], lost: &mut [u8]) -> Called
+    requires { ⌜ Held head (now writers) × (length (now lost) ≡ 4096) × (lostOk (head .«lost_count») (now lost) ≡ true) ⌝ }
+{
+    if !call_sheet::clock_ok(s.a) {
+        return refused(5, head);
+    }
+    liveliness_expiry::expire(s, head, writers, lost)
+}
+
+// Code 40.
+fn acknowledge_turn(s: Sheet, head: Head, writers: &[u8]) -> Called
+    requires { ⌜ Held head (now writers) ⌝ }
+{
+    if !liveliness_status::acknowledge_ok(s, head) {
+        return refused(8, head);
+    }
+    liveliness_status::acknowledge(s, head)
+}
+
+// A call on the writers.
+fn tracker_turn(
+    code: u8,
+    s: Sheet,
+    head: Head,
+    writers: &mut [u8],
+    lost: &mut [u8],
+    out: &mut [u8],
+) -> Called
+    requires { ⌜ Held head (now writers) × (length (now lost) ≡ 4096) × (lostOk (head .«lost_count») (now lost) ≡ true) × (length (now out) ≡ 4096) ⌝ }
+{
+    match code {
+        32 => match_turn(s, head, writers),
+        37 => expire_turn(s, head, writers, lost),
+        38 => liveliness_expiry::take_lost(s, head, lost, out),
+        39 => liveliness_status::take_status(s, head),
+        40 => acknowledge_turn(s, head, writers),
+        _ => writers_turn(code, s, head, writers),
+    }
+}
+
+// Whether head and writers are well formed.
+fn writers_formed(head: Head, writers: &[u8]) -> bool
+    requires { ⌜ length (now writers) ≡ 5120 ⌝ }
+    ensures { λ r. ⌜ (r ≡ true → Held head (now (writers .entry))) ⌝ }
+{
+    if !tracker_state::head_ok(head) {
+        return false;
+    }
+    let n = head.writer_count as usize;
+    if !tracker_state::writers_ok(writers, n) {
+        return false;
+    }
+    tracker_state::counts_ok(head, writers, n)
+}
+
+// A call of a known code, on buffers of the right lengths.
+fn known_turn(
+    code: u8,
+    s: Sheet,
+    head: Head,
+    pens: &mut [u8],
+    writers: &mut [u8],
+    lost: &mut [u8],
+    out: &mut [u8],
+) -> Called
+    requires { ⌜ (1 ≤ code) × (length (now pens) ≡ 65536) × (length (now writers) ≡ 5120) × (length (now lost) ≡ 4096) × (length (now out) ≡ 4096) ⌝ }
+{
+    let next = head.next_handle;
+    if !instance_table::table_ok(pens, 128, head.instance_count as usize, next.0) {
+        return refused(3, head);
+    }
+    if !writers_formed(head, writers) {
+        return refused(3, head);
+    }
+    if !tracker_state::lost_ok(lost, head.lost_count as usize) {
+        return refused(3, head);
+    }
+    if code <= 21 {
+        return instance_turn(dcps::instance_call(code), s, head, pens, out);
+    }
+    tracker_turn(code, s, head, writers, lost, out)
+}
+
+// Whether a code is one of the calls on instances or on writers.
+fn known(code: u8) -> bool {
+    if code <= 21 {
+        return true;
+    }
+    if code < 32 {
+        return false;
+    }
+    code <= 40
+}
+
+// A call on buffers of the right lengths: code, then the rest.
+fn coded_turn(
+    head: Head,
+    sheet: &[u8],
+    pens: &mut [u8],
+    writers: &mut [u8],
+    lost: &mut [u8],
+    out: &mut [u8],
+) -> Called
+    requires { ⌜ (length (now sheet) ≡ 256) × (length (now pens) ≡ 65536) × (length (now writers) ≡ 5120) × (length (now lost) ≡ 4096) × (length (now out) ≡ 4096) ⌝ }
+{
+    let s = call_sheet::read_sheet(sheet);
+    let code = s.code;
+    if code < 1 {
+        return refused(2, head);
+    }
+    if !known(code) {
+        return refused(2, head);
+    }
+    known_turn(code, s, head, pens, writers, lost, out)
+}
+
+// A call: lengths, code, then the rest.
+fn turn(
+    head: Head,
+    sheet: &[u8],
+    pens: &mut [u8],
+    writers: &mut [u8],
+    lost: &mut [u8],
+    out: &mut [u8],
+) -> Called {
+    if sheet.len() != 256 {
+        return refused(1, head);
+    }
+    if pens.len() != 65536 {
+        return refused(1, head);
+    }
+    if writers.len() != 5120 {
+        return refused(1, head);
+    }
+    if lost.len() != 4096 {
+        return refused(1, head);
+    }
+    if out.len() != 4096 {
+        return refused(1, head);
+    }
+    coded_turn(head, sheet, pens, writers, lost, out)
+}
+
+// A call on the fronts of the buffers.
+fn lent_turn(
+    head: Head,
+    sheet: &[u8],
+    n: Lengths,
+    pens: &mut [u8],
+    writers: &mut [u8],
+    lost: &mut [u8],
+    out: &mut [u8],
+) -> Called
+    requires { ⌜ (n .pens ≤ length (now pens)) × (n .writers ≤ length (now writers)) × (n .lost ≤ length (now lost)) × (n .out ≤ length (now out)) ⌝ }
+{
+    let a = n.pens;
+    let b = n.writers;
+    let c = n.lost;
+    let d = n.out;
+    turn(
+        head,
+        sheet,
+        &mut pens[..a],
+        &mut writers[..b],
+        &mut lost[..c],
+        &mut out[..d],
+    )
+}
+
+// The digests of the fronts of the buffers are those recorded.
+fn compared(
+    p: Progress,
+    body: &[u8],
+    n: Lengths,
+    pens: &[u8],
+    writers: &[u8],
+    lost: &[u8],
+    out: &[u8],
+) -> Progress {
+    let mut q = digests(p, body, 16, out, n.out, b"Out");
+    q = digests(q, body, 24, pens, n.pens, b"pens");
+    q = digests(q, body, 32, writers, n.writers, b"writers");
+    digests(q, body, 40, lost, n.lost, b"Lost")
+}
+
+// One call more.
+fn counted(p: Progress) -> Progress {
+    let mut q = p;
+    q.calls = numbers::wrapping_add_u64(p.calls, 1);
+    q
+}
+
+// What a call answered and left is what was recorded.
+fn judged(
+    p: Progress,
+    body: &[u8],
+    n: Lengths,
+    r: Called,
+    pens: &[u8],
+    writers: &[u8],
+    lost: &[u8],
+    out: &[u8],
+) -> Progress {
+    let q = answers(counted(p), body, r);
+    compared(q, body, n, pens, writers, lost, out)
+}
+
+// A call is made and judged.
+fn made(
+    p: Progress,
+    body: &[u8],
+    n: Lengths,
+    sheet: &[u8],
+    pens: &mut [u8],
+    writers: &mut [u8],
+    lost: &mut [u8],
+    out: &mut [u8],
+) -> Progress
+    requires { ⌜ (n .pens ≤ length (now pens)) × (n .writers ≤ length (now writers)) × (n .lost ≤ length (now lost)) × (n .out ≤ length (now out)) ⌝ }
+{
+    let h = p.head;
+    let r = lent_turn(h, sheet, n, pens, writers, lost, out);
+    judged(p, body, n, r, pens, writers, lost, out)
+}
+
+// A call record.
+fn call(
+    p: Progress,
+    body: &[u8],
+    pens: &mut [u8],
+    writers: &mut [u8],
+    lost: &mut [u8],
+    out: &mut [u8],
+) -> Progress
+    requires { ⌜ (length (now pens) ≡ 66048) × (length (now writers) ≡ 5160) × (length (now lost) ≡ 4112) × (length (now out) ≡ 4112) ⌝ }
+{
+    if body.len() < 184 {
+        return disagrees(p, b"a call record is too short");
+    }
+    let n = lent_lengths(body);
+    let end = 184 + n.sheet;
+    if body.len() < end {
+        return disagrees(p, b"a call record is too short");
+    }
+    fill(out, body[12]);
+    made(p, body, n, &body[184..end], pens, writers, lost, out)
+}
+
+// A new list: the head is fresh, the buffers zero.
+fn begin(
+    p: Progress,
+    body: &[u8],
+    pens: &mut [u8],
+    writers: &mut [u8],
+    lost: &mut [u8],
+) -> Progress {
+    let mut q = p;
+    if 4 <= body.len() {
+        q.list = octets::get_u32(body, 0) as u64;
+    }
+    q.taken = false;
+    if 5 <= body.len() {
+        q.taken = body[4] == 1 || body[4] == 2;
+    }
+    octets::clear(pens, 0, pens.len());
+    octets::clear(writers, 0, writers.len());
+    octets::clear(lost, 0, lost.len());
+    let h = fresh_head();
+    q.head = h;
+    q
+}
+
+// A put record, by its buffer.
+fn change(body: &[u8], pens: &mut [u8], writers: &mut [u8], lost: &mut [u8]) {
+    if body.len() < 8 {
+        return;
+    }
+    match body[0] {
+        0 => put(body, pens),
+        1 => put(body, writers),
+        _ => put(body, lost),
+    }
+}
+
+// An expect record, by its buffer.
+fn expect(p: Progress, body: &[u8], pens: &[u8], writers: &[u8], lost: &[u8]) -> Progress {
+    if body.len() < 8 {
+        return disagrees(p, b"an expect record is too short");
+    }
+    let b = body[0];
+    let ok = match b {
+        0 => stands(body, pens),
+        1 => stands(body, writers),
+        _ => stands(body, lost),
+    };
+    if ok {
+        return p;
+    }
+    disagrees(p, b"a record")
+}
+
+// One record, by its type.
+fn record(
+    p: Progress,
+    kind: u8,
+    body: &[u8],
+    pens: &mut [u8],
+    writers: &mut [u8],
+    lost: &mut [u8],
+    out: &mut [u8],
+) -> Progress
+    requires { ⌜ (length (now pens) ≡ 66048) × (length (now writers) ≡ 5160) × (length (now lost) ≡ 4112) × (length (now out) ≡ 4112) ⌝ }
+{
+    if 3 <= kind && kind <= 6 && !p.taken {
+        return p;
+    }
+    match kind {
+        1 => p,
+        2 => begin(p, body, pens, writers, lost),
+        3 => {
+            change(body, pens, writers, lost);
+            p
+        }
+        4 => {
+            let h = read_head(body);
+            let mut q = p;
+            q.head = h;
+            q
+        }
+        5 => call(p, body, pens, writers, lost, out),
+        6 => expect(p, body, pens, writers, lost),
+        _ => {
+            let mut q = finished(p);
+            q.ended = true;
+            q
+        }
+    }
+}
