@@ -648,7 +648,7 @@ fn known_turn(
         return refused(3, head);
     }
     if code <= 21 {
-        return instance_turn(dcps::instance_call(code), s, head, pens, out);
+        return instance_turn(call_codes::instance_call(code), s, head, pens, out);
     }
     tracker_turn(code, s, head, writers, lost, out)
 }

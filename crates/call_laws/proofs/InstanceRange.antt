@@ -19,20 +19,20 @@ use Rattle.model.specs.declared.InstanceHandle.{InstanceHandle}
 use Rattle.model.specs.declared.Sheet.{Sheet}
 use Rattle.model.specs.Answers.{refusedWith, silent, stopping}
 use Rattle.model.specs.declared.Answer.{Answer}
-use Rattle.model.specs.Call.{Left, lentOf, settle, listIn, turn, callIn}
-use Rattle.model.specs.Calls.{Call, callOfCode}
+use Rattle.model.specs.Call.{Left, lentOf, settle, listIn, turn, judged}
+use Rattle.model.specs.Calls.{Call}
 use Rattle.model.specs.Handles.{handle}
 use Rattle.model.specs.InstanceCalls.{Turned, refused, unchanged, withInstances, atLimit, lateRefusal, handleAnswer, samplesAnswer, infoAnswer, reached, told, instanceTurn, instanceCall, known, full, spent, crowds, accepted}
 use Rattle.model.specs.Instances.{rule, limitedBy, hasKey}
 use Rattle.model.specs.Joined.{inOrder, passesFilter, admitted, admitWith, admitCall}
 use Rattle.model.specs.State.{Lent, State, stateOf, layOut, headOf, pensOf}
-use Rattle.model.specs.Refusals.{lengthsOk, sheetRefusal}
-use Rattle.model.specs.Sheets.{sheetOf}
+use Rattle.model.specs.Refusals.{sheetRefusal}
 use Rattle.model.specs.Tables.{find}
-use Rattle.model.specs.WellFormed.{wellFormed}
 use Rattle.model.proofs.StateLaws.{Buffers, Formed, formed-facts, lay-back}
-use Rattle.dcps.proofs.Chain.{chain-turn}
-use Rattle.dcps.proofs.Graft.{tableOf, graft}
+use Rattle.call_laws.specs.Entered.{Entered}
+use Rattle.call_laws.specs.Heads.{headWith}
+use Rattle.call_laws.proofs.Chain.{judged-turn, buffers}
+use Rattle.call_laws.proofs.Graft.{tableOf, graft}
 
 -- ---- numbers of answers
 
@@ -116,22 +116,6 @@ admit-outcome places s st =
 
 -- ---- head and buffers
 
--- a head with another instance count and next handle
-abbrev pub headWith : Head → ℕ → InstanceHandle → Head
-headWith h count next =
-    record {
-      «instance_count» = count;
-      «next_handle» = next;
-      «writer_count» = h .«writer_count»;
-      «lost_count» = h .«lost_count»;
-      alive = h .alive;
-      «not_alive» = h .«not_alive»;
-      «alive_change» = h .«alive_change»;
-      «not_alive_change» = h .«not_alive_change»;
-      «last_writer» = h .«last_writer»;
-      changes = h .changes;
-    }
-
 -- what the call on the table left, in head and buffers
 abbrev pub leftIn : ℕ → Lent → Turned → Left
 leftIn places l t =
@@ -184,15 +168,14 @@ module _ (places : ℕ) (l : Lent) (b : Buffers places l) (f : Formed places l) 
 abbrev pub lefts : Answer → Lent → Left
 lefts a l = record { answer = a; lent = l }
 
-module _ (places : ℕ) (sheet : List ℕ) (l : Lent) (b : Buffers places l) (lengths : lengthsOk places sheet l ≡ true) (formed : wellFormed places l ≡ true)
-    (c : Call) (known-code : callOfCode (sheetOf sheet .code) ≡ some c) (fine : sheetRefusal c (sheetOf sheet) (stateOf l) ≡ 0) (t : Turned)
-    (grafted : turn places c (sheetOf sheet) (stateOf l) ≡ graft (stateOf l) t) (outcome : Outcome (tableOf (stateOf l)) t) where
+module _ (places : ℕ) (c : Call) (s : Sheet) (l : Lent) (e : Entered places l) (fine : 0 ≡ sheetRefusal c s (stateOf l)) (t : Turned)
+    (grafted : turn places c s (stateOf l) ≡ graft (stateOf l) t) (outcome : Outcome (tableOf (stateOf l)) t) where
   -- what the code returns and leaves, from what the call on the table leaves
   pub range-left : (a : Answer) (n : ℕ) (h : InstanceHandle) (pens out : List ℕ) → a ≡ t .answer → n ≡ length (t .state .instances) → h .0 ≡ t .state .nextHandle →
       pens ≡ pensOf places (t .state .instances) → out ≡ listIn (t .list) (l .out) →
-      lefts a (lentOf (headWith (l .head) n h) pens (l .writers) (l .lost) out) ≡ callIn places sheet l
+      lefts a (lentOf (headWith (l .head) n h) pens (l .writers) (l .lost) out) ≡ judged places c s l
   range-left a n h pens out ea en eh ep eo =
       let h' : h ≡ handle (t .state .nextHandle) = ap handle eh in
       let left : lefts a (lentOf (headWith (l .head) n h) pens (l .writers) (l .lost) out) ≡ leftIn places l t = rw (ea, en, h', ep, eo) in
-      left ∙ sym (graft-left places l b (formed-facts places l formed) t outcome) ∙ ap (λ (u : Turned). settle places u l) (sym grafted)
-      ∙ sym (chain-turn places sheet l lengths c known-code formed fine)
+      left ∙ sym (graft-left places l (buffers places l e) (formed-facts places l (e .formed)) t outcome) ∙ ap (λ (u : Turned). settle places u l) (sym grafted)
+      ∙ judged-turn places c s l fine

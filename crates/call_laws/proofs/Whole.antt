@@ -3,8 +3,7 @@
 --     whole-range                       from what the code returns and leaves, laid out, to the call on bytes
 -- Assumes nothing.
 use Prim.Native.Nat.{ℕ, zero, suc}
-use mathlib.Core.Bool.{true, cond}
-use mathlib.Core.Option.{some}
+use mathlib.Core.Bool.{cond}
 use mathlib.Core.Path.{_≡_, refl, sym, ap, _∙_}
 use mathlib.Core.List.{List}
 use lib.Dec.{eqb}
@@ -14,19 +13,18 @@ use Rattle.model.specs.declared.Sheet.{Sheet}
 use Rattle.model.specs.declared.TrackerCall.{TrackerCall}
 use Rattle.model.specs.declared.TrackerCall.the-variants.{Matched, Unmatched, LostWithParticipant, WriterAsserted, ParticipantAsserted, Expire, TakeLost, TakeStatus, Acknowledge}
 use Rattle.model.specs.Answers.{refusedWith}
-use Rattle.model.specs.Call.{settle, listIn, turn, callIn}
-use Rattle.model.specs.Calls.{Call, callOfCode}
+use Rattle.model.specs.Call.{settle, listIn, turn, judged}
+use Rattle.model.specs.Calls.{Call}
 use Rattle.model.specs.InstanceCalls.{Turned, refused}
 use Rattle.model.specs.Joined.{afterLoss, lossCall}
-use Rattle.model.specs.Refusals.{lengthsOk, sheetRefusal}
-use Rattle.model.specs.Sheets.{sheetOf}
+use Rattle.model.specs.Refusals.{sheetRefusal}
 use Rattle.model.specs.State.{Lent, State, stateOf, layOut}
 use Rattle.model.specs.Times.{ifPresent}
-use Rattle.model.specs.WellFormed.{wellFormed}
 use Rattle.model.specs.Writers.{trackerTold, trackerTurn, trackerLate, trackerCall}
-use Rattle.model.proofs.StateLaws.{Buffers, formed-facts, lay-back}
-use Rattle.dcps.proofs.Chain.{chain-turn}
-use Rattle.dcps.proofs.InstanceRange.{Outcome, accepts, refuses, picked, unpicked, lefts}
+use Rattle.model.proofs.StateLaws.{formed-facts, lay-back}
+use Rattle.call_laws.specs.Entered.{Entered}
+use Rattle.call_laws.proofs.Chain.{judged-turn, buffers}
+use Rattle.call_laws.proofs.InstanceRange.{Outcome, accepts, refuses, picked, unpicked, lefts}
 
 -- ---- accepted, or refused with nothing changed
 
@@ -56,15 +54,15 @@ loss-outcome c gone s st = late-outcome (trackerLate c s st) (afterLoss gone (if
 
 -- ---- head and buffers
 
-module _ (places : ℕ) (sheet : List ℕ) (l : Lent) (b : Buffers places l) (lengths : lengthsOk places sheet l ≡ true) (formed : wellFormed places l ≡ true)
-    (c : Call) (known-code : callOfCode (sheetOf sheet .code) ≡ some c) (fine : sheetRefusal c (sheetOf sheet) (stateOf l) ≡ 0) where
+module _ (places : ℕ) (c : Call) (s : Sheet) (l : Lent) (e : Entered places l) (fine : 0 ≡ sheetRefusal c s (stateOf l)) where
   whole-left : (t : Turned) → Outcome (stateOf l) t → settle places t l ≡ lefts (t .answer) (layOut places (t .state) (listIn (t .list) (l .out)))
   unfolding settle
-  whole-left t (accepts e) = picked (t .answer .number) _ _ e
-  whole-left t (refuses n e) = rw e (unpicked n _ _ ∙ ap (lefts (refusedWith (suc n))) (sym (lay-back places l b (formed-facts places l formed))))
+  whole-left t (accepts a) = picked (t .answer .number) _ _ a
+  whole-left t (refuses n r) =
+      rw r (unpicked n _ _ ∙ ap (lefts (refusedWith (suc n))) (sym (lay-back places l (buffers places l e) (formed-facts places l (e .formed)))))
 
-  pub whole-range : (a : Answer) (left : Lent) (t : Turned) → turn places c (sheetOf sheet) (stateOf l) ≡ t → Outcome (stateOf l) t → a ≡ t .answer →
-      left ≡ layOut places (t .state) (listIn (t .list) (l .out)) → lefts a left ≡ callIn places sheet l
-  whole-range a left t e o ea el =
+  pub whole-range : (a : Answer) (left : Lent) (t : Turned) → turn places c s (stateOf l) ≡ t → Outcome (stateOf l) t → a ≡ t .answer →
+      left ≡ layOut places (t .state) (listIn (t .list) (l .out)) → lefts a left ≡ judged places c s l
+  whole-range a left t turned o ea el =
       let same : lefts a left ≡ lefts (t .answer) (layOut places (t .state) (listIn (t .list) (l .out))) = rw (ea, el) in
-      same ∙ sym (whole-left t o) ∙ ap (λ (u : Turned). settle places u l) (sym e) ∙ sym (chain-turn places sheet l lengths c known-code formed fine)
+      same ∙ sym (whole-left t o) ∙ ap (λ (u : Turned). settle places u l) (sym turned) ∙ judged-turn places c s l fine

@@ -1,13 +1,13 @@
--- `dcps::admit_refusal` meets its contract: one law a link of the chain. Assumes nothing.
+-- `call_codes::admit_refusal` meets its contract: one law a link of the chain. Assumes nothing.
 use mathlib.Core.Path.{refl, sym, _∙_}
 use borrow.Author.Tests.{not-true, not-false, le-leb, lt-leb}
 use Rattle.model.specs.declared.JoinedCall.the-variants.{Admit}
 use Rattle.model.specs.Calls.{joined}
 use Rattle.model.specs.Tables.{all}
-use Rattle.dcps.proofs.SheetChain.{sheet-4, sheet-6, sheet-none}
+use Rattle.call_codes.proofs.SheetChain.{sheet-4, sheet-6, sheet-none}
 use borrow.Author.Needs.{needs}
-use Rattle.dcps.proofs.admit_refusal.Statement.{statement}
-use Rattle.dcps.proofs.admit_refusal.Tie as tie
+use Rattle.call_codes.proofs.admit_refusal.Statement.{statement}
+use Rattle.call_codes.proofs.admit_refusal.Tie as tie
 
 both-ok-requires : tie.Need-both-ok-requires
 both-ok-requires c κs = search needs

@@ -1,13 +1,13 @@
--- `dcps::leave_refusal` meets its contract: one law a link of the chain. Assumes nothing.
+-- `call_codes::leave_refusal` meets its contract: one law a link of the chain. Assumes nothing.
 use mathlib.Core.Path.{refl, sym, _∙_}
 use borrow.Author.Tests.{not-true, not-false}
 use Rattle.model.specs.declared.JoinedCall.the-variants.{Part, Depart}
 use Rattle.model.specs.Calls.{joined}
 use Rattle.model.specs.Tables.{all}
-use Rattle.dcps.proofs.SheetChain.{sheet-4, sheet-none}
+use Rattle.call_codes.proofs.SheetChain.{sheet-4, sheet-none}
 use borrow.Author.Needs.{needs}
-use Rattle.dcps.proofs.leave_refusal.Statement.{statement}
-use Rattle.dcps.proofs.leave_refusal.Tie as tie
+use Rattle.call_codes.proofs.leave_refusal.Statement.{statement}
+use Rattle.call_codes.proofs.leave_refusal.Tie as tie
 
 optional-ok-requires : tie.Need-optional-ok-requires
 optional-ok-requires c κs = search needs

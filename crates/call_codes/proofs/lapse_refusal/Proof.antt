@@ -1,12 +1,12 @@
--- `dcps::lapse_refusal` meets its contract: one law a link of the chain. Assumes nothing.
+-- `call_codes::lapse_refusal` meets its contract: one law a link of the chain. Assumes nothing.
 use mathlib.Core.Path.{refl, sym, _∙_}
 use borrow.Author.Tests.{not-true, not-false}
 use Rattle.model.specs.declared.JoinedCall.the-variants.{Lapse}
 use Rattle.model.specs.Calls.{joined}
-use Rattle.dcps.proofs.SheetChain.{sheet-4, sheet-5, sheet-none}
+use Rattle.call_codes.proofs.SheetChain.{sheet-4, sheet-5, sheet-none}
 use borrow.Author.Needs.{needs}
-use Rattle.dcps.proofs.lapse_refusal.Statement.{statement}
-use Rattle.dcps.proofs.lapse_refusal.Tie as tie
+use Rattle.call_codes.proofs.lapse_refusal.Statement.{statement}
+use Rattle.call_codes.proofs.lapse_refusal.Tie as tie
 
 optional-ok-requires : tie.Need-optional-ok-requires
 optional-ok-requires c κs = search needs

@@ -1,11 +1,11 @@
--- `dcps::joined_call` meets its contract: each arm gives the call of its code. Assumes nothing.
+-- `call_codes::joined_call` meets its contract: each arm gives the call of its code. Assumes nothing.
 use Prim.Native.Nat.{ℕ, _≤_}
 use mathlib.Core.Path.{_≡_}
 use native.Mathlib.Omega.{arith}
 use Rattle.model.specs.Calls.{calls, amongst, callOfCode}
-use Rattle.dcps.proofs.Codes.{past}
-use Rattle.dcps.proofs.joined_call.Statement.{statement}
-use Rattle.dcps.proofs.joined_call.Tie as tie
+use Rattle.call_codes.proofs.Codes.{past}
+use Rattle.call_codes.proofs.joined_call.Statement.{statement}
+use Rattle.call_codes.proofs.joined_call.Tie as tie
 
 returns : tie.Need-returns
 unfolding callOfCode amongst calls

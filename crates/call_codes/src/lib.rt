@@ -1,5 +1,5 @@
-// The calls on lent head and buffers, range by range.
-// Rests on model and the crates of the two trackers.
+// A call's code: the call that it is. And what the sheets of the joined calls decide.
+// Rests on model and call_sheet.
 //
 // Derives from instance_tracker.rs and liveliness_tracker.rs of ZeroDDS.
 // Copyright 2026 ZeroDDS Contributors. SPDX-License-Identifier: Apache-2.0. Changed: written anew in Rattle, with the state
@@ -78,7 +78,7 @@ pub fn joined_call(code: u8) -> JoinedCall
 }
 
 // The number of the refusal that the sheet of code 48 meets, 0 for none.
-fn admit_refusal(s: Sheet) -> u8
+pub fn admit_refusal(s: Sheet) -> u8
     ensures { λ r. ⌜ ((st : State) → r ≡ sheetRefusal (joined Admit) s st) ⌝ }
 {
     let t = s.time_1;
@@ -94,7 +94,7 @@ fn admit_refusal(s: Sheet) -> u8
 }
 
 // The same of code 49.
-fn lapse_refusal(s: Sheet) -> u8
+pub fn lapse_refusal(s: Sheet) -> u8
     ensures { λ r. ⌜ ((st : State) → r ≡ sheetRefusal (joined Lapse) s st) ⌝ }
 {
     let t = s.time_1;
@@ -108,7 +108,7 @@ fn lapse_refusal(s: Sheet) -> u8
 }
 
 // The same of codes 50 and 51.
-fn leave_refusal(s: Sheet) -> u8
+pub fn leave_refusal(s: Sheet) -> u8
     ensures { λ r. ⌜ ((st : State) → (r ≡ sheetRefusal (joined Part) s st) × (r ≡ sheetRefusal (joined Depart) s st)) ⌝ }
 {
     let t = s.time_1;
