@@ -38,8 +38,7 @@ fn with_list(a: Answer, count: u32, listed: u32) -> Answer {
 }
 
 // The writers gone are dropped from every instance: codes 7 and 18 for one after the other.
-fn lose(called: Called, s: Sheet, pens: &mut [u8], out: &mut [u8], gone: &[u8]) -> Called
-{
+fn lose(called: Called, s: Sheet, pens: &mut [u8], out: &mut [u8], gone: &[u8]) -> Called {
     let h = called.head;
     let a = called.answer;
     let tally = instance_pass::pass(pens, out, h.instance_count as usize, Passing::Loss, s, gone);
@@ -50,8 +49,14 @@ fn lose(called: Called, s: Sheet, pens: &mut [u8], out: &mut [u8], gone: &[u8]) 
 }
 
 // Code 49, lapse: the writers whose lease ran out are lost.
-fn lapse(s: Sheet, head: Head, pens: &mut [u8], writers: &mut [u8], lost: &mut [u8], out: &mut [u8]) -> Called
-{
+fn lapse(
+    s: Sheet,
+    head: Head,
+    pens: &mut [u8],
+    writers: &mut [u8],
+    lost: &mut [u8],
+    out: &mut [u8],
+) -> Called {
     let from = head.lost_count as usize * 16;
     let r = liveliness_expiry::expire(s, head, writers, lost);
     let a = r.answer;
@@ -64,8 +69,7 @@ fn lapse(s: Sheet, head: Head, pens: &mut [u8], writers: &mut [u8], lost: &mut [
 }
 
 // Code 50, part: the writer is no longer matched.
-fn part(s: Sheet, head: Head, pens: &mut [u8], writers: &mut [u8], out: &mut [u8]) -> Called
-{
+fn part(s: Sheet, head: Head, pens: &mut [u8], writers: &mut [u8], out: &mut [u8]) -> Called {
     let g = s.guid;
     let gone = guid_bytes(g);
     let r = liveliness_tracker::unmatched(s, head, writers);

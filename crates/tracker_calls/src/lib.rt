@@ -72,9 +72,17 @@ pub fn tracker_turn(
     match c {
         TrackerCall::Matched => liveliness_tracker::matched(s, head, writers),
         TrackerCall::Unmatched => liveliness_tracker::unmatched(s, head, writers),
-        TrackerCall::LostWithParticipant => liveliness_tracker::lost_with_participant(s, head, writers),
+        TrackerCall::LostWithParticipant => liveliness_tracker::lost_with_participant(
+            s,
+            head,
+            writers,
+        ),
         TrackerCall::WriterAsserted => liveliness_tracker::writer_asserted(s, head, writers),
-        TrackerCall::ParticipantAsserted => liveliness_tracker::participant_asserted(s, head, writers),
+        TrackerCall::ParticipantAsserted => liveliness_tracker::participant_asserted(
+            s,
+            head,
+            writers,
+        ),
         TrackerCall::Expire => liveliness_expiry::expire(s, head, writers, lost),
         TrackerCall::TakeLost => liveliness_expiry::take_lost(s, head, lost, out),
         TrackerCall::TakeStatus => liveliness_status::take_status(s, head),

@@ -1,0 +1,2 @@
+-- What the contracts of dcps cite beside model's definitions.
+pub mod Fresh

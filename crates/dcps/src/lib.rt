@@ -1,0 +1,263 @@
+// The public entries: every call on lent head and buffers, the fresh state, and the reads. None has a `requires`: any bytes
+// are answered, or refused with a number of the scope document and nothing written.
+// Rests on all crates of the two trackers.
+//
+// Derives from instance_tracker.rs and liveliness_tracker.rs of ZeroDDS.
+// Copyright 2026 ZeroDDS Contributors. SPDX-License-Identifier: Apache-2.0. Changed: written anew in Rattle, with the state
+// lent as head and buffers and every call behind one entry.
+use model::Called;
+use model::ChangesRead;
+use model::Decision;
+use model::FoundHandle;
+use model::FoundTime;
+use model::Guid;
+use model::Head;
+use model::InstanceHandle;
+use model::LastWriter;
+use model::Listing;
+use model::Sheet;
+use model::StatusRead;
+use model::Time;
+ghost use mathlib.Core.Bool.{true, _&&_};
+ghost use mathlib.Core.List.{[]};
+ghost use mathlib.Core.Path.{_≡_};
+ghost use Prim.Native.Nat.{_*_, _≤_};
+ghost use lib.Dec.{eqb};
+ghost use lib.ListN.{length};
+ghost use Rattle.model.specs.Call.{coded, callOf, lentOf, leftOf};
+ghost use Rattle.model.specs.Calls.{callOfCode};
+ghost use Rattle.model.specs.Reads.{filterRead, orderRead, lastDeliveredRead, nextHandleRead, walkRead, holderInForce, lookupRight, wouldLeaveRead, leftRead, leftOut, statusRead, changesRead};
+ghost use Rattle.dcps.specs.Fresh.{freshHead, roomOk, freshOf};
+
+// ---- every call
+
+// Whether the buffers of the state have their lengths.
+fn room_ok(pens: usize, writers: usize, lost: usize) -> bool
+    ensures { λ r. ⌜ r ≡ (eqb pens 65536 && (eqb writers 5120 && eqb lost 4096)) ⌝ }
+{
+    if pens != 65536 {
+        return false;
+    }
+    if writers != 5120 {
+        return false;
+    }
+    lost == 4096
+}
+
+// Codes 1 to 21: calls on the instances.
+fn instances(
+    s: Sheet,
+    head: Head,
+    pens: &mut [u8],
+    writers: &[u8],
+    lost: &[u8],
+    out: &mut [u8],
+) -> Called
+    requires { ⌜ (length (now pens) ≡ 65536) × (length (now writers) ≡ 5120) × (length (now lost) ≡ 4096) × (length (now out) ≡ 4096)
+        × (1 ≤ s .code) × (s .code ≤ 21) ⌝ }
+    ensures { λ r. ⌜ leftOf r (now (pens .exit)) (now (writers .entry)) (now (lost .entry)) (now (out .exit))
+        ≡ coded 128 (callOfCode (s .code)) s (lentOf head (now (pens .entry)) (now (writers .entry)) (now (lost .entry)) (now (out .entry))) ⌝ }
+{
+    if !lent_state::state_ok(head, pens, writers, lost, 128) {
+        return lent_state::refused(3, head);
+    }
+    let c = call_codes::instance_call(s.code);
+    instance_calls::instance_turn(c, s, head, pens, out, 128)
+}
+
+// Codes 32 to 40: calls on the writers.
+fn tracker(
+    s: Sheet,
+    head: Head,
+    pens: &[u8],
+    writers: &mut [u8],
+    lost: &mut [u8],
+    out: &mut [u8],
+) -> Called
+    requires { ⌜ (length (now pens) ≡ 65536) × (length (now writers) ≡ 5120) × (length (now lost) ≡ 4096) × (length (now out) ≡ 4096)
+        × (32 ≤ s .code) × (s .code ≤ 40) ⌝ }
+    ensures { λ r. ⌜ leftOf r (now (pens .entry)) (now (writers .exit)) (now (lost .exit)) (now (out .exit))
+        ≡ coded 128 (callOfCode (s .code)) s (lentOf head (now (pens .entry)) (now (writers .entry)) (now (lost .entry)) (now (out .entry))) ⌝ }
+{
+    if !lent_state::state_ok(head, pens, writers, lost, 128) {
+        return lent_state::refused(3, head);
+    }
+    let c = call_codes::tracker_call(s.code);
+    tracker_calls::tracker_turn(c, s, head, writers, lost, out)
+}
+
+// Codes 48 to 51: the joined calls.
+fn joined(
+    s: Sheet,
+    head: Head,
+    pens: &mut [u8],
+    writers: &mut [u8],
+    lost: &mut [u8],
+    out: &mut [u8],
+) -> Called
+    requires { ⌜ (length (now pens) ≡ 65536) × (length (now writers) ≡ 5120) × (length (now lost) ≡ 4096) × (length (now out) ≡ 4096)
+        × (48 ≤ s .code) × (s .code ≤ 51) ⌝ }
+    ensures { λ r. ⌜ leftOf r (now (pens .exit)) (now (writers .exit)) (now (lost .exit)) (now (out .exit))
+        ≡ coded 128 (callOfCode (s .code)) s (lentOf head (now (pens .entry)) (now (writers .entry)) (now (lost .entry)) (now (out .entry))) ⌝ }
+{
+    if !lent_state::state_ok(head, pens, writers, lost, 128) {
+        return lent_state::refused(3, head);
+    }
+    let c = call_codes::joined_call(s.code);
+    joined_calls::joined_turn(c, s, head, pens, writers, lost, out, 128)
+}
+
+// A call: the sheet says which, the head and the buffers are the state that it is made on.
+pub fn call(
+    head: Head,
+    sheet: &[u8],
+    pens: &mut [u8],
+    writers: &mut [u8],
+    lost: &mut [u8],
+    out: &mut [u8],
+) -> Called
+    ensures { λ r. ⌜ leftOf r (now (pens .exit)) (now (writers .exit)) (now (lost .exit)) (now (out .exit))
+        ≡ callOf (now (sheet .entry)) (lentOf head (now (pens .entry)) (now (writers .entry)) (now (lost .entry)) (now (out .entry))) ⌝ }
+{
+    if sheet.len() != 256 {
+        return lent_state::refused(1, head);
+    }
+    if !room_ok(pens.len(), writers.len(), lost.len()) {
+        return lent_state::refused(1, head);
+    }
+    if out.len() != 4096 {
+        return lent_state::refused(1, head);
+    }
+    let s = call_sheet::read_sheet(sheet);
+    match s.code {
+        1..=21 => instances(s, head, pens, writers, lost, out),
+        32..=40 => tracker(s, head, pens, writers, lost, out),
+        48..=51 => joined(s, head, pens, writers, lost, out),
+        _ => lent_state::refused(2, head),
+    }
+}
+
+// ---- the fresh state
+
+// The head of the fresh state.
+fn fresh_head() -> Head
+    ensures { λ r. ⌜ r ≡ freshHead 128 ⌝ }
+{
+    Head {
+        instance_count: 0,
+        next_handle: InstanceHandle(1),
+        writer_count: 0,
+        lost_count: 0,
+        alive: 0,
+        not_alive: 0,
+        alive_change: 0,
+        not_alive_change: 0,
+        last_writer: LastWriter::Nobody,
+        changes: 0,
+    }
+}
+
+// The buffers become those of the fresh state, whose head comes back; where one has another length it is refused as 1.
+pub fn fresh(pens: &mut [u8], writers: &mut [u8], lost: &mut [u8]) -> Called
+    ensures { λ r. ⌜ leftOf r (now (pens .exit)) (now (writers .exit)) (now (lost .exit)) []
+        ≡ freshOf 128 (now (pens .entry)) (now (writers .entry)) (now (lost .entry)) ⌝ }
+{
+    let head = fresh_head();
+    if !room_ok(pens.len(), writers.len(), lost.len()) {
+        return lent_state::refused(1, head);
+    }
+    octets::clear(pens, 0, 65536);
+    octets::clear(writers, 0, 5120);
+    octets::clear(lost, 0, 4096);
+    lent_state::refused(0, head)
+}
+
+// ---- the reads
+
+// Whether a sample is delivered under the time-based filter (DDS 1.4, 2.2.3.12).
+pub fn should_deliver_under_time_based_filter(
+    pens: &[u8],
+    key: Guid,
+    sample_ts: Time,
+    min_separation: u64,
+) -> Decision
+    ensures { λ r. ⌜ r ≡ filterRead 128 (now (pens .entry)) key «sample_ts» «min_separation» ⌝ }
+{
+    instance_reads::should_deliver_under_time_based_filter(pens, key, sample_ts, min_separation)
+}
+
+// Whether a sample is delivered under the destination order (DDS 1.4, 2.2.3.17).
+pub fn should_deliver_under_destination_order(
+    pens: &[u8],
+    key: Guid,
+    source_ts: Time,
+    by_source: bool,
+) -> Decision
+    ensures { λ r. ⌜ r ≡ orderRead 128 (now (pens .entry)) key «source_ts» «by_source» ⌝ }
+{
+    instance_reads::should_deliver_under_destination_order(pens, key, source_ts, by_source)
+}
+
+// When a sample of the instance was delivered last.
+pub fn last_delivered_ts(pens: &[u8], key: Guid) -> FoundTime
+    ensures { λ r. ⌜ r ≡ lastDeliveredRead 128 (now (pens .entry)) key ⌝ }
+{
+    instance_reads::last_delivered_ts(pens, key)
+}
+
+// The handle that follows another in the order of the keys; the first one behind nil.
+pub fn next_handle_after(pens: &[u8], previous: InstanceHandle) -> FoundHandle
+    ensures { λ r. ⌜ r ≡ nextHandleRead 128 (now (pens .entry)) previous ⌝ }
+{
+    instance_reads::next_handle_after(pens, previous)
+}
+
+// The handle of the instance at a position.
+pub fn handle_at_position(pens: &[u8], position: usize) -> FoundHandle
+    ensures { λ r. ⌜ r ≡ walkRead 128 (now (pens .entry)) position ⌝ }
+{
+    instance_reads::handle_at_position(pens, position)
+}
+
+// The stored holder of the key, or the one offered.
+pub fn holder_in_force<'a>(pens: &'a [u8], key: Guid, offered: &'a [u8]) -> &'a [u8]
+    ensures { λ r. ⌜ now r ≡ holderInForce 128 (now (pens .entry)) key (now (offered .entry)) ⌝ }
+{
+    instance_reads::holder_in_force(pens, key, offered)
+}
+
+// An alive instance that the writer writes.
+pub fn writer_lookup(pens: &[u8], guid: Guid) -> FoundHandle
+    ensures { λ r. ⌜ lookupRight 128 (now (pens .entry)) guid r ≡ true ⌝ }
+{
+    instance_reads::writer_lookup(pens, guid)
+}
+
+// Whether the loss of the writers of a list would leave an instance without writers.
+pub fn would_leave_writerless(pens: &[u8], gone: &[u8], view_states: u32) -> Decision
+    ensures { λ r. ⌜ r ≡ wouldLeaveRead 128 (now (pens .entry)) (now (gone .entry)) «view_states» ⌝ }
+{
+    instance_reads::would_leave_writerless(pens, gone, view_states)
+}
+
+// The handles of the instances that it would leave so, to the front of Out.
+pub fn left_writerless(pens: &[u8], gone: &[u8], view_states: u32, out: &mut [u8]) -> Listing
+    ensures answer { λ r. ⌜ r ≡ leftRead 128 (now (pens .entry)) (now (gone .entry)) «view_states» (now (out .entry)) ⌝ }
+    ensures list { λ _. ⌜ now (out .exit) ≡ leftOut 128 (now (pens .entry)) (now (gone .entry)) «view_states» (now (out .entry)) ⌝ }
+{
+    instance_reads::left_writerless(pens, gone, view_states, out)
+}
+
+// The liveliness status (DDS 1.4, 2.2.4.1) that the head holds, which it leaves as it is.
+pub fn status(head: Head) -> StatusRead
+    ensures { λ r. ⌜ r ≡ statusRead 128 head ⌝ }
+{
+    tracker_state::status(head)
+}
+
+// How many changes of class the head has counted.
+pub fn changes(head: Head) -> ChangesRead
+    ensures { λ r. ⌜ r ≡ changesRead 128 head ⌝ }
+{
+    tracker_state::changes(head)
+}
