@@ -1,0 +1,2 @@
+-- Laws that the proofs of dcps cite.
+pub mod Beginnings
