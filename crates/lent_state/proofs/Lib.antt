@@ -1,0 +1,2 @@
+-- Laws that the proofs of lent_state cite.
+pub mod Formed

@@ -1,0 +1,98 @@
+-- `state_ok` meets its contract: the first part of the test that fails makes the whole fail. Assumes nothing.
+use mathlib.Core.Path.{refl, sym, _∙_}
+use native.Mathlib.Omega.{arith}
+use borrow.Author.Needs.{needs}
+use borrow.Author.Tests.{not-true, not-false}
+use Rattle.lent_state.proofs.Formed.{formed-by, few-writers}
+use Rattle.lent_state.proofs.state_ok.Statement.{statement}
+use Rattle.lent_state.proofs.state_ok.Tie as tie
+
+head-ok-requires : tie.Need-head-ok-requires
+head-ok-requires c κs = search needs
+
+returns : tie.Need-returns
+returns c =
+    let a = c .before .before .before .before .before .args in
+    λ out. formed-by (a .places) (a .head) (a .pens .now) (a .writers .now) (a .lost .now) out
+    (sym (c .before .head-ok .ensures) ∙ not-true _ (c .if1 .taken)) refl refl refl refl
+
+cast-table-ok : tie.Need-cast-table-ok
+cast-table-ok c = search needs
+
+table-ok-requires : tie.Need-table-ok-requires
+table-ok-requires c κs = search needs
+
+returns-2 : tie.Need-returns-2
+returns-2 c =
+    let d = c .before .before .before .before in
+    let a = d .before .before .before .before .before .args in
+    λ out. formed-by (a .places) (a .head) (a .pens .now) (a .writers .now) (a .lost .now) out
+    (sym (d .before .head-ok .ensures) ∙ not-false _ (d .if1 .left)) (sym (c .before .table-ok .ensures) ∙ not-true _ (c .if2 .taken)) refl refl refl
+
+cast-count : tie.Need-cast-count
+cast-count c = search needs
+
+writers-ok-requires : tie.Need-writers-ok-requires
+writers-ok-requires c κs = search needs
+
+returns-3 : tie.Need-returns-3
+returns-3 c =
+    let e = c .before .before .before in
+    let d = e .before .before .before .before in
+    let a = d .before .before .before .before .before .args in
+    λ out. formed-by (a .places) (a .head) (a .pens .now) (a .writers .now) (a .lost .now) out
+    (sym (d .before .head-ok .ensures) ∙ not-false _ (d .if1 .left)) (sym (e .before .table-ok .ensures) ∙ not-false _ (e .if2 .left))
+    (sym (c .before .writers-ok .ensures) ∙ not-true _ (c .if3 .taken)) refl refl
+
+cast-lost-ok : tie.Need-cast-lost-ok
+cast-lost-ok c = search needs
+
+lost-ok-requires : tie.Need-lost-ok-requires
+lost-ok-requires c κs = search needs
+
+returns-4 : tie.Need-returns-4
+returns-4 c =
+    let f = c .before .before .before in
+    let e = f .before .before .before in
+    let d = e .before .before .before .before in
+    let a = d .before .before .before .before .before .args in
+    λ out. formed-by (a .places) (a .head) (a .pens .now) (a .writers .now) (a .lost .now) out
+    (sym (d .before .head-ok .ensures) ∙ not-false _ (d .if1 .left)) (sym (e .before .table-ok .ensures) ∙ not-false _ (e .if2 .left))
+    (sym (f .before .writers-ok .ensures) ∙ not-false _ (f .if3 .left)) (sym (c .before .lost-ok .ensures) ∙ not-true _ (c .if4 .taken)) refl
+
+counts-ok-requires : tie.Need-counts-ok-requires
+counts-ok-requires c κs =
+    let f = c .before .before .before in
+    let s = f .before .before .before .before .before .before .before .before .before .before .before .before in
+    let few = few-writers (s .args .head .«writer_count») (s .args .writers .now) (sym (f .before .writers-ok .ensures) ∙ not-false _ (f .if3 .left)) in
+    (omega (arith, few), omega (arith, few, s .pre .1))
+
+returns-5 : tie.Need-returns-5
+returns-5 c =
+    let g = c .before in
+    let f = g .before .before .before in
+    let e = f .before .before .before in
+    let d = e .before .before .before .before in
+    let a = d .before .before .before .before .before .args in
+    λ out. formed-by (a .places) (a .head) (a .pens .now) (a .writers .now) (a .lost .now) out
+    (sym (d .before .head-ok .ensures) ∙ not-false _ (d .if1 .left)) (sym (e .before .table-ok .ensures) ∙ not-false _ (e .if2 .left))
+    (sym (f .before .writers-ok .ensures) ∙ not-false _ (f .if3 .left)) (sym (g .before .lost-ok .ensures) ∙ not-false _ (g .if4 .left))
+    (sym (c .counts-ok .ensures))
+
+pub state-ok-spec : {M : Type 1} → statement M
+state-ok-spec =
+    tie.close
+    (tie.spec
+    head-ok-requires
+    returns
+    cast-table-ok
+    table-ok-requires
+    returns-2
+    cast-count
+    writers-ok-requires
+    returns-3
+    cast-lost-ok
+    lost-ok-requires
+    returns-4
+    counts-ok-requires
+    returns-5)
