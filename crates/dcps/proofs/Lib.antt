@@ -1,2 +1,3 @@
 -- Laws that the proofs of dcps cite.
 pub mod Beginnings
+pub mod Coding

@@ -24,8 +24,6 @@ ghost use mathlib.Core.Path.{_≡_};
 ghost use Prim.Native.Nat.{_*_, _≤_};
 ghost use lib.Dec.{eqb};
 ghost use lib.ListN.{length};
-ghost use Rattle.model.specs.Answers.{refusedWith};
-ghost use Rattle.call_laws.specs.Heads.{called};
 ghost use Rattle.model.specs.Call.{coded, callOf, lentOf, leftOf};
 ghost use Rattle.model.specs.Calls.{callOfCode};
 ghost use Rattle.model.specs.Reads.{filterRead, orderRead, lastDeliveredRead, nextHandleRead, walkRead, holderInForce, lookupRight, wouldLeaveRead, leftRead, leftOut, statusRead, changesRead};
@@ -46,14 +44,102 @@ fn room_ok(pens: usize, writers: usize, lost: usize) -> bool
     lost == 4096
 }
 
-fn refused(number: u8, head: Head) -> Called
-    ensures { λ r. ⌜ r ≡ called (refusedWith number) head ⌝ }
+// Codes 1 to 21: calls on the instances.
+fn instances(
+    s: Sheet,
+    head: Head,
+    pens: &mut [u8],
+    writers: &[u8],
+    lost: &[u8],
+    out: &mut [u8],
+) -> Called
+    requires { ⌜ (length (now pens) ≡ 65536) × (length (now writers) ≡ 5120) × (length (now lost) ≡ 4096) × (length (now out) ≡ 4096)
+        × (1 ≤ s .code) × (s .code ≤ 21) ⌝ }
+    ensures { λ r. ⌜ leftOf r (now (pens .exit)) (now (writers .entry)) (now (lost .entry)) (now (out .exit))
+        ≡ coded 128 (callOfCode (s .code)) s (lentOf head (now (pens .entry)) (now (writers .entry)) (now (lost .entry)) (now (out .entry))) ⌝ }
 {
-    let a = answers::refused_with(number);
-    Called {
-        answer: a,
-        head: head,
+    lent_state::refused(3, head)
+}
+
+// Codes 32 to 40: calls on the writers.
+fn tracker(
+    s: Sheet,
+    head: Head,
+    pens: &[u8],
+    writers: &mut [u8],
+    lost: &mut [u8],
+    out: &mut [u8],
+) -> Called
+    requires { ⌜ (length (now pens) ≡ 65536) × (length (now writers) ≡ 5120) × (length (now lost) ≡ 4096) × (length (now out) ≡ 4096)
+        × (32 ≤ s .code) × (s .code ≤ 40) ⌝ }
+    ensures { λ r. ⌜ leftOf r (now (pens .entry)) (now (writers .exit)) (now (lost .exit)) (now (out .exit))
+        ≡ coded 128 (callOfCode (s .code)) s (lentOf head (now (pens .entry)) (now (writers .entry)) (now (lost .entry)) (now (out .entry))) ⌝ }
+{
+    lent_state::refused(3, head)
+}
+
+// Codes 48 to 51: the joined calls.
+fn joined(
+    s: Sheet,
+    head: Head,
+    pens: &mut [u8],
+    writers: &mut [u8],
+    lost: &mut [u8],
+    out: &mut [u8],
+) -> Called
+    requires { ⌜ (length (now pens) ≡ 65536) × (length (now writers) ≡ 5120) × (length (now lost) ≡ 4096) × (length (now out) ≡ 4096)
+        × (48 ≤ s .code) × (s .code ≤ 51) ⌝ }
+    ensures { λ r. ⌜ leftOf r (now (pens .exit)) (now (writers .exit)) (now (lost .exit)) (now (out .exit))
+        ≡ coded 128 (callOfCode (s .code)) s (lentOf head (now (pens .entry)) (now (writers .entry)) (now (lost .entry)) (now (out .entry))) ⌝ }
+{
+    lent_state::refused(3, head)
+}
+
+// A call on buffers of their lengths, by its code; there are no codes but those.
+fn coded(
+    s: Sheet,
+    head: Head,
+    pens: &mut [u8],
+    writers: &mut [u8],
+    lost: &mut [u8],
+    out: &mut [u8],
+) -> Called
+    requires { ⌜ (length (now pens) ≡ 65536) × (length (now writers) ≡ 5120) × (length (now lost) ≡ 4096) × (length (now out) ≡ 4096) ⌝ }
+    ensures { λ r. ⌜ leftOf r (now (pens .exit)) (now (writers .exit)) (now (lost .exit)) (now (out .exit))
+        ≡ coded 128 (callOfCode (s .code)) s (lentOf head (now (pens .entry)) (now (writers .entry)) (now (lost .entry)) (now (out .entry))) ⌝ }
+{
+    let code = s.code;
+    match code {
+        1..=21 => instances(s, head, pens, writers, lost, out),
+        32..=40 => tracker(s, head, pens, writers, lost, out),
+        48..=51 => joined(s, head, pens, writers, lost, out),
+        _ => lent_state::refused(2, head),
     }
+}
+
+// A call: the sheet says which, the head and the buffers are the state that it is made on.
+pub fn call(
+    head: Head,
+    sheet: &[u8],
+    pens: &mut [u8],
+    writers: &mut [u8],
+    lost: &mut [u8],
+    out: &mut [u8],
+) -> Called
+    ensures { λ r. ⌜ leftOf r (now (pens .exit)) (now (writers .exit)) (now (lost .exit)) (now (out .exit))
+        ≡ callOf (now (sheet .entry)) (lentOf head (now (pens .entry)) (now (writers .entry)) (now (lost .entry)) (now (out .entry))) ⌝ }
+{
+    if sheet.len() != 256 {
+        return lent_state::refused(1, head);
+    }
+    if !room_ok(pens.len(), writers.len(), lost.len()) {
+        return lent_state::refused(1, head);
+    }
+    if out.len() != 4096 {
+        return lent_state::refused(1, head);
+    }
+    let s = call_sheet::read_sheet(sheet);
+    coded(s, head, pens, writers, lost, out)
 }
 
 // ---- the fresh state
@@ -83,12 +169,12 @@ pub fn fresh(pens: &mut [u8], writers: &mut [u8], lost: &mut [u8]) -> Called
 {
     let head = fresh_head();
     if !room_ok(pens.len(), writers.len(), lost.len()) {
-        return refused(1, head);
+        return lent_state::refused(1, head);
     }
     octets::clear(pens, 0, 65536);
     octets::clear(writers, 0, 5120);
     octets::clear(lost, 0, 4096);
-    refused(0, head)
+    lent_state::refused(0, head)
 }
 
 // ---- the reads

@@ -1,0 +1,118 @@
+-- `coded` meets its contract: each range is sent to its call, and a code of none is refused as 2. Assumes nothing.
+use mathlib.Core.Logic.{⊎-elim}
+use mathlib.Core.Option.{none}
+use mathlib.Core.Path.{_≡_, _∙_}
+use native.Mathlib.Omega.{arith}
+use borrow.Author.Needs.{needs}
+use Rattle.model.specs.Call.{lentOf}
+use Rattle.model.specs.Calls.{callOfCode}
+use Rattle.call_codes.proofs.Codes.{unknown}
+use Rattle.call_laws.proofs.Chain.{coded-2}
+use Rattle.dcps.proofs.Coding.{refused-left}
+use Rattle.dcps.proofs.coded.Statement.{statement}
+use Rattle.dcps.proofs.coded.Tie as tie
+
+instances-requires : tie.Need-instances-requires
+instances-requires c κs =
+    let a = c .before .before .before .before .before .before .before .before .before .before in
+    (a .pre .0, a .pre .1, a .pre .2, a .pre .3, omega (arith, c .before .before .before .before .before .if1 .left), omega (arith, c .before .before .before .before .if2 .taken))
+
+tracker-requires : tie.Need-tracker-requires
+tracker-requires c κs =
+    let a = c .before .before .before .before .before .before .before .before .before .before .before .before in
+    (a .pre .0, a .pre .1, a .pre .2, a .pre .3, omega (arith, c .before .before .before .before .before .if3 .left), omega (arith, c .before .before .before .before .if4 .taken))
+
+joined-requires : tie.Need-joined-requires
+joined-requires c κs =
+    let a = c .before .before .before .before .before .before .before .before .before .before .before .before .before .before in
+    (a .pre .0, a .pre .1, a .pre .2, a .pre .3, omega (arith, c .before .before .before .before .before .if5 .left), omega (arith, c .before .before .before .before .if6 .taken))
+
+refused-requires : tie.Need-refused-requires
+refused-requires c κs = search needs
+
+same-length : tie.Need-same-length
+same-length c = search needs
+
+same-length-2 : tie.Need-same-length-2
+same-length-2 c = search needs
+
+same-length-3 : tie.Need-same-length-3
+same-length-3 c = search needs
+
+same-length-4 : tie.Need-same-length-4
+same-length-4 c = search needs
+
+returns : tie.Need-returns
+returns c = c .before .before .before .before .instances .ensures
+
+same-length-5 : tie.Need-same-length-5
+same-length-5 c = search needs
+
+same-length-6 : tie.Need-same-length-6
+same-length-6 c = search needs
+
+same-length-7 : tie.Need-same-length-7
+same-length-7 c = search needs
+
+same-length-8 : tie.Need-same-length-8
+same-length-8 c = search needs
+
+returns-2 : tie.Need-returns-2
+returns-2 c = c .before .before .before .before .before .before .tracker .ensures
+
+same-length-9 : tie.Need-same-length-9
+same-length-9 c = search needs
+
+same-length-10 : tie.Need-same-length-10
+same-length-10 c = search needs
+
+same-length-11 : tie.Need-same-length-11
+same-length-11 c = search needs
+
+same-length-12 : tie.Need-same-length-12
+same-length-12 c = search needs
+
+returns-3 : tie.Need-returns-3
+returns-3 c = c .before .before .before .before .before .before .before .before .joined .ensures
+
+returns-4 : tie.Need-returns-4
+returns-4 c =
+    let a = c .before .before .before .before .before .before .args in
+    let n = a .s .code in
+    let l = lentOf (a .head) (a .pens .now) (a .writers .now) (a .lost .now) (a .out .now) in
+    let none-such : callOfCode n ≡ none =
+    ⊎-elim (λ low. unknown n (λ i j. absurd (omega (arith, low .taken))) (λ i j. absurd (omega (arith, low .taken))) (λ i j. absurd (omega (arith, low .taken))))
+    (λ rest. ⊎-elim
+      (λ gap. unknown n (λ i j. absurd (omega (arith, gap .1 .left))) (λ i j. absurd (omega (arith, gap .2 .taken))) (λ i j. absurd (omega (arith, gap .2 .taken))))
+      (λ more. ⊎-elim
+        (λ gap. unknown n (λ i j. absurd (omega (arith, gap .1 .left))) (λ i j. absurd (omega (arith, gap .3 .left))) (λ i j. absurd (omega (arith, gap .4 .taken))))
+        (λ high. unknown n (λ i j. absurd (omega (arith, high .5 .left))) (λ i j. absurd (omega (arith, high .5 .left))) (λ i j. absurd (omega (arith, high .5 .left))))
+        more)
+      rest)
+    (c .before .if1 .came) in
+    refused-left 2 _ (a .head) (a .pens .now) (a .writers .now) (a .lost .now) (a .out .now) (c .refused .ensures) ∙ coded-2 128 (a .s) l none-such
+
+pub coded-spec : {M : Type 1} → statement M
+coded-spec =
+    tie.close
+    (tie.spec
+    instances-requires
+    tracker-requires
+    joined-requires
+    refused-requires
+    same-length
+    same-length-2
+    same-length-3
+    same-length-4
+    returns
+    same-length-5
+    same-length-6
+    same-length-7
+    same-length-8
+    returns-2
+    same-length-9
+    same-length-10
+    same-length-11
+    same-length-12
+    returns-3
+    returns-4)
