@@ -14,7 +14,7 @@ ghost use mathlib.Core.Path.{_≡_};
 ghost use Prim.Native.Nat.{ℕ};
 ghost use lib.ListN.{length};
 ghost use Rattle.model.specs.Calls.{tracker};
-ghost use Rattle.model.specs.Refusals.{sheetRefusal};
+ghost use Rattle.model.specs.Refusals.{acknowledgeOk, sheetRefusal};
 ghost use Rattle.model.specs.WellFormed.{headOk, lostOk};
 ghost use Rattle.liveliness_turns.specs.Held.{Held, heldBy};
 ghost use Rattle.call_laws.specs.Entered.{TrackerJudged};
@@ -22,6 +22,7 @@ ghost use Rattle.call_laws.specs.Entered.{TrackerJudged};
 // Whether both counts can take what is acknowledged of them; no other call takes any.
 fn acknowledge_ok(c: TrackerCall, s: Sheet, head: Head) -> bool
     requires { ⌜ headOk head ≡ true ⌝ }
+    ensures { λ r. ⌜ ((pens writers lost : List ℕ) → r ≡ acknowledgeOk (tracker c) s (heldBy head pens writers lost)) ⌝ }
 {
     match c {
         TrackerCall::Matched => true,
@@ -53,8 +54,8 @@ fn tracker_refusal(c: TrackerCall, s: Sheet, head: Head) -> u8
     0
 }
 
-// A call on writers.
-pub fn tracker_turn(
+// A call on writers whose sheet meets no refusal.
+fn turn(
     c: TrackerCall,
     s: Sheet,
     head: Head,
@@ -62,13 +63,10 @@ pub fn tracker_turn(
     lost: &mut [u8],
     out: &mut [u8],
 ) -> Called
-    requires { ⌜ Held head (now writers) × (length (now lost) ≡ 4096) × (lostOk (head .«lost_count») (now lost) ≡ true) × (length (now out) ≡ 4096) ⌝ }
+    requires { ⌜ Held head (now writers) × (length (now lost) ≡ 4096) × (lostOk (head .«lost_count») (now lost) ≡ true) × (length (now out) ≡ 4096)
+        × ((pens writers lost : List ℕ) → 0 ≡ sheetRefusal (tracker c) s (heldBy head pens writers lost)) ⌝ }
     ensures { λ r. ⌜ TrackerJudged c s head (now (writers .entry)) (now (lost .entry)) (now (out .entry)) r (now (writers .exit)) (now (lost .exit)) (now (out .exit)) ⌝ }
 {
-    let number = tracker_refusal(c, s, head);
-    if number != 0 {
-        return lent_state::refused(number, head);
-    }
     match c {
         TrackerCall::Matched => liveliness_tracker::matched(s, head, writers),
         TrackerCall::Unmatched => liveliness_tracker::unmatched(s, head, writers),
@@ -88,4 +86,23 @@ pub fn tracker_turn(
         TrackerCall::TakeStatus => liveliness_status::take_status(s, head),
         TrackerCall::Acknowledge => liveliness_status::acknowledge(s, head),
     }
+}
+
+// A call on writers.
+pub fn tracker_turn(
+    c: TrackerCall,
+    s: Sheet,
+    head: Head,
+    writers: &mut [u8],
+    lost: &mut [u8],
+    out: &mut [u8],
+) -> Called
+    requires { ⌜ Held head (now writers) × (length (now lost) ≡ 4096) × (lostOk (head .«lost_count») (now lost) ≡ true) × (length (now out) ≡ 4096) ⌝ }
+    ensures { λ r. ⌜ TrackerJudged c s head (now (writers .entry)) (now (lost .entry)) (now (out .entry)) r (now (writers .exit)) (now (lost .exit)) (now (out .exit)) ⌝ }
+{
+    let number = tracker_refusal(c, s, head);
+    if number != 0 {
+        return lent_state::refused(number, head);
+    }
+    turn(c, s, head, writers, lost, out)
 }
