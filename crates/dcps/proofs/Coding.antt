@@ -3,6 +3,7 @@
 --     refused-left      a refusal leaves what it was lent
 --     called-1, called-coded
 --                       refused as 1; else the call by its code
+--     parts             well-formedness, part by part
 -- Assumes nothing.
 use Prim.Native.Nat.{ℕ}
 use mathlib.Core.Bool.{Bool, true, false, _&&_}
@@ -18,7 +19,9 @@ use Rattle.model.specs.Call.{Left, coded, callOf, refuse, lentOf, leftOf}
 use Rattle.model.specs.Calls.{callOfCode}
 use Rattle.model.specs.Refusals.{lengthsOk}
 use Rattle.model.specs.Sheets.{sheetOf}
-use Rattle.model.specs.State.{Lent}
+use Rattle.model.specs.State.{Lent, writersIn}
+use Rattle.model.specs.WellFormed.{headOk, instanceTableOk, writerTableOk, lostOk, countsOk, wellFormed}
+use Rattle.model.proofs.RowLaws.{both}
 use Rattle.call_laws.specs.Heads.{called}
 use Rattle.call_laws.proofs.Chain.{call-1, call-coded}
 
@@ -51,3 +54,21 @@ pub called-coded : (sheet : List ℕ) (s : Sheet) (l : Lent) (x : Left) → s �
     x ≡ coded 128 (callOfCode (s .code)) s l → x ≡ callOf sheet l
 unfolding callOf
 called-coded sheet s l x e fits left = left ∙ ap (λ (z : Sheet). coded 128 (callOfCode (z .code)) z l) e ∙ call-coded 128 sheet l fits
+
+-- ---- well-formedness, part by part
+
+pub record Parts (places : ℕ) (l : Lent) : Type 0 where
+  pub head : headOk (l .head) ≡ true
+  pub pens : instanceTableOk places (l .head .«instance_count») (l .head .«next_handle» .0) (l .pens) ≡ true
+  pub writers : writerTableOk (l .head .«writer_count») (l .writers) ≡ true
+  pub lost : lostOk (l .head .«lost_count») (l .lost) ≡ true
+  pub counts : countsOk (l .head) (writersIn (l .head .«writer_count») (l .writers)) ≡ true
+
+pub parts : (places : ℕ) (l : Lent) → wellFormed places l ≡ true → Parts places l
+unfolding wellFormed
+parts places l e =
+    let p = both _ _ e in
+    let q = both _ _ (p .1) in
+    let r = both _ _ (q .1) in
+    let s = both _ _ (r .1) in
+    record { head = p .0; pens = q .0; writers = r .0; lost = s .0; counts = s .1 }
