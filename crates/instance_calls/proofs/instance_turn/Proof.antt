@@ -17,8 +17,8 @@ returns : tie.Need-returns
 returns c =
     let d = c .before .before in
     let a = d .before .before .before .args in
-    refused-judged (a .places) (a .c) (a .s) (a .head) (a .pens .now) (a .out .now) (d .instance-refusal .result) (d .instance-refusal .ensures) (c .before .if1 .taken)
-    (c .refused .result) (c .refused .ensures)
+    refused-judged (a .places) (a .c) (a .s) (a .head) (a .pens .now) (a .out .now) (d .instance-refusal .result) (d .instance-refusal .ensures)
+    (λ z. omega (arith, z, c .before .if1 .taken)) (c .refused .result) (c .refused .ensures)
 
 on-every-requires : tie.Need-on-every-requires
 on-every-requires c κs = search needs
