@@ -4,6 +4,7 @@
 --     called-1, called-coded
 --                       refused as 1; else the call by its code
 --     parts             well-formedness, part by part
+--     entered           what a call past 3 is lent
 -- Assumes nothing.
 use Prim.Native.Nat.{ℕ}
 use mathlib.Core.Bool.{Bool, true, false, _&&_}
@@ -11,6 +12,7 @@ use mathlib.Core.Path.{_≡_, refl, sym, ap, _∙_}
 use mathlib.Core.List.{List}
 use lib.Dec.{eqb}
 use lib.ListN.{length}
+use Rattle.octets.specs.Bounds.{Bytes}
 use Rattle.model.specs.declared.Called.{Called}
 use Rattle.model.specs.declared.Head.{Head}
 use Rattle.model.specs.declared.Sheet.{Sheet}
@@ -22,6 +24,7 @@ use Rattle.model.specs.Sheets.{sheetOf}
 use Rattle.model.specs.State.{Lent, writersIn}
 use Rattle.model.specs.WellFormed.{headOk, instanceTableOk, writerTableOk, lostOk, countsOk, wellFormed}
 use Rattle.model.proofs.RowLaws.{both}
+use Rattle.call_laws.specs.Entered.{Entered}
 use Rattle.call_laws.specs.Heads.{called}
 use Rattle.call_laws.proofs.Chain.{call-1, call-coded}
 
@@ -72,3 +75,10 @@ parts places l e =
     let r = both _ _ (q .1) in
     let s = both _ _ (r .1) in
     record { head = p .0; pens = q .0; writers = r .0; lost = s .0; counts = s .1 }
+
+-- ---- what a call past 3 is lent
+
+pub entered : (head : Head) (pens writers lost out : List ℕ) → length pens ≡ 65536 → length writers ≡ 5120 → length lost ≡ 4096 → length out ≡ 4096 →
+    Bytes pens → Bytes writers → Bytes lost → wellFormed 128 (lentOf head pens writers lost out) ≡ true → Entered 128 (lentOf head pens writers lost out)
+entered head pens writers lost out p w l o pb wb lb e =
+    record { pens = p; writers = w; lost = l; out = o; pensBytes = pb; writersBytes = wb; lostBytes = lb; formed = e }

@@ -58,10 +58,10 @@ fn instances(
     ensures { λ r. ⌜ leftOf r (now (pens .exit)) (now (writers .entry)) (now (lost .entry)) (now (out .exit))
         ≡ coded 128 (callOfCode (s .code)) s (lentOf head (now (pens .entry)) (now (writers .entry)) (now (lost .entry)) (now (out .entry))) ⌝ }
 {
+    let c = call_codes::instance_call(s.code);
     if !lent_state::state_ok(head, pens, writers, lost, 128) {
         return lent_state::refused(3, head);
     }
-    let c = call_codes::instance_call(s.code);
     instance_calls::instance_turn(c, s, head, pens, out, 128)
 }
 
@@ -79,10 +79,10 @@ fn tracker(
     ensures { λ r. ⌜ leftOf r (now (pens .entry)) (now (writers .exit)) (now (lost .exit)) (now (out .exit))
         ≡ coded 128 (callOfCode (s .code)) s (lentOf head (now (pens .entry)) (now (writers .entry)) (now (lost .entry)) (now (out .entry))) ⌝ }
 {
+    let c = call_codes::tracker_call(s.code);
     if !lent_state::state_ok(head, pens, writers, lost, 128) {
         return lent_state::refused(3, head);
     }
-    let c = call_codes::tracker_call(s.code);
     tracker_calls::tracker_turn(c, s, head, writers, lost, out)
 }
 
