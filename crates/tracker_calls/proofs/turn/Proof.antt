@@ -52,7 +52,7 @@ enum-told-7 : tie.Need-enum-told-7
 enum-told-7 c = search needs
 
 take-lost-requires : tie.Need-take-lost-requires
-take-lost-requires c κs = let x = c .before .before .before .before .before .before .before in (x .pre .1, x .pre .2, x .pre .3)
+take-lost-requires c κs = search needs
 
 enum-told-8 : tie.Need-enum-told-8
 enum-told-8 c = search needs
