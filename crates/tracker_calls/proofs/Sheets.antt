@@ -2,9 +2,8 @@
 --     tracker-5, tracker-7, tracker-8, tracker-none     the links of the chain that such a call has
 --     clocks-fine, acknowledges-fine                    what a sheet that meets no refusal has
 -- Assumes nothing.
-use Prim.Native.Nat.{ℕ, _≤_}
+use Prim.Native.Nat.{ℕ}
 use mathlib.Core.Bool.{Bool, true, false, not, cond}
-use mathlib.Core.List.{List}
 use mathlib.Core.Path.{_≡_, refl}
 use native.Mathlib.Omega.{arith}
 use Rattle.model.specs.declared.Sheet.{Sheet}

@@ -1,5 +1,6 @@
 // Codes 32 to 40 on head and buffers, past refusals 1 to 3: what the sheet decides, then the call on the writers.
-// Rests on call_sheet, liveliness_tracker, liveliness_expiry, liveliness_status, lent_state and call_laws.
+// Rests on call_sheet, liveliness_tracker, liveliness_expiry, liveliness_status and lent_state, and on the laws of call_laws
+// and call_codes.
 //
 // Derives from liveliness_tracker.rs of ZeroDDS (DDS 1.4, 2.2.3.11 and 2.2.4.1).
 // Copyright 2026 ZeroDDS Contributors. SPDX-License-Identifier: Apache-2.0. Changed: written anew in Rattle, with the state

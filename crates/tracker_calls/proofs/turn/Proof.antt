@@ -22,31 +22,31 @@ enum-told-2 : tie.Need-enum-told-2
 enum-told-2 c = search needs
 
 unmatched-requires : tie.Need-unmatched-requires
-unmatched-requires c κs = search needs
+unmatched-requires c κs = c .before .before .before .before .before .before .pre .0
 
 enum-told-3 : tie.Need-enum-told-3
 enum-told-3 c = search needs
 
 lost-with-participant-requires : tie.Need-lost-with-participant-requires
-lost-with-participant-requires c κs = search needs
+lost-with-participant-requires c κs = c .before .before .before .before .before .before .pre .0
 
 enum-told-4 : tie.Need-enum-told-4
 enum-told-4 c = search needs
 
 writer-asserted-requires : tie.Need-writer-asserted-requires
-writer-asserted-requires c κs = search needs
+writer-asserted-requires c κs = c .before .before .before .before .before .before .pre .0
 
 enum-told-5 : tie.Need-enum-told-5
 enum-told-5 c = search needs
 
 participant-asserted-requires : tie.Need-participant-asserted-requires
-participant-asserted-requires c κs = search needs
+participant-asserted-requires c κs = c .before .before .before .before .before .before .pre .0
 
 enum-told-6 : tie.Need-enum-told-6
 enum-told-6 c = search needs
 
 expire-requires : tie.Need-expire-requires
-expire-requires c κs = search needs
+expire-requires c κs = let x = c .before .before .before .before .before .before .before in (x .pre .0, x .pre .1, x .pre .2)
 
 enum-told-7 : tie.Need-enum-told-7
 enum-told-7 c = search needs
