@@ -1,30 +1,22 @@
-// Replays the recorded lists (docs/LISTS.md) of instance calls alone and of liveliness calls alone from standard input
-// against the port: a line for each disagreement, then how many calls there were and how many disagreed. What it prints is
-// compared with the file `stdout`.
+// Replays the recorded lists (docs/LISTS.md) from standard input against the entry: a line for each disagreement, then how
+// many calls there were and how many disagreed. What it prints is compared with the file `stdout`.
 use libc::STDIN_FILENO;
 use libc::STDOUT_FILENO;
 use model::Answer;
 use model::Called;
 use model::Head;
-use model::InstanceCall;
 use model::InstanceHandle;
 use model::InstanceStateKind;
 use model::LastWriter;
-use model::Sheet;
-ghost use mathlib.Core.Bool.{true};
 ghost use mathlib.Core.Path.{_≡_};
-ghost use Prim.Native.Nat.{_≤_, _*_};
+ghost use Prim.Native.Nat.{_≤_};
 ghost use lib.ListN.{length};
-ghost use Rattle.model.specs.WellFormed.{instanceTableOk, lostOk};
-ghost use Rattle.instance_pass.specs.Steps.{onEvery};
-ghost use Rattle.liveliness_turns.specs.Held.{Held};
 
 // How far the replay is.
 struct Progress {
     pub list: u64,
     pub calls: u64,
     pub wrong: u64,
-    pub taken: bool,
     pub over: bool,
     pub ended: bool,
     pub head: Head,
@@ -54,7 +46,6 @@ fn run(
         list: 0,
         calls: 0,
         wrong: 0,
-        taken: false,
         over: false,
         ended: false,
         head: fresh_head(),
@@ -464,254 +455,7 @@ fn answers(p: Progress, body: &[u8], called: Called) -> Progress {
     q
 }
 
-// ---- the calls, as the entry will join them
-
-// A refusal: its number alone, and the head as it was.
-fn refused(number: u8, head: Head) -> Called {
-    let a = answers::refused_with(number);
-    Called {
-        answer: a,
-        head: head,
-    }
-}
-
-// What a call on the instances leaves.
-fn settled(answer: Answer, head: Head, count: u32, next: InstanceHandle) -> Called {
-    let mut h = head;
-    h.instance_count = count;
-    h.next_handle = next;
-    Called {
-        answer: answer,
-        head: h,
-    }
-}
-
-// Whether a call is one on every instance.
-fn on_every(c: InstanceCall) -> bool
-    ensures { λ r. ⌜ r ≡ onEvery c ⌝ }
-{
-    match c {
-        InstanceCall::Register => false,
-        InstanceCall::EnsureRegisteredLimited => false,
-        InstanceCall::Dispose => false,
-        InstanceCall::Unregister => false,
-        InstanceCall::UnregisterWriter => false,
-        InstanceCall::NoteWriter => false,
-        InstanceCall::DropWriter => true,
-        InstanceCall::ObserveLifecycle => false,
-        InstanceCall::ObserveAdmitted => false,
-        InstanceCall::NoteAdmitted => false,
-        InstanceCall::RecordDelivery => false,
-        InstanceCall::NoteTaken => false,
-        InstanceCall::MarkViewSeen => false,
-        InstanceCall::MarkViewNew => false,
-        InstanceCall::DrainSamples => false,
-        InstanceCall::AcceptUnderExclusiveOwnership => false,
-        InstanceCall::UpdateOwnerStrength => true,
-        InstanceCall::ClearOwnerForWriter => true,
-        InstanceCall::ClearOwnerForWriterPrefix => true,
-        InstanceCall::ReleaseOwnerOf => false,
-        InstanceCall::Autopurge => true,
-    }
-}
-
-// A call on the instances.
-fn instance_turn(c: InstanceCall, s: Sheet, head: Head, pens: &mut [u8], out: &mut [u8]) -> Called
-    requires { ⌜ (length (now pens) ≡ 65536) × (length (now out) ≡ 4096) × (instanceTableOk 128 (head .«instance_count») (head .«next_handle» .0) (now pens) ≡ true) ⌝ }
-{
-    let number = call_sheet::instance_refusal(c, s);
-    if number != 0 {
-        return refused(number, head);
-    }
-    let count = head.instance_count;
-    let next = head.next_handle;
-    if on_every(c) {
-        let r = instance_pass::every_call(c, s, pens, out, 128, count, next);
-        let a = r.answer;
-        let n = r.next_handle;
-        return settled(a, head, r.count, n);
-    }
-    let r = instance_tracker::single_call(c, s, pens, 128, count, next);
-    let a = r.answer;
-    let n = r.next_handle;
-    settled(a, head, r.count, n)
-}
-
-// Code 32.
-fn match_turn(s: Sheet, head: Head, writers: &mut [u8]) -> Called
-    requires { ⌜ Held head (now writers) ⌝ }
-{
-    if !call_sheet::lease_ok(s) {
-        return refused(5, head);
-    }
-    if s.kind == 3 {
-        return refused(7, head);
-    }
-    liveliness_tracker::matched(s, head, writers)
-}
-
-// Codes 33 to 36.
-fn writers_turn(code: u8, s: Sheet, head: Head, writers: &mut [u8]) -> Called
-    requires { ⌜ Held head (now writers) ⌝ }
-{
-    if code == 33 {
-        return liveliness_tracker::unmatched(s, head, writers);
-    }
-    if code == 34 {
-        return liveliness_tracker::lost_with_participant(s, head, writers);
-    }
-    if !call_sheet::clock_ok(s.a) {
-        return refused(5, head);
-    }
-    if code == 35 {
-        return liveliness_tracker::writer_asserted(s, head, writers);
-    }
-    liveliness_tracker::participant_asserted(s, head, writers)
-}
-
-// Code 37.
-fn expire_turn(s: Sheet, head: Head, writers: &mut [u8], lost: &mut [u8]) -> Called
-    requires { ⌜ Held head (now writers) × (length (now lost) ≡ 4096) × (lostOk (head .«lost_count») (now lost) ≡ true) ⌝ }
-{
-    if !call_sheet::clock_ok(s.a) {
-        return refused(5, head);
-    }
-    liveliness_expiry::expire(s, head, writers, lost)
-}
-
-// Code 40.
-fn acknowledge_turn(s: Sheet, head: Head, writers: &[u8]) -> Called
-    requires { ⌜ Held head (now writers) ⌝ }
-{
-    if !liveliness_status::acknowledge_ok(s, head) {
-        return refused(8, head);
-    }
-    liveliness_status::acknowledge(s, head)
-}
-
-// A call on the writers.
-fn tracker_turn(
-    code: u8,
-    s: Sheet,
-    head: Head,
-    writers: &mut [u8],
-    lost: &mut [u8],
-    out: &mut [u8],
-) -> Called
-    requires { ⌜ Held head (now writers) × (length (now lost) ≡ 4096) × (lostOk (head .«lost_count») (now lost) ≡ true) × (length (now out) ≡ 4096) ⌝ }
-{
-    match code {
-        32 => match_turn(s, head, writers),
-        37 => expire_turn(s, head, writers, lost),
-        38 => liveliness_expiry::take_lost(s, head, lost, out),
-        39 => liveliness_status::take_status(s, head),
-        40 => acknowledge_turn(s, head, writers),
-        _ => writers_turn(code, s, head, writers),
-    }
-}
-
-// Whether head and writers are well formed.
-fn writers_formed(head: Head, writers: &[u8]) -> bool
-    requires { ⌜ length (now writers) ≡ 5120 ⌝ }
-    ensures { λ r. ⌜ (r ≡ true → Held head (now (writers .entry))) ⌝ }
-{
-    if !tracker_state::head_ok(head) {
-        return false;
-    }
-    let n = head.writer_count as usize;
-    if !tracker_state::writers_ok(writers, n) {
-        return false;
-    }
-    tracker_state::counts_ok(head, writers, n)
-}
-
-// A call of a known code, on buffers of the right lengths.
-fn known_turn(
-    code: u8,
-    s: Sheet,
-    head: Head,
-    pens: &mut [u8],
-    writers: &mut [u8],
-    lost: &mut [u8],
-    out: &mut [u8],
-) -> Called
-    requires { ⌜ (1 ≤ code) × (length (now pens) ≡ 65536) × (length (now writers) ≡ 5120) × (length (now lost) ≡ 4096) × (length (now out) ≡ 4096) ⌝ }
-{
-    let next = head.next_handle;
-    if !instance_table::table_ok(pens, 128, head.instance_count as usize, next.0) {
-        return refused(3, head);
-    }
-    if !writers_formed(head, writers) {
-        return refused(3, head);
-    }
-    if !tracker_state::lost_ok(lost, head.lost_count as usize) {
-        return refused(3, head);
-    }
-    if code <= 21 {
-        return instance_turn(call_codes::instance_call(code), s, head, pens, out);
-    }
-    tracker_turn(code, s, head, writers, lost, out)
-}
-
-// Whether a code is one of the calls on instances or on writers.
-fn known(code: u8) -> bool {
-    if code <= 21 {
-        return true;
-    }
-    if code < 32 {
-        return false;
-    }
-    code <= 40
-}
-
-// A call on buffers of the right lengths: code, then the rest.
-fn coded_turn(
-    head: Head,
-    sheet: &[u8],
-    pens: &mut [u8],
-    writers: &mut [u8],
-    lost: &mut [u8],
-    out: &mut [u8],
-) -> Called
-    requires { ⌜ (length (now sheet) ≡ 256) × (length (now pens) ≡ 65536) × (length (now writers) ≡ 5120) × (length (now lost) ≡ 4096) × (length (now out) ≡ 4096) ⌝ }
-{
-    let s = call_sheet::read_sheet(sheet);
-    let code = s.code;
-    if code < 1 {
-        return refused(2, head);
-    }
-    if !known(code) {
-        return refused(2, head);
-    }
-    known_turn(code, s, head, pens, writers, lost, out)
-}
-
-// A call: lengths, code, then the rest.
-fn turn(
-    head: Head,
-    sheet: &[u8],
-    pens: &mut [u8],
-    writers: &mut [u8],
-    lost: &mut [u8],
-    out: &mut [u8],
-) -> Called {
-    if sheet.len() != 256 {
-        return refused(1, head);
-    }
-    if pens.len() != 65536 {
-        return refused(1, head);
-    }
-    if writers.len() != 5120 {
-        return refused(1, head);
-    }
-    if lost.len() != 4096 {
-        return refused(1, head);
-    }
-    if out.len() != 4096 {
-        return refused(1, head);
-    }
-    coded_turn(head, sheet, pens, writers, lost, out)
-}
+// ---- the calls
 
 // A call on the fronts of the buffers.
 fn lent_turn(
@@ -729,7 +473,7 @@ fn lent_turn(
     let b = n.writers;
     let c = n.lost;
     let d = n.out;
-    turn(
+    dcps::call(
         head,
         sheet,
         &mut pens[..a],
@@ -830,10 +574,6 @@ fn begin(
     if 4 <= body.len() {
         q.list = octets::get_u32(body, 0) as u64;
     }
-    q.taken = false;
-    if 5 <= body.len() {
-        q.taken = body[4] == 1 || body[4] == 2;
-    }
     octets::clear(pens, 0, pens.len());
     octets::clear(writers, 0, writers.len());
     octets::clear(lost, 0, lost.len());
@@ -883,9 +623,6 @@ fn record(
 ) -> Progress
     requires { ⌜ (length (now pens) ≡ 66048) × (length (now writers) ≡ 5160) × (length (now lost) ≡ 4112) × (length (now out) ≡ 4112) ⌝ }
 {
-    if 3 <= kind && kind <= 6 && !p.taken {
-        return p;
-    }
     match kind {
         1 => p,
         2 => begin(p, body, pens, writers, lost),
