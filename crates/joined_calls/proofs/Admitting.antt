@@ -1,36 +1,24 @@
 -- Code 48 on head and buffers.
---     sheet-refused     a sheet that is refused, for any joined call
---     admit-left        what the call on the table leaves is, in head and buffers, what model says
+--     admit-left     what the call on the table leaves is, in head and buffers, what model says
 -- Assumes nothing.
 use Prim.Native.Nat.{ℕ}
-use mathlib.Core.List.{List, []}
-use mathlib.Core.Path.{_≡_, refl, sym, ap, _∙_}
+use mathlib.Core.List.{List}
+use mathlib.Core.Path.{_≡_, sym, ap, _∙_}
 use Rattle.model.specs.declared.Called.{Called}
 use Rattle.model.specs.declared.Head.{Head}
-use Rattle.model.specs.declared.JoinedCall.{JoinedCall}
 use Rattle.model.specs.declared.JoinedCall.the-variants.{Admit}
 use Rattle.model.specs.declared.Sheet.{Sheet}
-use Rattle.model.specs.Answers.{refusedWith}
-use Rattle.model.specs.Call.{listIn, judged, lentOf, leftOf}
+use Rattle.model.specs.Call.{listIn, lentOf, leftOf}
 use Rattle.model.specs.Calls.{joined}
 use Rattle.model.specs.Joined.{admitCall}
 use Rattle.model.specs.Refusals.{sheetRefusal}
 use Rattle.model.specs.State.{Lent, State, stateOf, instancesIn}
 use Rattle.instance_tracker.specs.declared.TableCall.{TableCall}
 use Rattle.instance_tracker.specs.Turned.{Left, stateWith}
-use Rattle.call_laws.specs.Entered.{Entered}
 use Rattle.call_laws.specs.Heads.{called, headWith}
-use Rattle.call_laws.proofs.Chain.{judged-refuses}
 use Rattle.call_laws.proofs.Graft.{tableOf, admit-graft}
 use Rattle.call_laws.proofs.InstanceRange.{admit-outcome, range-left}
 use Rattle.joined_calls.specs.Losses.{AdmitJudged}
-
-pub sheet-refused : (k : JoinedCall) (s : Sheet) (head : Head) (n : ℕ) (r : Called) → ((st : State) → n ≡ sheetRefusal (joined k) s st) → (n ≡ 0 → ⊥) →
-    r ≡ called (refusedWith n) head → (places : ℕ) (pens writers lost out : List ℕ) →
-    leftOf r pens writers lost out ≡ judged places (joined k) s (lentOf head pens writers lost out)
-sheet-refused k s head n r e some er places pens writers lost out =
-    ap (λ (x : Called). leftOf x pens writers lost out) er
-    ∙ judged-refuses places (joined k) s (lentOf head pens writers lost out) n (e (stateOf (lentOf head pens writers lost out))) some
 
 pub admit-left : (places : ℕ) (s : Sheet) (head : Head) (pens pens′ : List ℕ) (t : TableCall) (r : Called) → ((st : State) → 0 ≡ sheetRefusal (joined Admit) s st) →
     Left places (admitCall places s (stateWith (instancesIn (head .«instance_count») pens) (head .«next_handle» .0))) t pens′ →

@@ -4,15 +4,14 @@
 --     expired-gone      the part of Lost that an expiry added
 -- Assumes nothing.
 use Prim.Native.Nat.{ℕ, _-_, _*_, _/_}
-use mathlib.Core.Bool.{Bool, true, false}
+use mathlib.Core.Bool.{Bool}
 use mathlib.Core.List.{List, [], _∷_, _++_, map, append-nil}
-use mathlib.Core.Path.{_≡_, refl, sym, ap, _∙_}
-use native.Mathlib.Nat.{add-mul}
+use mathlib.Core.Path.{_≡_, sym, ap, _∙_}
 use native.Mathlib.Omega.{arith}
 use lib.ListN.{length, take, drop, replicate, length-append}
 use lib.Seq.{take-at, drop-at}
 use Rattle.octets.specs.Bounds.{Bytes}
-use Rattle.octets.specs.Lay.{rows, lay, All, lay-append}
+use Rattle.octets.specs.Lay.{rows, All, lay-append}
 use Rattle.octets.specs.Octets.{put}
 use Rattle.model.specs.declared.Guid.{Guid}
 use Rattle.model.specs.declared.Sheet.{Sheet}

@@ -1,11 +1,10 @@
 -- A call on the tracker, then the loss of writers: from what the code returns and leaves to the call on bytes.
---     parts, entered-held, entered-losable     what past refusals 1 to 3 the calls below ask for
---     loss-few, loss-passed             the bounds of its tally; what it leaves
---     count-kept                        a call on the tracker keeps the instance count
---     late-number                       the number of its answer is that of its late refusal
---     loss-left                         the joined call where the tracker's is accepted
---     loss-stays                        where it is refused, nothing is changed
---     leave-left                        the joined call of codes 50 and 51
+--     loss-few, loss-passed         the bounds of a pass's tally; what the pass leaves
+--     late-number, turn-taken       the tracker's call and its late refusal
+--     count-kept, kept-losable      it keeps the instance count, so that the pass may run after it
+--     loss-left                     the joined call where the tracker's is accepted
+--     loss-stays                    where it is refused, nothing is changed
+--     leave-left                    codes 50 and 51
 -- Assumes nothing.
 use Prim.Native.Nat.{ℕ, zero, suc, _≤_}
 use mathlib.Core.Bool.{Bool, true, false, cond}
@@ -31,54 +30,26 @@ use Rattle.model.specs.InstanceCalls.{Turned, refused, unchanged, withInstances
 use Rattle.model.specs.InstanceRecord.{instanceOf}
 use Rattle.model.specs.Joined.{clearingsIn, loses, leftWriterless, afterLoss, lossCall, joinedCall}
 use Rattle.model.specs.Refusals.{sheetRefusal}
-use Rattle.model.specs.State.{Lent, State, freshState, stateOf, headOf, layOut, lostOf, instancesIn, writersIn}
+use Rattle.model.specs.State.{Lent, State, freshState, stateOf, headOf, layOut, lostOf, instancesIn}
 use Rattle.model.specs.Tables.{pick, sift}
 use Rattle.model.specs.Writers.{movers, lostAfter, trackerTold, trackerState, trackerTurn, trackerLate, trackerCall}
-use Rattle.model.specs.WellFormed.{headOk, instanceTableOk, writerTableOk, lostOk, countsOk, wellFormed}
-use Rattle.model.proofs.RowLaws.{both, length-read}
+use Rattle.model.proofs.RowLaws.{length-read}
 use Rattle.instance_table.specs.Laid.{Laid}
 use Rattle.instance_table.proofs.LaidOut.{table-formed, table-laid}
 use Rattle.instance_pass.specs.declared.Passing.the-variants.{Loss}
 use Rattle.instance_pass.specs.declared.Tally.{Tally}
 use Rattle.instance_pass.specs.Passes.{Passed}
 use Rattle.instance_pass.specs.Steps.{gonesIn}
-use Rattle.instance_pass.proofs.CallLaws.{ready-held, Few, passed-few, lost}
+use Rattle.instance_pass.proofs.CallLaws.{Few, passed-few, lost}
 use Rattle.instance_pass.proofs.StepLaws.{gones-few, counted-le}
-use Rattle.liveliness_turns.specs.Held.{Held, heldBy, Settles, Turns}
+use Rattle.liveliness_turns.specs.Held.{heldBy, Settles, Turns}
 use Rattle.liveliness_expiry.specs.Losing.{Leaves}
 use Rattle.liveliness_expiry.proofs.Expiring.{lost-laid}
 use Rattle.call_laws.specs.Entered.{Entered}
-use Rattle.call_laws.proofs.InstanceRange.{unpicked, lefts}
+use Rattle.call_laws.proofs.InstanceRange.{unpicked}
 use Rattle.call_laws.proofs.Whole.{loss-outcome, whole-range}
 use Rattle.joined_calls.specs.Losses.{Losable, Loses, lossTime, LeaveJudged}
-
--- ---- what is lent past refusals 1 to 3
-
--- well formed, part by part
-pub record Parts (places : ℕ) (l : Lent) : Type 0 where
-  pub head : headOk (l .head) ≡ true
-  pub pens : instanceTableOk places (l .head .«instance_count») (l .head .«next_handle» .0) (l .pens) ≡ true
-  pub writers : writerTableOk (l .head .«writer_count») (l .writers) ≡ true
-  pub lost : lostOk (l .head .«lost_count») (l .lost) ≡ true
-  pub counted : countsOk (l .head) (writersIn (l .head .«writer_count») (l .writers)) ≡ true
-
-module _ (places : ℕ) (l : Lent) (e : Entered places l) where
-  pub parts : Parts places l
-  unfolding wellFormed
-  parts =
-      let p = both _ _ (e .formed) in
-      let q = both _ _ (p .1) in
-      let r = both _ _ (q .1) in
-      let t = both _ _ (r .1) in
-      record { head = p .0; pens = q .0; writers = r .0; lost = t .0; counted = t .1 }
-
-  pub entered-held : Held (l .head) (l .writers)
-  entered-held = record { long = e .writers; headFormed = parts .head; table = parts .writers; counted = parts .counted }
-
-  pub entered-losable : places ≤ 128 → Losable (l .head .«instance_count») (l .pens) (l .out)
-  entered-losable few =
-      let h = ready-held places (l .head .«instance_count») (l .head .«next_handle» .0) (l .pens) record { few = few; size = e .pens; formed = parts .pens } in
-      record { few = h .few; room = h .room; wide = omega (arith, e .out); usable = h .usable }
+use Rattle.joined_calls.proofs.Entering.{parts}
 
 -- ---- the pass
 
@@ -137,10 +108,6 @@ module _ (c : TrackerCall) (s : Sheet) (st : State) where
   loss-refused : (gone : List Guid) (n : ℕ) → trackerLate c s st ≡ suc n → lossCall c gone s st ≡ refused (suc n) st
   unfolding lossCall
   loss-refused gone n e = rw e (unpicked n (afterLoss gone (lossTime s) (trackerTurn c s st)) (refused (suc n) st))
-
-pub held-same : (head : Head) (pens writers lost out : List ℕ) → heldBy head pens writers lost ≡ stateOf (lentOf head pens writers lost out)
-unfolding stateOf
-held-same head pens writers lost out = refl
 
 -- the instances are as many as they were
 module _ (c : TrackerCall) (s : Sheet) (l : Lent) (r : Called) (writers′ : List ℕ) (d : Settles (trackerCall c s (stateOf l)) r writers′) where

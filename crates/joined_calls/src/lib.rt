@@ -14,7 +14,7 @@ use model::Sheet;
 ghost use mathlib.Core.Bool.{true};
 ghost use mathlib.Core.List.{[], _∷_};
 ghost use mathlib.Core.Path.{_≡_};
-ghost use Prim.Native.Nat.{_*_, _≤_};
+ghost use Prim.Native.Nat.{_≤_};
 ghost use lib.ListN.{length};
 ghost use Rattle.model.specs.declared.JoinedCall.the-variants.{Part, Depart};
 ghost use Rattle.model.specs.Answers.{withList};
@@ -112,7 +112,14 @@ fn depart(s: Sheet, head: Head, pens: &mut [u8], writers: &mut [u8], out: &mut [
 }
 
 // Those that Lost holds behind the first `before` are lost.
-fn lose_expired(called: Called, s: Sheet, pens: &mut [u8], lost: &[u8], out: &mut [u8], before: u32) -> Called
+fn lose_expired(
+    called: Called,
+    s: Sheet,
+    pens: &mut [u8],
+    lost: &[u8],
+    out: &mut [u8],
+    before: u32,
+) -> Called
     requires { ⌜ Losable (called .head .«instance_count») (now pens) (now out) × (length (now lost) ≡ 4096) × (before ≤ called .head .«lost_count»)
         × (called .head .«lost_count» ≤ 256) ⌝ }
     ensures { λ r. ⌜ Loses s (goneSince before (called .head .«lost_count») (now (lost .entry))) (instancesIn (called .head .«instance_count») (now (pens .entry))) called (now (pens .entry)) (now (out .entry)) r (now (pens .exit)) (now (out .exit)) ⌝ }
@@ -124,7 +131,14 @@ fn lose_expired(called: Called, s: Sheet, pens: &mut [u8], lost: &[u8], out: &mu
 }
 
 // Code 49: the writers whose lease has run out are lost; those that expired in earlier calls are not.
-fn lapse(s: Sheet, head: Head, pens: &mut [u8], writers: &mut [u8], lost: &mut [u8], out: &mut [u8]) -> Called
+fn lapse(
+    s: Sheet,
+    head: Head,
+    pens: &mut [u8],
+    writers: &mut [u8],
+    lost: &mut [u8],
+    out: &mut [u8],
+) -> Called
     requires { ⌜ Held head (now writers) × Losable (head .«instance_count») (now pens) (now out) × (length (now lost) ≡ 4096)
         × (lostOk (head .«lost_count») (now lost) ≡ true) ⌝ }
     ensures { λ r. ⌜ LapseJudged s head (now (pens .entry)) (now (writers .entry)) (now (lost .entry)) (now (out .entry)) r (now (pens .exit)) (now (writers .exit)) (now (lost .exit)) (now (out .exit)) ⌝ }

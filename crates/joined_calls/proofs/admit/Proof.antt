@@ -1,7 +1,8 @@
 -- `joined_calls::admit` meets its contract. Assumes nothing.
 use mathlib.Core.Path.{sym, _∙_}
 use Rattle.model.specs.declared.JoinedCall.the-variants.{Admit}
-use Rattle.joined_calls.proofs.Admitting.{sheet-refused, admit-left}
+use Rattle.joined_calls.proofs.Admitting.{admit-left}
+use Rattle.joined_calls.proofs.Entering.{sheet-refused}
 use borrow.Author.Needs.{needs}
 use Rattle.joined_calls.proofs.admit.Statement.{statement}
 use Rattle.joined_calls.proofs.admit.Tie as tie

@@ -1,7 +1,7 @@
 -- `joined_calls::lapse` meets its contract. Assumes nothing.
 use mathlib.Core.Path.{sym, _∙_}
 use Rattle.model.specs.declared.JoinedCall.the-variants.{Lapse}
-use Rattle.joined_calls.proofs.Admitting.{sheet-refused}
+use Rattle.joined_calls.proofs.Entering.{sheet-refused}
 use Rattle.joined_calls.proofs.Lapsing.{lapse-counts, lapse-losable, lapse-left, lapse-stays}
 use borrow.Author.Needs.{needs}
 use Rattle.joined_calls.proofs.lapse.Statement.{statement}

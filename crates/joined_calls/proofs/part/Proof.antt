@@ -2,7 +2,7 @@
 use mathlib.Core.Path.{refl, sym, _∙_}
 use Rattle.model.specs.declared.JoinedCall.the-variants.{Part}
 use Rattle.model.specs.declared.TrackerCall.the-variants.{Unmatched}
-use Rattle.joined_calls.proofs.Admitting.{sheet-refused}
+use Rattle.joined_calls.proofs.Entering.{sheet-refused}
 use Rattle.joined_calls.proofs.Losing.{kept-losable, leave-left}
 use borrow.Author.Needs.{needs}
 use Rattle.joined_calls.proofs.part.Statement.{statement}
