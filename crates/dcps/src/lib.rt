@@ -100,7 +100,11 @@ fn joined(
     ensures { λ r. ⌜ leftOf r (now (pens .exit)) (now (writers .exit)) (now (lost .exit)) (now (out .exit))
         ≡ coded 128 (callOfCode (s .code)) s (lentOf head (now (pens .entry)) (now (writers .entry)) (now (lost .entry)) (now (out .entry))) ⌝ }
 {
-    lent_state::refused(3, head)
+    let c = call_codes::joined_call(s.code);
+    if !lent_state::state_ok(head, pens, writers, lost, 128) {
+        return lent_state::refused(3, head);
+    }
+    joined_calls::joined_turn(c, s, head, pens, writers, lost, out, 128)
 }
 
 // A call on buffers of their lengths, by its code; there are no codes but those.

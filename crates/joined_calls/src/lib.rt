@@ -8,37 +8,62 @@
 use instance_pass::Passing;
 use model::Answer;
 use model::Called;
-use model::Guid;
 use model::Head;
 use model::JoinedCall;
 use model::Sheet;
+ghost use mathlib.Core.Bool.{true};
+ghost use mathlib.Core.List.{[], _∷_};
 ghost use mathlib.Core.Path.{_≡_};
-ghost use Prim.Native.Nat.{_*_, _≤_};
+ghost use Prim.Native.Nat.{_≤_};
 ghost use lib.ListN.{length};
+ghost use Rattle.model.specs.declared.JoinedCall.the-variants.{Part, Depart};
+ghost use Rattle.model.specs.Answers.{withList};
 ghost use Rattle.model.specs.Call.{judged, lentOf, leftOf};
 ghost use Rattle.model.specs.Calls.{joined};
+ghost use Rattle.model.specs.State.{instancesIn};
+ghost use Rattle.model.specs.WellFormed.{lostOk};
+ghost use Rattle.instance_pass.specs.Steps.{gonesIn};
+ghost use Rattle.instance_tracker.specs.Turned.{Ready};
+ghost use Rattle.liveliness_turns.specs.Held.{Held};
 ghost use Rattle.call_laws.specs.Entered.{Entered};
+ghost use Rattle.joined_calls.specs.Losses.{Losable, Loses, goneSince, AdmitJudged, LeaveJudged, LapseJudged};
 
-// What follows is a sketch of the calls; each function gets the contract that the one above it needs.
+// ---- a sample admitted
 
-// The 16 bytes of a GUID.
-fn guid_bytes(g: Guid) -> [u8; 16] {
-    let mut b = [0u8; 16];
-    octets::put_u64(&mut b, 0, g.hi);
-    octets::put_u64(&mut b, 8, g.lo);
-    b
+// Code 48: what the sheet decides, then the call on the instances.
+fn admit(s: Sheet, head: Head, pens: &mut [u8], places: usize) -> Called
+    requires { ⌜ Ready places (head .«instance_count») (head .«next_handle» .0) (now pens) ⌝ }
+    ensures { λ r. ⌜ AdmitJudged places s head (now (pens .entry)) r (now (pens .exit)) ⌝ }
+{
+    let number = call_codes::admit_refusal(s);
+    if number != 0 {
+        return lent_state::refused(number, head);
+    }
+    let next = head.next_handle;
+    let r = admission::admit(s, pens, places, head.instance_count, next);
+    let a = r.answer;
+    let n = r.next_handle;
+    lent_state::with_instances(a, head, r.count, n)
 }
 
-// The answer of a tracker call with what the pass counted and listed.
-fn with_list(a: Answer, count: u32, listed: u32) -> Answer {
-    let mut r = a;
+// ---- writers lost
+
+// The answer of a call on the tracker with the owners cleared and the handles in Out.
+fn with_list(a: Answer, count: u32, listed: u32) -> Answer
+    ensures { λ r. ⌜ r ≡ withList a count listed ⌝ }
+{
+    let due = a.next_due;
+    let mut r = liveliness_counts::saying_due(a.yes, due);
     r.count = count;
     r.listed = listed;
     r
 }
 
-// The writers gone are dropped from every instance: codes 7 and 18 for one after the other.
-fn lose(called: Called, s: Sheet, pens: &mut [u8], out: &mut [u8], gone: &[u8]) -> Called {
+// After a call on the tracker, the writers of a list are dropped from every instance: codes 7 and 18 for one after the other.
+fn lose(called: Called, s: Sheet, pens: &mut [u8], out: &mut [u8], gone: &[u8]) -> Called
+    requires { ⌜ Losable (called .head .«instance_count») (now pens) (now out) × (length (now gone) ≤ 4096) ⌝ }
+    ensures { λ r. ⌜ Loses s (gonesIn (now (gone .entry))) (instancesIn (called .head .«instance_count») (now (pens .entry))) called (now (pens .entry)) (now (out .entry)) r (now (pens .exit)) (now (out .exit)) ⌝ }
+{
     let h = called.head;
     let a = called.answer;
     let tally = instance_pass::pass(pens, out, h.instance_count as usize, Passing::Loss, s, gone);
@@ -48,7 +73,64 @@ fn lose(called: Called, s: Sheet, pens: &mut [u8], out: &mut [u8], gone: &[u8]) 
     }
 }
 
-// Code 49, lapse: the writers whose lease ran out are lost.
+// The writer of the sheet alone is lost.
+fn lose_writer(called: Called, s: Sheet, pens: &mut [u8], out: &mut [u8]) -> Called
+    requires { ⌜ Losable (called .head .«instance_count») (now pens) (now out) ⌝ }
+    ensures { λ r. ⌜ Loses s (s .guid ∷ []) (instancesIn (called .head .«instance_count») (now (pens .entry))) called (now (pens .entry)) (now (out .entry)) r (now (pens .exit)) (now (out .exit)) ⌝ }
+{
+    let g = s.guid;
+    let mut gone = [0u8; 16];
+    octets::put_u64(&mut gone, 0, g.hi);
+    octets::put_u64(&mut gone, 8, g.lo);
+    lose(called, s, pens, out, &gone)
+}
+
+// Code 50: the writer is no longer matched.
+fn part(s: Sheet, head: Head, pens: &mut [u8], writers: &mut [u8], out: &mut [u8]) -> Called
+    requires { ⌜ Held head (now writers) × Losable (head .«instance_count») (now pens) (now out) ⌝ }
+    ensures { λ r. ⌜ LeaveJudged Part s head (now (pens .entry)) (now (writers .entry)) (now (out .entry)) r (now (pens .exit)) (now (writers .exit)) (now (out .exit)) ⌝ }
+{
+    let number = call_codes::leave_refusal(s);
+    if number != 0 {
+        return lent_state::refused(number, head);
+    }
+    let r = liveliness_tracker::unmatched(s, head, writers);
+    lose_writer(r, s, pens, out)
+}
+
+// Code 51: it is so because its participant's lease ran out.
+fn depart(s: Sheet, head: Head, pens: &mut [u8], writers: &mut [u8], out: &mut [u8]) -> Called
+    requires { ⌜ Held head (now writers) × Losable (head .«instance_count») (now pens) (now out) ⌝ }
+    ensures { λ r. ⌜ LeaveJudged Depart s head (now (pens .entry)) (now (writers .entry)) (now (out .entry)) r (now (pens .exit)) (now (writers .exit)) (now (out .exit)) ⌝ }
+{
+    let number = call_codes::leave_refusal(s);
+    if number != 0 {
+        return lent_state::refused(number, head);
+    }
+    let r = liveliness_tracker::lost_with_participant(s, head, writers);
+    lose_writer(r, s, pens, out)
+}
+
+// Those that Lost holds behind the first `before` are lost.
+fn lose_expired(
+    called: Called,
+    s: Sheet,
+    pens: &mut [u8],
+    lost: &[u8],
+    out: &mut [u8],
+    before: u32,
+) -> Called
+    requires { ⌜ Losable (called .head .«instance_count») (now pens) (now out) × (length (now lost) ≡ 4096) × (before ≤ called .head .«lost_count»)
+        × (called .head .«lost_count» ≤ 256) ⌝ }
+    ensures { λ r. ⌜ Loses s (goneSince before (called .head .«lost_count») (now (lost .entry))) (instancesIn (called .head .«instance_count») (now (pens .entry))) called (now (pens .entry)) (now (out .entry)) r (now (pens .exit)) (now (out .exit)) ⌝ }
+{
+    let h = called.head;
+    let from = before as usize * 16;
+    let to = h.lost_count as usize * 16;
+    lose(called, s, pens, out, &lost[from..to])
+}
+
+// Code 49: the writers whose lease has run out are lost; those that expired in earlier calls are not.
 fn lapse(
     s: Sheet,
     head: Head,
@@ -56,25 +138,24 @@ fn lapse(
     writers: &mut [u8],
     lost: &mut [u8],
     out: &mut [u8],
-) -> Called {
-    let from = head.lost_count as usize * 16;
+) -> Called
+    requires { ⌜ Held head (now writers) × Losable (head .«instance_count») (now pens) (now out) × (length (now lost) ≡ 4096)
+        × (lostOk (head .«lost_count») (now lost) ≡ true) ⌝ }
+    ensures { λ r. ⌜ LapseJudged s head (now (pens .entry)) (now (writers .entry)) (now (lost .entry)) (now (out .entry)) r (now (pens .exit)) (now (writers .exit)) (now (lost .exit)) (now (out .exit)) ⌝ }
+{
+    let number = call_codes::lapse_refusal(s);
+    if number != 0 {
+        return lent_state::refused(number, head);
+    }
     let r = liveliness_expiry::expire(s, head, writers, lost);
     let a = r.answer;
     if a.number != 0 {
         return r;
     }
-    let h = r.head;
-    let to = h.lost_count as usize * 16;
-    lose(r, s, pens, out, &lost[from..to])
+    lose_expired(r, s, pens, lost, out, head.lost_count)
 }
 
-// Code 50, part: the writer is no longer matched.
-fn part(s: Sheet, head: Head, pens: &mut [u8], writers: &mut [u8], out: &mut [u8]) -> Called {
-    let g = s.guid;
-    let gone = guid_bytes(g);
-    let r = liveliness_tracker::unmatched(s, head, writers);
-    lose(r, s, pens, out, &gone)
-}
+// ---- the calls
 
 // A joined call.
 pub fn joined_turn(

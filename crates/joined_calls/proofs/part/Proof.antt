@@ -1,0 +1,64 @@
+-- `joined_calls::part` meets its contract. Assumes nothing.
+use mathlib.Core.Path.{refl, sym, _∙_}
+use Rattle.model.specs.declared.JoinedCall.the-variants.{Part}
+use Rattle.model.specs.declared.TrackerCall.the-variants.{Unmatched}
+use Rattle.joined_calls.proofs.Entering.{sheet-refused}
+use Rattle.joined_calls.proofs.Losing.{kept-losable, leave-left}
+use borrow.Author.Needs.{needs}
+use Rattle.joined_calls.proofs.part.Statement.{statement}
+use Rattle.joined_calls.proofs.part.Tie as tie
+
+leave-refusal-requires : tie.Need-leave-refusal-requires
+leave-refusal-requires c κs = search needs
+
+refused-requires : tie.Need-refused-requires
+refused-requires c κs = search needs
+
+returns : tie.Need-returns
+returns c =
+    let a = c .before .before .before .before .before .before .args in
+    λ places lost e. sheet-refused Part (a .s) (a .head) (c .before .before .leave-refusal .result) (c .refused .result)
+    (λ st. c .before .before .leave-refusal .ensures st .0) (c .before .if1 .taken) (c .refused .ensures) places (a .pens .now) (a .writers .now) lost (a .out .now)
+
+unmatched-requires : tie.Need-unmatched-requires
+unmatched-requires c κs = search needs
+
+lose-writer-requires : tie.Need-lose-writer-requires
+lose-writer-requires c κs =
+    let called = c .before .before .before .before in
+    let start = called .before .before .before .before .before .before .before in
+    let a = start .args in
+    kept-losable Unmatched (a .s) (a .head) (a .pens .now) (a .writers .now) (a .out .now) (called .unmatched .result) (called .unmatched .last .1 .1 .0) (called .unmatched .ensures) (start .pre .1)
+
+same-length : tie.Need-same-length
+same-length c = search needs
+
+same-length-2 : tie.Need-same-length-2
+same-length-2 c = search needs
+
+same-length-3 : tie.Need-same-length-3
+same-length-3 c = search needs
+
+returns-2 : tie.Need-returns-2
+returns-2 c =
+    let lost = c .before .before .before .before in
+    let called = lost .before .before .before .before .before in
+    let test = called .before .before in
+    let a = test .before .before .before .before .before .args in
+    leave-left Part (a .s) (a .head) (a .pens .now) (a .writers .now) (a .out .now) Unmatched (λ places st. refl) (λ st. refl) (λ gone lost. refl)
+    (λ st. sym (test .if1 .left) ∙ test .before .leave-refusal .ensures st .0) (called .unmatched .result) (lost .lose-writer .result) (lost .lose-writer .last .1 .1 .0)
+    (called .unmatched .last .1 .1 .0) (lost .lose-writer .last .1 .1 .1 .0) (called .unmatched .ensures) (lost .lose-writer .ensures)
+
+pub part-spec : {M : Type 1} → statement M
+part-spec =
+    tie.close
+    (tie.spec
+    leave-refusal-requires
+    refused-requires
+    returns
+    unmatched-requires
+    lose-writer-requires
+    same-length
+    same-length-2
+    same-length-3
+    returns-2)
