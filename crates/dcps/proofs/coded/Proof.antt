@@ -83,12 +83,12 @@ returns-4 c =
     let none-such : callOfCode n ≡ none =
     ⊎-elim (λ low. unknown n (λ i j. absurd (omega (arith, low .taken))) (λ i j. absurd (omega (arith, low .taken))) (λ i j. absurd (omega (arith, low .taken))))
     (λ rest. ⊎-elim
-      (λ gap. unknown n (λ i j. absurd (omega (arith, gap .1 .left))) (λ i j. absurd (omega (arith, gap .2 .taken))) (λ i j. absurd (omega (arith, gap .2 .taken))))
-      (λ more. ⊎-elim
-        (λ gap. unknown n (λ i j. absurd (omega (arith, gap .1 .left))) (λ i j. absurd (omega (arith, gap .3 .left))) (λ i j. absurd (omega (arith, gap .4 .taken))))
-        (λ high. unknown n (λ i j. absurd (omega (arith, high .5 .left))) (λ i j. absurd (omega (arith, high .5 .left))) (λ i j. absurd (omega (arith, high .5 .left))))
-        more)
-      rest)
+    (λ gap. unknown n (λ i j. absurd (omega (arith, gap .1 .left))) (λ i j. absurd (omega (arith, gap .2 .taken))) (λ i j. absurd (omega (arith, gap .2 .taken))))
+    (λ more. ⊎-elim
+    (λ gap. unknown n (λ i j. absurd (omega (arith, gap .1 .left))) (λ i j. absurd (omega (arith, gap .3 .left))) (λ i j. absurd (omega (arith, gap .4 .taken))))
+    (λ high. unknown n (λ i j. absurd (omega (arith, high .5 .left))) (λ i j. absurd (omega (arith, high .5 .left))) (λ i j. absurd (omega (arith, high .5 .left))))
+    more)
+    rest)
     (c .before .if1 .came) in
     refused-left 2 _ (a .head) (a .pens .now) (a .writers .now) (a .lost .now) (a .out .now) (c .refused .ensures) ∙ coded-2 128 (a .s) l none-such
 
