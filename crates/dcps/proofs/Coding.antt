@@ -4,12 +4,15 @@
 --     called-1, called-coded
 --                       refused as 1; else the call by its code
 --     parts             well-formedness, part by part
---     entered           what a call past 3 is lent
+--     formed-parts, entered, refused-3, by-code
+--                       a range of codes: refused as 3, else the call of its code
 -- Assumes nothing.
 use Prim.Native.Nat.{ℕ}
-use mathlib.Core.Bool.{Bool, true, false, _&&_}
+use mathlib.Core.Bool.{Bool, true, false, not, _&&_}
+use mathlib.Core.Option.{some}
 use mathlib.Core.Path.{_≡_, refl, sym, ap, _∙_}
 use mathlib.Core.List.{List}
+use borrow.Author.Tests.{not-true, not-false}
 use lib.Dec.{eqb}
 use lib.ListN.{length}
 use Rattle.octets.specs.Bounds.{Bytes}
@@ -17,8 +20,8 @@ use Rattle.model.specs.declared.Called.{Called}
 use Rattle.model.specs.declared.Head.{Head}
 use Rattle.model.specs.declared.Sheet.{Sheet}
 use Rattle.model.specs.Answers.{refusedWith}
-use Rattle.model.specs.Call.{Left, coded, callOf, refuse, lentOf, leftOf}
-use Rattle.model.specs.Calls.{callOfCode}
+use Rattle.model.specs.Call.{Left, judged, coded, callOf, refuse, lentOf, leftOf}
+use Rattle.model.specs.Calls.{Call, callOfCode}
 use Rattle.model.specs.Refusals.{lengthsOk}
 use Rattle.model.specs.Sheets.{sheetOf}
 use Rattle.model.specs.State.{Lent, writersIn}
@@ -26,7 +29,7 @@ use Rattle.model.specs.WellFormed.{headOk, instanceTableOk, writerTableOk, lost
 use Rattle.model.proofs.RowLaws.{both}
 use Rattle.call_laws.specs.Entered.{Entered}
 use Rattle.call_laws.specs.Heads.{called}
-use Rattle.call_laws.proofs.Chain.{call-1, call-coded}
+use Rattle.call_laws.proofs.Chain.{call-1, call-coded, coded-3, coded-judged}
 
 -- ---- lengths
 
@@ -76,9 +79,27 @@ parts places l e =
     let s = both _ _ (r .1) in
     record { head = p .0; pens = q .0; writers = r .0; lost = s .0; counts = s .1 }
 
--- ---- what a call past 3 is lent
+-- ---- a range of codes: refused as 3, else the call of its code
 
-pub entered : (head : Head) (pens writers lost out : List ℕ) → length pens ≡ 65536 → length writers ≡ 5120 → length lost ≡ 4096 → length out ≡ 4096 →
-    Bytes pens → Bytes writers → Bytes lost → wellFormed 128 (lentOf head pens writers lost out) ≡ true → Entered 128 (lentOf head pens writers lost out)
-entered head pens writers lost out p w l o pb wb lb e =
-    record { pens = p; writers = w; lost = l; out = o; pensBytes = pb; writersBytes = wb; lostBytes = lb; formed = e }
+module _ (head : Head) (pens writers lost out : List ℕ) (s : Sheet) (ok : Bool) (tested : ok ≡ wellFormed 128 (lentOf head pens writers lost out)) where
+  pub formed : not ok ≡ false → wellFormed 128 (lentOf head pens writers lost out) ≡ true
+  formed passed = sym tested ∙ not-false ok passed
+
+  pub formed-parts : not ok ≡ false → Parts 128 (lentOf head pens writers lost out)
+  formed-parts passed = parts 128 (lentOf head pens writers lost out) (formed passed)
+
+  -- what a call past 3 is lent
+  pub entered : not ok ≡ false → length pens ≡ 65536 → length writers ≡ 5120 → length lost ≡ 4096 → length out ≡ 4096 →
+      Bytes pens → Bytes writers → Bytes lost → Entered 128 (lentOf head pens writers lost out)
+  entered passed p w l o pb wb lb =
+      record { pens = p; writers = w; lost = l; out = o; pensBytes = pb; writersBytes = wb; lostBytes = lb; formed = formed passed }
+
+  module _ (c : Call) (known : callOfCode (s .code) ≡ some c) where
+    pub refused-3 : not ok ≡ true → (r : Called) → r ≡ called (refusedWith 3) head →
+        leftOf r pens writers lost out ≡ coded 128 (callOfCode (s .code)) s (lentOf head pens writers lost out)
+    refused-3 failed r e =
+        refused-left 3 r head pens writers lost out e ∙ coded-3 128 s (lentOf head pens writers lost out) c known (sym tested ∙ not-true ok failed)
+
+    pub by-code : not ok ≡ false → (x : Left) → x ≡ judged 128 c s (lentOf head pens writers lost out) →
+        x ≡ coded 128 (callOfCode (s .code)) s (lentOf head pens writers lost out)
+    by-code passed x e = e ∙ coded-judged 128 s (lentOf head pens writers lost out) c known (formed passed)

@@ -1,2 +1,1 @@
--- Laws over plain variables.
-pub mod Laws
+-- Laws over plain variables: none.

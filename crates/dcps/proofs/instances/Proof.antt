@@ -1,11 +1,8 @@
 -- `instances` meets its contract: refused as 3, else the call on the instances. Assumes nothing.
-use mathlib.Core.Path.{sym, _∙_}
 use native.Mathlib.Omega.{arith}
 use borrow.Author.Needs.{needs}
-use borrow.Author.Tests.{not-true, not-false}
-use Rattle.model.specs.Call.{lentOf}
-use Rattle.call_laws.proofs.Chain.{coded-3, coded-judged}
-use Rattle.dcps.proofs.Coding.{refused-left, parts, entered}
+use Rattle.model.specs.Calls.{instances}
+use Rattle.dcps.proofs.Coding.{formed-parts, entered, refused-3, by-code}
 use Rattle.dcps.proofs.instances.Statement.{statement}
 use Rattle.dcps.proofs.instances.Tie as tie
 
@@ -27,9 +24,8 @@ returns c =
     let k = s .before .before in
     let a = k .before .before .before .before .before in
     let g = a .args in
-    let l = lentOf (g .head) (g .pens .now) (g .writers .now) (g .lost .now) (g .out .now) in
-    refused-left 3 _ (g .head) (g .pens .now) (g .writers .now) (g .lost .now) (g .out .now) (c .refused .ensures)
-    ∙ coded-3 128 (g .s) l _ (k .instance-call .ensures) (sym (s .state-ok .ensures (g .out .now)) ∙ not-true _ (c .before .if1 .taken))
+    refused-3 (g .head) (g .pens .now) (g .writers .now) (g .lost .now) (g .out .now) (g .s) (s .state-ok .result) (s .state-ok .ensures (g .out .now))
+    (instances (k .instance-call .result)) (k .instance-call .ensures) (c .before .if1 .taken) (c .refused .result) (c .refused .ensures)
 
 instance-turn-requires : tie.Need-instance-turn-requires
 instance-turn-requires c κs =
@@ -38,9 +34,7 @@ instance-turn-requires c κs =
     let k = s .before .before in
     let a = k .before .before .before .before .before in
     let g = a .args in
-    let l = lentOf (g .head) (g .pens .now) (g .writers .now) (g .lost .now) (g .out .now) in
-    let formed = sym (s .state-ok .ensures (g .out .now)) ∙ not-false _ (f .if1 .left) in
-    (omega arith, a .pre .0, a .pre .3, parts 128 l formed .pens)
+    (omega arith, a .pre .0, a .pre .3, formed-parts (g .head) (g .pens .now) (g .writers .now) (g .lost .now) (g .out .now) (g .s) (s .state-ok .result) (s .state-ok .ensures (g .out .now)) (f .if1 .left) .pens)
 
 same-length-2 : tie.Need-same-length-2
 same-length-2 c = search needs
@@ -56,12 +50,12 @@ returns-2 c =
     let k = s .before .before in
     let a = k .before .before .before .before .before in
     let g = a .args in
-    let l = lentOf (g .head) (g .pens .now) (g .writers .now) (g .lost .now) (g .out .now) in
-    let formed = sym (s .state-ok .ensures (g .out .now)) ∙ not-false _ (f .if1 .left) in
-    let e = entered (g .head) (g .pens .now) (g .writers .now) (g .lost .now) (g .out .now) (a .pre .0) (a .pre .1) (a .pre .2) (a .pre .3)
+    by-code (g .head) (g .pens .now) (g .writers .now) (g .lost .now) (g .out .now) (g .s) (s .state-ok .result) (s .state-ok .ensures (g .out .now))
+    (instances (k .instance-call .result)) (k .instance-call .ensures) (f .if1 .left) _
+    (t .instance-turn .ensures (g .writers .now) (g .lost .now) (entered (g .head) (g .pens .now) (g .writers .now) (g .lost .now) (g .out .now) (g .s) (s .state-ok .result) (s .state-ok .ensures (g .out .now))
+    (f .if1 .left) (a .pre .0) (a .pre .1) (a .pre .2) (a .pre .3)
     (λ j. (k .before .before .before .before .slice-known .given) j .fits) (λ j. (k .before .before .before .shared-slice-known .given) j .fits)
-    (λ j. (k .before .before .shared-slice-known2 .given) j .fits) formed in
-    t .instance-turn .ensures (g .writers .now) (g .lost .now) e ∙ coded-judged 128 (g .s) l _ (k .instance-call .ensures) formed
+    (λ j. (k .before .before .shared-slice-known2 .given) j .fits)))
 
 pub instances-spec : {M : Type 1} → statement M
 instances-spec =

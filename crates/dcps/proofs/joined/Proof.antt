@@ -1,11 +1,8 @@
 -- `joined` meets its contract: refused as 3, else the joined call. Assumes nothing.
-use mathlib.Core.Path.{sym, _∙_}
 use native.Mathlib.Omega.{arith}
 use borrow.Author.Needs.{needs}
-use borrow.Author.Tests.{not-true, not-false}
-use Rattle.model.specs.Call.{lentOf}
-use Rattle.call_laws.proofs.Chain.{coded-3, coded-judged}
-use Rattle.dcps.proofs.Coding.{refused-left, parts, entered}
+use Rattle.model.specs.Calls.{joined}
+use Rattle.dcps.proofs.Coding.{formed-parts, entered, refused-3, by-code}
 use Rattle.dcps.proofs.joined.Statement.{statement}
 use Rattle.dcps.proofs.joined.Tie as tie
 
@@ -33,9 +30,8 @@ returns c =
     let k = s .before .before .before .before in
     let a = k .before .before .before .before .before in
     let g = a .args in
-    let l = lentOf (g .head) (g .pens .now) (g .writers .now) (g .lost .now) (g .out .now) in
-    refused-left 3 _ (g .head) (g .pens .now) (g .writers .now) (g .lost .now) (g .out .now) (c .refused .ensures)
-    ∙ coded-3 128 (g .s) l _ (k .joined-call .ensures) (sym (s .state-ok .ensures (g .out .now)) ∙ not-true _ (c .before .if1 .taken))
+    refused-3 (g .head) (g .pens .now) (g .writers .now) (g .lost .now) (g .out .now) (g .s) (s .state-ok .result) (s .state-ok .ensures (g .out .now))
+    (joined (k .joined-call .result)) (k .joined-call .ensures) (c .before .if1 .taken) (c .refused .result) (c .refused .ensures)
 
 joined-turn-requires : tie.Need-joined-turn-requires
 joined-turn-requires c κs =
@@ -43,13 +39,13 @@ joined-turn-requires c κs =
     let s = f .before in
     let k = s .before .before .before .before in
     let a = k .before .before .before .before .before in
-    let g = a .args in
-    let l = lentOf (g .head) (g .pens .now) (g .writers .now) (g .lost .now) (g .out .now) in
-    let formed = sym (s .state-ok .ensures (g .out .now)) ∙ not-false _ (f .if1 .left) in
-    let e = entered (g .head) (g .pens .now) (g .writers .now) (g .lost .now) (g .out .now) (a .pre .0) (a .pre .1) (a .pre .2) (a .pre .3)
-    (λ j. (k .before .before .before .before .slice-known .given) j .fits) (λ j. (k .before .before .before .slice-known2 .given) j .fits)
-    (λ j. (k .before .before .slice-known3 .given) j .fits) formed in
-    (omega arith, e)
+    let g = a .args in (
+      omega arith,
+      entered (g .head) (g .pens .now) (g .writers .now) (g .lost .now) (g .out .now) (g .s) (s .state-ok .result) (s .state-ok .ensures (g .out .now))
+          (f .if1 .left) (a .pre .0) (a .pre .1) (a .pre .2) (a .pre .3)
+          (λ j. (k .before .before .before .before .slice-known .given) j .fits) (λ j. (k .before .before .before .slice-known2 .given) j .fits)
+          (λ j. (k .before .before .slice-known3 .given) j .fits),
+    )
 
 same-length-4 : tie.Need-same-length-4
 same-length-4 c = search needs
@@ -71,9 +67,9 @@ returns-2 c =
     let k = s .before .before .before .before in
     let a = k .before .before .before .before .before in
     let g = a .args in
-    let l = lentOf (g .head) (g .pens .now) (g .writers .now) (g .lost .now) (g .out .now) in
-    let formed = sym (s .state-ok .ensures (g .out .now)) ∙ not-false _ (f .if1 .left) in
-    t .joined-turn .ensures ∙ coded-judged 128 (g .s) l _ (k .joined-call .ensures) formed
+    by-code (g .head) (g .pens .now) (g .writers .now) (g .lost .now) (g .out .now) (g .s) (s .state-ok .result) (s .state-ok .ensures (g .out .now))
+    (joined (k .joined-call .result)) (k .joined-call .ensures) (f .if1 .left) _
+    (t .joined-turn .ensures)
 
 pub joined-spec : {M : Type 1} → statement M
 joined-spec =

@@ -1,11 +1,8 @@
 -- `tracker` meets its contract: refused as 3, else the call on the writers. Assumes nothing.
-use mathlib.Core.Path.{sym, _∙_}
 use native.Mathlib.Omega.{arith}
 use borrow.Author.Needs.{needs}
-use borrow.Author.Tests.{not-true, not-false}
-use Rattle.model.specs.Call.{lentOf}
-use Rattle.call_laws.proofs.Chain.{coded-3, coded-judged}
-use Rattle.dcps.proofs.Coding.{refused-left, parts, entered}
+use Rattle.model.specs.Calls.{tracker}
+use Rattle.dcps.proofs.Coding.{formed-parts, entered, refused-3, by-code}
 use Rattle.dcps.proofs.tracker.Statement.{statement}
 use Rattle.dcps.proofs.tracker.Tie as tie
 
@@ -30,9 +27,8 @@ returns c =
     let k = s .before .before .before in
     let a = k .before .before .before .before .before in
     let g = a .args in
-    let l = lentOf (g .head) (g .pens .now) (g .writers .now) (g .lost .now) (g .out .now) in
-    refused-left 3 _ (g .head) (g .pens .now) (g .writers .now) (g .lost .now) (g .out .now) (c .refused .ensures)
-    ∙ coded-3 128 (g .s) l _ (k .tracker-call .ensures) (sym (s .state-ok .ensures (g .out .now)) ∙ not-true _ (c .before .if1 .taken))
+    refused-3 (g .head) (g .pens .now) (g .writers .now) (g .lost .now) (g .out .now) (g .s) (s .state-ok .result) (s .state-ok .ensures (g .out .now))
+    (tracker (k .tracker-call .result)) (k .tracker-call .ensures) (c .before .if1 .taken) (c .refused .result) (c .refused .ensures)
 
 tracker-turn-requires : tie.Need-tracker-turn-requires
 tracker-turn-requires c κs =
@@ -41,9 +37,7 @@ tracker-turn-requires c κs =
     let k = s .before .before .before in
     let a = k .before .before .before .before .before in
     let g = a .args in
-    let l = lentOf (g .head) (g .pens .now) (g .writers .now) (g .lost .now) (g .out .now) in
-    let formed = sym (s .state-ok .ensures (g .out .now)) ∙ not-false _ (f .if1 .left) in
-    let p = parts 128 l formed in
+    let p = formed-parts (g .head) (g .pens .now) (g .writers .now) (g .lost .now) (g .out .now) (g .s) (s .state-ok .result) (s .state-ok .ensures (g .out .now)) (f .if1 .left) in
     (record { long = a .pre .1; headFormed = p .head; table = p .writers; counted = p .counts }, a .pre .2, p .lost, a .pre .3)
 
 same-length-3 : tie.Need-same-length-3
@@ -63,12 +57,12 @@ returns-2 c =
     let k = s .before .before .before in
     let a = k .before .before .before .before .before in
     let g = a .args in
-    let l = lentOf (g .head) (g .pens .now) (g .writers .now) (g .lost .now) (g .out .now) in
-    let formed = sym (s .state-ok .ensures (g .out .now)) ∙ not-false _ (f .if1 .left) in
-    let e = entered (g .head) (g .pens .now) (g .writers .now) (g .lost .now) (g .out .now) (a .pre .0) (a .pre .1) (a .pre .2) (a .pre .3)
+    by-code (g .head) (g .pens .now) (g .writers .now) (g .lost .now) (g .out .now) (g .s) (s .state-ok .result) (s .state-ok .ensures (g .out .now))
+    (tracker (k .tracker-call .result)) (k .tracker-call .ensures) (f .if1 .left) _
+    (t .tracker-turn .ensures 128 (g .pens .now) (entered (g .head) (g .pens .now) (g .writers .now) (g .lost .now) (g .out .now) (g .s) (s .state-ok .result) (s .state-ok .ensures (g .out .now))
+    (f .if1 .left) (a .pre .0) (a .pre .1) (a .pre .2) (a .pre .3)
     (λ j. (k .before .before .before .before .shared-slice-known .given) j .fits) (λ j. (k .before .before .before .slice-known .given) j .fits)
-    (λ j. (k .before .before .slice-known2 .given) j .fits) formed in
-    t .tracker-turn .ensures 128 (g .pens .now) e ∙ coded-judged 128 (g .s) l _ (k .tracker-call .ensures) formed
+    (λ j. (k .before .before .slice-known2 .given) j .fits)))
 
 pub tracker-spec : {M : Type 1} → statement M
 tracker-spec =

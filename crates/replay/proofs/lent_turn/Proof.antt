@@ -5,29 +5,29 @@ use borrow.Author.Needs.{needs}
 use Rattle.replay.proofs.lent_turn.Statement.{statement}
 use Rattle.replay.proofs.lent_turn.Tie as tie
 
-slice-relend-prefix-turn : tie.Need-slice-relend-prefix-turn
-slice-relend-prefix-turn c = search needs
+slice-relend-prefix-call : tie.Need-slice-relend-prefix-call
+slice-relend-prefix-call c = search needs
 
-slice-aggregate-turn : tie.Need-slice-aggregate-turn
-slice-aggregate-turn c = let d = c .before .before .before .before .before .before in sym (length-take-le (d .args .n .pens) (d .args .pens .now) (d .pre .0))
+slice-aggregate-call : tie.Need-slice-aggregate-call
+slice-aggregate-call c = let d = c .before .before .before .before .before .before in sym (length-take-le (d .args .n .pens) (d .args .pens .now) (d .pre .0))
 
-slice-relend-prefix-turn-2 : tie.Need-slice-relend-prefix-turn-2
-slice-relend-prefix-turn-2 c = search needs
+slice-relend-prefix-call-2 : tie.Need-slice-relend-prefix-call-2
+slice-relend-prefix-call-2 c = search needs
 
-slice-aggregate-turn-2 : tie.Need-slice-aggregate-turn-2
-slice-aggregate-turn-2 c = let d = c .before .before .before .before .before .before .before in sym (length-take-le (d .args .n .writers) (d .args .writers .now) (d .pre .1))
+slice-aggregate-call-2 : tie.Need-slice-aggregate-call-2
+slice-aggregate-call-2 c = let d = c .before .before .before .before .before .before .before in sym (length-take-le (d .args .n .writers) (d .args .writers .now) (d .pre .1))
 
-slice-relend-prefix-turn-3 : tie.Need-slice-relend-prefix-turn-3
-slice-relend-prefix-turn-3 c = search needs
+slice-relend-prefix-call-3 : tie.Need-slice-relend-prefix-call-3
+slice-relend-prefix-call-3 c = search needs
 
-slice-aggregate-turn-3 : tie.Need-slice-aggregate-turn-3
-slice-aggregate-turn-3 c = let d = c .before .before .before .before .before .before .before .before in sym (length-take-le (d .args .n .lost) (d .args .lost .now) (d .pre .2))
+slice-aggregate-call-3 : tie.Need-slice-aggregate-call-3
+slice-aggregate-call-3 c = let d = c .before .before .before .before .before .before .before .before in sym (length-take-le (d .args .n .lost) (d .args .lost .now) (d .pre .2))
 
-slice-relend-prefix-turn-4 : tie.Need-slice-relend-prefix-turn-4
-slice-relend-prefix-turn-4 c = search needs
+slice-relend-prefix-call-4 : tie.Need-slice-relend-prefix-call-4
+slice-relend-prefix-call-4 c = search needs
 
-slice-aggregate-turn-4 : tie.Need-slice-aggregate-turn-4
-slice-aggregate-turn-4 c = let d = c .before .before .before .before .before .before .before .before .before in sym (length-take-le (d .args .n .out) (d .args .out .now) (d .pre .3))
+slice-aggregate-call-4 : tie.Need-slice-aggregate-call-4
+slice-aggregate-call-4 c = let d = c .before .before .before .before .before .before .before .before .before in sym (length-take-le (d .args .n .out) (d .args .out .now) (d .pre .3))
 
 turn-requires : tie.Need-turn-requires
 turn-requires c κs = search needs
@@ -51,14 +51,14 @@ pub lent-turn-spec : {M : Type 1} → statement M
 lent-turn-spec =
     tie.close
     (tie.spec
-    slice-relend-prefix-turn
-    slice-aggregate-turn
-    slice-relend-prefix-turn-2
-    slice-aggregate-turn-2
-    slice-relend-prefix-turn-3
-    slice-aggregate-turn-3
-    slice-relend-prefix-turn-4
-    slice-aggregate-turn-4
+    slice-relend-prefix-call
+    slice-aggregate-call
+    slice-relend-prefix-call-2
+    slice-aggregate-call-2
+    slice-relend-prefix-call-3
+    slice-aggregate-call-3
+    slice-relend-prefix-call-4
+    slice-aggregate-call-4
     turn-requires
     same-length
     same-length-2
