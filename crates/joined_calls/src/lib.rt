@@ -73,7 +73,7 @@ fn lose(called: Called, s: Sheet, pens: &mut [u8], out: &mut [u8], gone: &[u8]) 
     }
 }
 
-// The writer of the sheet alone is lost.
+// The writer that the sheet names is lost, tracked or not.
 fn lose_writer(called: Called, s: Sheet, pens: &mut [u8], out: &mut [u8]) -> Called
     requires { ⌜ Losable (called .head .«instance_count») (now pens) (now out) ⌝ }
     ensures { λ r. ⌜ Loses s (s .guid ∷ []) (instancesIn (called .head .«instance_count») (now (pens .entry))) called (now (pens .entry)) (now (out .entry)) r (now (pens .exit)) (now (out .exit)) ⌝ }
@@ -98,7 +98,7 @@ fn part(s: Sheet, head: Head, pens: &mut [u8], writers: &mut [u8], out: &mut [u8
     lose_writer(r, s, pens, out)
 }
 
-// Code 51: it is so because its participant's lease ran out.
+// Code 51: the writer is lost with its participant.
 fn depart(s: Sheet, head: Head, pens: &mut [u8], writers: &mut [u8], out: &mut [u8]) -> Called
     requires { ⌜ Held head (now writers) × Losable (head .«instance_count») (now pens) (now out) ⌝ }
     ensures { λ r. ⌜ LeaveJudged Depart s head (now (pens .entry)) (now (writers .entry)) (now (out .entry)) r (now (pens .exit)) (now (writers .exit)) (now (out .exit)) ⌝ }
@@ -111,7 +111,7 @@ fn depart(s: Sheet, head: Head, pens: &mut [u8], writers: &mut [u8], out: &mut [
     lose_writer(r, s, pens, out)
 }
 
-// Those that Lost holds behind the first `before` are lost.
+// The writers that Lost holds behind the first `before` are lost.
 fn lose_expired(
     called: Called,
     s: Sheet,
@@ -148,8 +148,8 @@ fn lapse(
         return lent_state::refused(number, head);
     }
     let r = liveliness_expiry::expire(s, head, writers, lost);
-    let a = r.answer;
-    if a.number != 0 {
+    let told = r.answer;
+    if told.number != 0 { // refusal 12
         return r;
     }
     lose_expired(r, s, pens, lost, out, head.lost_count)
