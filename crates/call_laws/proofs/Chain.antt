@@ -1,4 +1,5 @@
 -- The chain of refusals, one law a link, for any call.
+--     refused-left                a refusal leaves what it was lent
 --     call-1, call-coded          1, lengths
 --     coded-2, coded-3, coded-judged
 --                                 2 and 3, code and well-formedness
@@ -9,11 +10,14 @@
 use Prim.Native.Nat.{ℕ, zero, suc}
 use mathlib.Core.Bool.{true, false}
 use mathlib.Core.Option.{none, some}
-use mathlib.Core.Path.{_≡_, refl, sym, _∙_}
+use mathlib.Core.Path.{_≡_, refl, ap}
 use mathlib.Core.List.{List}
 use lib.Dec.{eqb·suc-zero}
+use Rattle.model.specs.declared.Called.{Called}
+use Rattle.model.specs.declared.Head.{Head}
 use Rattle.model.specs.declared.Sheet.{Sheet}
-use Rattle.model.specs.Call.{callIn, coded, judged, refuse, settle, turn}
+use Rattle.model.specs.Answers.{refusedWith}
+use Rattle.model.specs.Call.{callIn, coded, judged, refuse, settle, turn, lentOf, leftOf}
 use Rattle.model.specs.Calls.{Call, callOfCode}
 use Rattle.model.specs.Refusals.{lengthsOk, sheetRefusal}
 use Rattle.model.specs.Sheets.{sheetOf}
@@ -21,6 +25,11 @@ use Rattle.model.specs.State.{Lent, stateOf}
 use Rattle.model.specs.WellFormed.{wellFormed}
 use Rattle.model.proofs.StateLaws.{Buffers}
 use Rattle.call_laws.specs.Entered.{Entered}
+use Rattle.call_laws.specs.Heads.{called}
+
+pub refused-left : (n : ℕ) (r : Called) (head : Head) (pens writers lost out : List ℕ) → r ≡ called (refusedWith n) head →
+    leftOf r pens writers lost out ≡ refuse n (lentOf head pens writers lost out)
+refused-left n r head pens writers lost out e = ap (λ (x : Called). leftOf x pens writers lost out) e
 
 module _ (places : ℕ) (sheet : List ℕ) (l : Lent) where
   pub call-1 : lengthsOk places sheet l ≡ false → refuse 1 l ≡ callIn places sheet l

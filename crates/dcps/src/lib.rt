@@ -44,69 +44,6 @@ fn room_ok(pens: usize, writers: usize, lost: usize) -> bool
     lost == 4096
 }
 
-// Codes 1 to 21: calls on the instances.
-fn instances(
-    s: Sheet,
-    head: Head,
-    pens: &mut [u8],
-    writers: &[u8],
-    lost: &[u8],
-    out: &mut [u8],
-) -> Called
-    requires { ⌜ (length (now pens) ≡ 65536) × (length (now writers) ≡ 5120) × (length (now lost) ≡ 4096) × (length (now out) ≡ 4096)
-        × (1 ≤ s .code) × (s .code ≤ 21) ⌝ }
-    ensures { λ r. ⌜ leftOf r (now (pens .exit)) (now (writers .entry)) (now (lost .entry)) (now (out .exit))
-        ≡ coded 128 (callOfCode (s .code)) s (lentOf head (now (pens .entry)) (now (writers .entry)) (now (lost .entry)) (now (out .entry))) ⌝ }
-{
-    let c = call_codes::instance_call(s.code);
-    if !lent_state::state_ok(head, pens, writers, lost, 128) {
-        return lent_state::refused(3, head);
-    }
-    instance_calls::instance_turn(c, s, head, pens, out, 128)
-}
-
-// Codes 32 to 40: calls on the writers.
-fn tracker(
-    s: Sheet,
-    head: Head,
-    pens: &[u8],
-    writers: &mut [u8],
-    lost: &mut [u8],
-    out: &mut [u8],
-) -> Called
-    requires { ⌜ (length (now pens) ≡ 65536) × (length (now writers) ≡ 5120) × (length (now lost) ≡ 4096) × (length (now out) ≡ 4096)
-        × (32 ≤ s .code) × (s .code ≤ 40) ⌝ }
-    ensures { λ r. ⌜ leftOf r (now (pens .entry)) (now (writers .exit)) (now (lost .exit)) (now (out .exit))
-        ≡ coded 128 (callOfCode (s .code)) s (lentOf head (now (pens .entry)) (now (writers .entry)) (now (lost .entry)) (now (out .entry))) ⌝ }
-{
-    let c = call_codes::tracker_call(s.code);
-    if !lent_state::state_ok(head, pens, writers, lost, 128) {
-        return lent_state::refused(3, head);
-    }
-    tracker_calls::tracker_turn(c, s, head, writers, lost, out)
-}
-
-// Codes 48 to 51: the joined calls.
-fn joined(
-    s: Sheet,
-    head: Head,
-    pens: &mut [u8],
-    writers: &mut [u8],
-    lost: &mut [u8],
-    out: &mut [u8],
-) -> Called
-    requires { ⌜ (length (now pens) ≡ 65536) × (length (now writers) ≡ 5120) × (length (now lost) ≡ 4096) × (length (now out) ≡ 4096)
-        × (48 ≤ s .code) × (s .code ≤ 51) ⌝ }
-    ensures { λ r. ⌜ leftOf r (now (pens .exit)) (now (writers .exit)) (now (lost .exit)) (now (out .exit))
-        ≡ coded 128 (callOfCode (s .code)) s (lentOf head (now (pens .entry)) (now (writers .entry)) (now (lost .entry)) (now (out .entry))) ⌝ }
-{
-    let c = call_codes::joined_call(s.code);
-    if !lent_state::state_ok(head, pens, writers, lost, 128) {
-        return lent_state::refused(3, head);
-    }
-    joined_calls::joined_turn(c, s, head, pens, writers, lost, out, 128)
-}
-
 // A call on buffers of their lengths, by its code; there are no codes but those.
 fn coded(
     s: Sheet,
@@ -122,9 +59,9 @@ fn coded(
 {
     let code = s.code;
     match code {
-        1..=21 => instances(s, head, pens, writers, lost, out),
-        32..=40 => tracker(s, head, pens, writers, lost, out),
-        48..=51 => joined(s, head, pens, writers, lost, out),
+        1..=21 => call_ranges::instances(s, head, pens, writers, lost, out),
+        32..=40 => call_ranges::tracker(s, head, pens, writers, lost, out),
+        48..=51 => call_ranges::joined(s, head, pens, writers, lost, out),
         _ => lent_state::refused(2, head),
     }
 }

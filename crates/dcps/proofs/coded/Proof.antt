@@ -7,8 +7,7 @@ use borrow.Author.Needs.{needs}
 use Rattle.model.specs.Call.{lentOf}
 use Rattle.model.specs.Calls.{callOfCode}
 use Rattle.call_codes.proofs.Codes.{unknown}
-use Rattle.call_laws.proofs.Chain.{coded-2}
-use Rattle.dcps.proofs.Coding.{refused-left}
+use Rattle.call_laws.proofs.Chain.{refused-left, coded-2}
 use Rattle.dcps.proofs.coded.Statement.{statement}
 use Rattle.dcps.proofs.coded.Tie as tie
 

@@ -2,9 +2,9 @@
 use native.Mathlib.Omega.{arith}
 use borrow.Author.Needs.{needs}
 use Rattle.model.specs.Calls.{tracker}
-use Rattle.dcps.proofs.Coding.{formed-parts, entered, refused-3, by-code}
-use Rattle.dcps.proofs.tracker.Statement.{statement}
-use Rattle.dcps.proofs.tracker.Tie as tie
+use Rattle.call_ranges.proofs.Ranges.{formed-parts, entered, refused-3, by-code}
+use Rattle.call_ranges.proofs.tracker.Statement.{statement}
+use Rattle.call_ranges.proofs.tracker.Tie as tie
 
 tracker-call-requires : tie.Need-tracker-call-requires
 tracker-call-requires c κs = let a = c .before .before .before .before in (a .pre .4, a .pre .5)

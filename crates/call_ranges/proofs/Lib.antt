@@ -1,0 +1,2 @@
+-- Laws that the proofs of call_ranges cite.
+pub mod Ranges

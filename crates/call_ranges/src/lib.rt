@@ -1,0 +1,77 @@
+// The calls by the range of their code, on buffers of their lengths: refusal 3, then the call of the code.
+// Rests on call_codes, lent_state, instance_calls, tracker_calls and joined_calls.
+//
+// Derives from instance_tracker.rs and liveliness_tracker.rs of ZeroDDS.
+// Copyright 2026 ZeroDDS Contributors. SPDX-License-Identifier: Apache-2.0. Changed: written anew in Rattle, with the state
+// lent as head and buffers.
+use model::Called;
+use model::Head;
+use model::Sheet;
+ghost use mathlib.Core.Path.{_≡_};
+ghost use Prim.Native.Nat.{_≤_};
+ghost use lib.ListN.{length};
+ghost use Rattle.model.specs.Call.{coded, lentOf, leftOf};
+ghost use Rattle.model.specs.Calls.{callOfCode};
+
+// Codes 1 to 21: calls on the instances.
+pub fn instances(
+    s: Sheet,
+    head: Head,
+    pens: &mut [u8],
+    writers: &[u8],
+    lost: &[u8],
+    out: &mut [u8],
+) -> Called
+    requires { ⌜ (length (now pens) ≡ 65536) × (length (now writers) ≡ 5120) × (length (now lost) ≡ 4096) × (length (now out) ≡ 4096)
+        × (1 ≤ s .code) × (s .code ≤ 21) ⌝ }
+    ensures { λ r. ⌜ leftOf r (now (pens .exit)) (now (writers .entry)) (now (lost .entry)) (now (out .exit))
+        ≡ coded 128 (callOfCode (s .code)) s (lentOf head (now (pens .entry)) (now (writers .entry)) (now (lost .entry)) (now (out .entry))) ⌝ }
+{
+    let c = call_codes::instance_call(s.code);
+    if !lent_state::state_ok(head, pens, writers, lost, 128) {
+        return lent_state::refused(3, head);
+    }
+    instance_calls::instance_turn(c, s, head, pens, out, 128)
+}
+
+// Codes 32 to 40: calls on the writers.
+pub fn tracker(
+    s: Sheet,
+    head: Head,
+    pens: &[u8],
+    writers: &mut [u8],
+    lost: &mut [u8],
+    out: &mut [u8],
+) -> Called
+    requires { ⌜ (length (now pens) ≡ 65536) × (length (now writers) ≡ 5120) × (length (now lost) ≡ 4096) × (length (now out) ≡ 4096)
+        × (32 ≤ s .code) × (s .code ≤ 40) ⌝ }
+    ensures { λ r. ⌜ leftOf r (now (pens .entry)) (now (writers .exit)) (now (lost .exit)) (now (out .exit))
+        ≡ coded 128 (callOfCode (s .code)) s (lentOf head (now (pens .entry)) (now (writers .entry)) (now (lost .entry)) (now (out .entry))) ⌝ }
+{
+    let c = call_codes::tracker_call(s.code);
+    if !lent_state::state_ok(head, pens, writers, lost, 128) {
+        return lent_state::refused(3, head);
+    }
+    tracker_calls::tracker_turn(c, s, head, writers, lost, out)
+}
+
+// Codes 48 to 51: the joined calls.
+pub fn joined(
+    s: Sheet,
+    head: Head,
+    pens: &mut [u8],
+    writers: &mut [u8],
+    lost: &mut [u8],
+    out: &mut [u8],
+) -> Called
+    requires { ⌜ (length (now pens) ≡ 65536) × (length (now writers) ≡ 5120) × (length (now lost) ≡ 4096) × (length (now out) ≡ 4096)
+        × (48 ≤ s .code) × (s .code ≤ 51) ⌝ }
+    ensures { λ r. ⌜ leftOf r (now (pens .exit)) (now (writers .exit)) (now (lost .exit)) (now (out .exit))
+        ≡ coded 128 (callOfCode (s .code)) s (lentOf head (now (pens .entry)) (now (writers .entry)) (now (lost .entry)) (now (out .entry))) ⌝ }
+{
+    let c = call_codes::joined_call(s.code);
+    if !lent_state::state_ok(head, pens, writers, lost, 128) {
+        return lent_state::refused(3, head);
+    }
+    joined_calls::joined_turn(c, s, head, pens, writers, lost, out, 128)
+}
