@@ -130,6 +130,28 @@ pub fn read_head(b: &[u8]) -> Head
     }
 }
 
+// Whether bytes are those of a head.
+pub fn head_laid(b: &[u8]) -> bool
+    requires { ⌜ length (now b) ≡ 64 ⌝ }
+    ensures { λ r. ⌜ r ≡ headLaid (now (b .entry)) ⌝ }
+{
+    let present = octets::get_u16(b, 28);
+    let spare = octets::get_u16(b, 30);
+    if 2 <= present {
+        return false;
+    }
+    if spare != 0 {
+        return false;
+    }
+    if present == 1 {
+        return true;
+    }
+    if octets::get_u64(b, 48) != 0 {
+        return false;
+    }
+    octets::get_u64(b, 56) == 0
+}
+
 // ---- the answer
 
 // A yes as 1.
