@@ -1,0 +1,3 @@
+-- What the contracts of boundary cite.
+pub mod Layouts
+pub mod Parts
