@@ -2,12 +2,8 @@
 // many calls there were and how many disagreed. What it prints is compared with the file `stdout`.
 use libc::STDIN_FILENO;
 use libc::STDOUT_FILENO;
-use model::Answer;
 use model::Called;
 use model::Head;
-use model::InstanceHandle;
-use model::InstanceStateKind;
-use model::LastWriter;
 ghost use mathlib.Core.Path.{_≡_};
 ghost use Prim.Native.Nat.{_≤_};
 ghost use lib.ListN.{length};
@@ -42,13 +38,14 @@ fn run(
 ) -> Progress
     requires { ⌜ (length (now body) ≡ 4792) × (length (now pens) ≡ 66048) × (length (now writers) ≡ 5160) × (length (now lost) ≡ 4112) × (length (now out) ≡ 4112) ⌝ }
 {
+    let h = fresh_head(pens, writers, lost);
     let mut p = Progress {
         list: 0,
         calls: 0,
         wrong: 0,
         over: false,
         ended: false,
-        head: fresh_head(),
+        head: h,
     };
     let mut records: u64 = 0;
     while records < 10_000_000 {
@@ -124,6 +121,14 @@ fn size(front: &[u8]) -> usize
     if n < 4792 { n } else { 4792 }
 }
 
+// The last record of the file.
+fn ended(p: Progress) -> Progress {
+    let mut q = p;
+    q.over = true;
+    q.ended = true;
+    q
+}
+
 // How many calls there were, and how many disagreed.
 fn closing(p: Progress) {
     if !p.ended {
@@ -147,179 +152,6 @@ fn disagrees(p: Progress, what: &[u8]) -> Progress {
     let mut q = p;
     q.wrong = numbers::wrapping_add_u64(p.wrong, 1);
     q
-}
-
-// ---- head and answer in bytes, as docs/LISTS.md lays them out
-
-fn fresh_head() -> Head {
-    Head {
-        instance_count: 0,
-        next_handle: InstanceHandle(1),
-        writer_count: 0,
-        lost_count: 0,
-        alive: 0,
-        not_alive: 0,
-        alive_change: 0,
-        not_alive_change: 0,
-        last_writer: LastWriter::Nobody,
-        changes: 0,
-    }
-}
-
-// The last writer of a head's 64 bytes.
-fn read_last(b: &[u8]) -> LastWriter {
-    if b.len() != 64 {
-        return LastWriter::Nobody;
-    }
-    if octets::get_u16(b, 28) == 0 {
-        return LastWriter::Nobody;
-    }
-    let g = tables::key_at(b, 48);
-    LastWriter::Is(g)
-}
-
-// The head of 64 bytes.
-fn read_head(b: &[u8]) -> Head {
-    if b.len() != 64 {
-        return fresh_head();
-    }
-    let last = read_last(b);
-    let next = InstanceHandle(octets::get_u64(b, 32));
-    Head {
-        instance_count: octets::get_u32(b, 0),
-        next_handle: next,
-        writer_count: octets::get_u32(b, 4),
-        lost_count: octets::get_u32(b, 8),
-        alive: octets::get_u32(b, 12),
-        not_alive: octets::get_u32(b, 16),
-        alive_change: numbers::of_bits(octets::get_u32(b, 20)),
-        not_alive_change: numbers::of_bits(octets::get_u32(b, 24)),
-        last_writer: last,
-        changes: octets::get_u64(b, 40),
-    }
-}
-
-// The last writer's bytes of a head.
-fn write_last(b: &mut [u8], last: LastWriter) {
-    if b.len() != 64 {
-        return;
-    }
-    match last {
-        LastWriter::Nobody => {
-            octets::put_u16(b, 28, 0);
-        }
-        LastWriter::Is(g) => {
-            octets::put_u16(b, 28, 1);
-            octets::put_u64(b, 48, g.hi);
-            octets::put_u64(b, 56, g.lo);
-        }
-    }
-}
-
-// The counts of a head.
-fn write_head_counts(b: &mut [u8], h: Head) {
-    if b.len() != 64 {
-        return;
-    }
-    octets::put_u32(b, 0, h.instance_count);
-    octets::put_u32(b, 4, h.writer_count);
-    octets::put_u32(b, 8, h.lost_count);
-    octets::put_u32(b, 12, h.alive);
-    octets::put_u32(b, 16, h.not_alive);
-}
-
-// The changes and the next handle of a head.
-fn write_head_changes(b: &mut [u8], h: Head) {
-    if b.len() != 64 {
-        return;
-    }
-    let next = h.next_handle;
-    octets::put_u32(b, 20, numbers::bits_of(h.alive_change));
-    octets::put_u32(b, 24, numbers::bits_of(h.not_alive_change));
-    octets::put_u64(b, 32, next.0);
-    octets::put_u64(b, 40, h.changes);
-}
-
-// The 64 bytes of a head.
-fn write_head(b: &mut [u8], h: Head) {
-    if b.len() != 64 {
-        return;
-    }
-    octets::clear(b, 0, 64);
-    let last = h.last_writer;
-    write_head_counts(b, h);
-    write_head_changes(b, h);
-    write_last(b, last);
-}
-
-fn bit(b: bool) -> u8 {
-    if b { 1 } else { 0 }
-}
-
-fn kind_number(k: InstanceStateKind) -> u8 {
-    match k {
-        InstanceStateKind::Alive => 0,
-        InstanceStateKind::NotAliveDisposed => 1,
-        InstanceStateKind::NotAliveNoWriters => 2,
-    }
-}
-
-// The yes and no of an answer's 72 bytes, and its numbers of one byte.
-fn write_bits(b: &mut [u8], a: Answer) {
-    if b.len() != 72 {
-        return;
-    }
-    let info = a.info;
-    let kind = info.kind;
-    octets::put_u8(b, 0, a.number);
-    octets::put_u8(b, 1, a.outcome);
-    octets::put_u8(b, 2, bit(a.yes));
-    octets::put_u8(b, 3, bit(a.present));
-    octets::put_u8(b, 4, bit(info.view_new));
-    octets::put_u8(b, 5, kind_number(kind));
-}
-
-// The counts of an instance and of a list.
-fn write_counts(b: &mut [u8], a: Answer) {
-    if b.len() != 72 {
-        return;
-    }
-    let info = a.info;
-    octets::put_u32(b, 16, a.samples);
-    octets::put_u32(b, 20, info.disposed_generations);
-    octets::put_u32(b, 24, info.no_writers_generations);
-    octets::put_u32(b, 28, a.count);
-    octets::put_u32(b, 32, a.listed);
-}
-
-// The status.
-fn write_status(b: &mut [u8], a: Answer) {
-    if b.len() != 72 {
-        return;
-    }
-    let status = a.status;
-    let publication = status.last_publication_handle;
-    octets::put_u32(b, 36, status.alive_count);
-    octets::put_u32(b, 40, status.not_alive_count);
-    octets::put_u32(b, 44, numbers::bits_of(status.alive_count_change));
-    octets::put_u32(b, 48, numbers::bits_of(status.not_alive_count_change));
-    octets::put_u64(b, 64, publication.0);
-}
-
-// The 72 bytes of an answer.
-fn write_answer(b: &mut [u8], a: Answer) {
-    if b.len() != 72 {
-        return;
-    }
-    octets::clear(b, 0, 72);
-    let due = a.next_due;
-    let h = a.handle;
-    octets::put_u8(b, 6, bit(due.present));
-    octets::put_u64(b, 8, h.0);
-    octets::put_u64(b, 56, due.at);
-    write_bits(b, a);
-    write_counts(b, a);
-    write_status(b, a);
 }
 
 // ---- records
@@ -441,13 +273,13 @@ fn answers(p: Progress, body: &[u8], called: Called) -> Progress {
     let mut q = p;
     let mut answer = [0u8; 72];
     let a = called.answer;
-    write_answer(&mut answer, a);
+    boundary::write_answer(&mut answer, a);
     if !same(&answer, &body[48..120]) {
         q = disagrees(q, b"answer");
     }
     let mut head = [0u8; 64];
     let h = called.head;
-    write_head(&mut head, h);
+    boundary::write_head(&mut head, h);
     if !same(&head, &body[120..184]) {
         q = disagrees(q, b"head");
     }
@@ -562,22 +394,38 @@ fn call(
     made(p, body, n, &body[184..end], pens, writers, lost, out)
 }
 
-// A new list: the head is fresh, the buffers zero.
-fn begin(
-    p: Progress,
-    body: &[u8],
-    pens: &mut [u8],
-    writers: &mut [u8],
-    lost: &mut [u8],
-) -> Progress {
+// The state is fresh: the fronts of the buffers by the entry, what is lent beyond them zero.
+fn fresh_head(pens: &mut [u8], writers: &mut [u8], lost: &mut [u8]) -> Head
+    requires { ⌜ (length (now pens) ≡ 66048) × (length (now writers) ≡ 5160) × (length (now lost) ≡ 4112) ⌝ }
+{
+    octets::clear(pens, 65536, 512);
+    octets::clear(writers, 5120, 40);
+    octets::clear(lost, 4096, 16);
+    let r = dcps::fresh(&mut pens[..65536], &mut writers[..5120], &mut lost[..4096]);
+    let h = r.head;
+    h
+}
+
+// A new list, from the fresh state.
+fn begin(p: Progress, body: &[u8], pens: &mut [u8], writers: &mut [u8], lost: &mut [u8]) -> Progress
+    requires { ⌜ (length (now pens) ≡ 66048) × (length (now writers) ≡ 5160) × (length (now lost) ≡ 4112) ⌝ }
+{
+    let h = fresh_head(pens, writers, lost);
     let mut q = p;
+    q.head = h;
     if 4 <= body.len() {
         q.list = octets::get_u32(body, 0) as u64;
     }
-    octets::clear(pens, 0, pens.len());
-    octets::clear(writers, 0, writers.len());
-    octets::clear(lost, 0, lost.len());
-    let h = fresh_head();
+    q
+}
+
+// A head record.
+fn headed(p: Progress, body: &[u8]) -> Progress {
+    if body.len() != 64 {
+        return p;
+    }
+    let h = boundary::read_head(body);
+    let mut q = p;
     q.head = h;
     q
 }
@@ -630,18 +478,9 @@ fn record(
             change(body, pens, writers, lost);
             p
         }
-        4 => {
-            let h = read_head(body);
-            let mut q = p;
-            q.head = h;
-            q
-        }
+        4 => headed(p, body),
         5 => call(p, body, pens, writers, lost, out),
         6 => expect(p, body, pens, writers, lost),
-        _ => {
-            let mut q = finished(p);
-            q.ended = true;
-            q
-        }
+        _ => ended(p),
     }
 }
