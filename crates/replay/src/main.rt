@@ -394,13 +394,19 @@ fn call(
     made(p, body, n, &body[184..end], pens, writers, lost, out)
 }
 
-// The state is fresh: the fronts of the buffers by the entry, what is lent beyond them zero.
-fn fresh_head(pens: &mut [u8], writers: &mut [u8], lost: &mut [u8]) -> Head
+// What stands beyond the lengths of section 2 becomes zero.
+fn clear_rest(pens: &mut [u8], writers: &mut [u8], lost: &mut [u8])
     requires { ⌜ (length (now pens) ≡ 66048) × (length (now writers) ≡ 5160) × (length (now lost) ≡ 4112) ⌝ }
 {
     octets::clear(pens, 65536, 512);
     octets::clear(writers, 5120, 40);
     octets::clear(lost, 4096, 16);
+}
+
+// The fronts of the buffers become those of the fresh state.
+fn fresh_head(pens: &mut [u8], writers: &mut [u8], lost: &mut [u8]) -> Head
+    requires { ⌜ (length (now pens) ≡ 66048) × (length (now writers) ≡ 5160) × (length (now lost) ≡ 4112) ⌝ }
+{
     let r = dcps::fresh(&mut pens[..65536], &mut writers[..5120], &mut lost[..4096]);
     let h = r.head;
     h
@@ -410,6 +416,7 @@ fn fresh_head(pens: &mut [u8], writers: &mut [u8], lost: &mut [u8]) -> Head
 fn begin(p: Progress, body: &[u8], pens: &mut [u8], writers: &mut [u8], lost: &mut [u8]) -> Progress
     requires { ⌜ (length (now pens) ≡ 66048) × (length (now writers) ≡ 5160) × (length (now lost) ≡ 4112) ⌝ }
 {
+    clear_rest(pens, writers, lost);
     let h = fresh_head(pens, writers, lost);
     let mut q = p;
     q.head = h;

@@ -29,8 +29,8 @@ slice-relend-prefix-call-4 c = search needs
 slice-aggregate-call-4 : tie.Need-slice-aggregate-call-4
 slice-aggregate-call-4 c = let d = c .before .before .before .before .before .before .before .before .before in sym (length-take-le (d .args .n .out) (d .args .out .now) (d .pre .3))
 
-turn-requires : tie.Need-turn-requires
-turn-requires c κs = search needs
+call-requires : tie.Need-call-requires
+call-requires c κs = search needs
 
 same-length : tie.Need-same-length
 same-length c = search needs
@@ -59,7 +59,7 @@ lent-turn-spec =
     slice-aggregate-call-3
     slice-relend-prefix-call-4
     slice-aggregate-call-4
-    turn-requires
+    call-requires
     same-length
     same-length-2
     same-length-3
