@@ -31,12 +31,16 @@ abbrev pub lastWriter : ℕ → Guid → LastWriter
 lastWriter zero g = Nobody
 lastWriter (suc n) g = Is g
 
--- ---- the head
+-- ---- the head (widths and values line by line)
 
 -- 0 instance count, 4 writer count, 8 lost count, 12 alive, 16 not alive, 20 alive change, 24 not alive change,
 -- 28 last writer present, 30 spare, 32 next handle, 40 changes, 48 the last writer's GUID
 abbrev pub headWidths : List ℕ
-headWidths = 4 ∷ 4 ∷ 4 ∷ 4 ∷ 4 ∷ 4 ∷ 4 ∷ 2 ∷ 2 ∷ 8 ∷ 8 ∷ 8 ∷ 8 ∷ []
+headWidths =
+    4 ∷ 4 ∷ 4 ∷ 4 ∷ 4
+    ∷ 4 ∷ 4
+    ∷ 2 ∷ 2 ∷ 8 ∷ 8
+    ∷ 8 ∷ 8 ∷ []
 
 abbrev pub headValues : Head → List ℕ
 headValues h =
@@ -72,16 +76,20 @@ headLaid b =
     && (eqb (be 2 b 30) 0
     && (eqb (be 2 b 28) 1 || (eqb (be 8 b 48) 0 && eqb (be 8 b 56) 0)))
 
--- ---- the answer
+-- ---- the answer (widths and values line by line)
 
 -- 0 number, 1 outcome, 2 yes, 3 present, 4 view-new, 5 kind, 6 next due present, 7 zero, 8 handle, 16 samples,
 -- 20 disposed generations, 24 no-writers generations, 28 count, 32 listed, 36 alive, 40 not alive, 44 alive change,
 -- 48 not alive change, 52 zero, 56 next due, 64 last publication handle
 abbrev pub answerWidths : List ℕ
 answerWidths =
-    1 ∷ 1 ∷ 1 ∷ 1 ∷ 1 ∷ 1 ∷ 1 ∷ 1 ∷ 8 ∷ 4
-    ∷ 4 ∷ 4 ∷ 4 ∷ 4 ∷ 4 ∷ 4 ∷ 4
-    ∷ 4 ∷ 4 ∷ 8 ∷ 8 ∷ []
+    1 ∷ 1 ∷ 1 ∷ 1
+    ∷ 1 ∷ 1 ∷ 1 ∷ 1
+    ∷ 8 ∷ 4
+    ∷ 4 ∷ 4 ∷ 4 ∷ 4
+    ∷ 4 ∷ 4
+    ∷ 4 ∷ 4 ∷ 4
+    ∷ 8 ∷ 8 ∷ []
 
 abbrev pub answerValues : Answer → List ℕ
 answerValues a =
