@@ -1,26 +1,18 @@
 -- The status by value.
-use Prim.Native.Nat.{ℕ, _+_}
-use mathlib.Core.Bool.{Bool, true, _&&_}
+use Prim.Native.Nat.{ℕ}
+use mathlib.Core.Bool.{true}
 use mathlib.Core.Path.{_≡_}
 use mathlib.Core.List.{List}
 use lib.IntN.{ℤ}
-use lib.Dec.{leb, ltb}
 use Rattle.model.specs.declared.Called.{Called}
 use Rattle.model.specs.declared.Head.{Head}
 use Rattle.model.specs.declared.Sheet.{Sheet}
 use Rattle.model.specs.declared.TrackerCall.{TrackerCall}
 use Rattle.model.specs.InstanceCalls.{Turned}
-use Rattle.model.specs.State.{writerPlaces, lostPlaces, headOf, writersIn}
+use Rattle.model.specs.State.{headOf, writersIn}
 use Rattle.model.specs.WellFormed.{countsOk}
 use Rattle.model.specs.Writers.{trackerCall}
 use Rattle.liveliness_turns.specs.Held.{heldBy}
-
--- the counts of a head are such as buffers can have: what model's headAlone asks beside headOk, for 128 instances
-abbrev pub countsFit : Head → Bool
-countsFit h =
-    leb (h .«instance_count») 128 && (ltb (h .«instance_count») (h .«next_handle» .0)
-    && (leb (h .«writer_count») writerPlaces && (leb (h .alive + h .«not_alive») (h .«writer_count»)
-    && leb (h .«lost_count») lostPlaces)))
 
 -- the head with both changes and the number of GUIDs in Lost anew
 abbrev pub changedHead : Head → ℕ → ℤ → ℤ → Head

@@ -1,144 +1,24 @@
-// The status by value: codes 39 and 40, what refusals 7 and 8 ask, the reads `status` and `changes`, and whether a head is
-// well formed. Each is as model's definition says. Rests on model, numbers, instance_handle and liveliness_counts.
+// The status by value: codes 39 and 40, and what refusal 8 asks. Each is as model's definition says. Rests on model, numbers,
+// tracker_state and liveliness_counts.
 //
 // Derives from liveliness_tracker.rs of ZeroDDS (DDS 1.4, 2.2.4.1).
 // Copyright 2026 ZeroDDS Contributors. SPDX-License-Identifier: Apache-2.0. Changed: written anew in Rattle, the tracker's
 // fields as the head by value, the reported changes as the sheet's bits.
 use model::Called;
-use model::ChangesRead;
 use model::Head;
-use model::InstanceHandle;
-use model::LastWriter;
-use model::LivelinessChangedStatus;
 use model::Sheet;
-use model::StatusRead;
-ghost use mathlib.Core.Bool.{true, _&&_};
+ghost use mathlib.Core.Bool.{true};
 ghost use mathlib.Core.List.{List};
 ghost use mathlib.Core.Path.{_≡_};
 ghost use Prim.Native.Nat.{ℕ, _≤_};
-ghost use lib.Dec.{eqb};
 ghost use lib.IntN.{pos, _+ℤ_, _-ℤ_};
 ghost use mir.Syntax.{w32};
 ghost use mir.Val.{toZ};
-ghost use Rattle.model.specs.declared.TrackerCall.the-variants.{TakeStatus, Acknowledge, Matched};
-ghost use Rattle.model.specs.Calls.{tracker};
-ghost use Rattle.model.specs.Reads.{headAlone, headStatus, statusRead, changesRead};
-ghost use Rattle.model.specs.Refusals.{kindOk};
+ghost use Rattle.model.specs.declared.TrackerCall.the-variants.{TakeStatus, Acknowledge};
 ghost use Rattle.model.specs.WellFormed.{within, headOk};
-ghost use Rattle.model.specs.Writers.{publication, acknowledgeable};
+ghost use Rattle.model.specs.Writers.{acknowledgeable};
 ghost use Rattle.liveliness_turns.specs.Held.{heldBy};
-ghost use Rattle.liveliness_status.specs.Status.{countsFit, changedHead, Keeps};
-
-// The handle of the last writer, nil where there is none.
-fn publication(last: LastWriter) -> InstanceHandle
-    ensures { λ r. ⌜ r ≡ publication last ⌝ }
-{
-    match last {
-        LastWriter::Nobody => InstanceHandle(0),
-        LastWriter::Is(g) => instance_handle::from_guid(g),
-    }
-}
-
-// The status as the head has it.
-fn head_status(head: Head) -> LivelinessChangedStatus
-    ensures { λ r. ⌜ r ≡ headStatus head ⌝ }
-{
-    let last = head.last_writer;
-    let handle = publication(last);
-    let alive_change = head.alive_change;
-    let not_alive_change = head.not_alive_change;
-    LivelinessChangedStatus {
-        alive_count: head.alive,
-        not_alive_count: head.not_alive,
-        alive_count_change: alive_change,
-        not_alive_count_change: not_alive_change,
-        last_publication_handle: handle,
-    }
-}
-
-// What is acknowledged of a count lies within its bound.
-fn acknowledged_within(count: u32, change: i32) -> bool
-    ensures { λ r. ⌜ r ≡ within (pos count -ℤ change) ⌝ }
-{
-    numbers::within_bound(numbers::acknowledged(count, change))
-}
-
-// Whether the head alone is well formed: the next handle and both acknowledged amounts.
-pub fn head_ok(head: Head) -> bool
-    ensures { λ r. ⌜ r ≡ headOk head ⌝ }
-{
-    let next = head.next_handle;
-    let handle = next.0;
-    if handle < 1 {
-        return false;
-    }
-    if 0x8000_0000_0000_0000 < handle {
-        return false;
-    }
-    if acknowledged_within(head.alive, head.alive_change) {
-        return acknowledged_within(head.not_alive, head.not_alive_change);
-    }
-    false
-}
-
-// Whether the counts of a head are such as buffers can have.
-fn counts_fit(head: Head) -> bool
-    ensures { λ r. ⌜ r ≡ countsFit head ⌝ }
-{
-    let next = head.next_handle;
-    if 128 < head.instance_count {
-        return false;
-    }
-    if next.0 <= head.instance_count as u64 {
-        return false;
-    }
-    if 128 < head.writer_count {
-        return false;
-    }
-    if (head.writer_count as u64) < head.alive as u64 + head.not_alive as u64 {
-        return false;
-    }
-    head.lost_count <= 256
-}
-
-// Whether some buffers make the head well formed.
-fn head_alone(head: Head) -> bool
-    ensures { λ r. ⌜ r ≡ headAlone 128 head ⌝ }
-{
-    if head_ok(head) {
-        return counts_fit(head);
-    }
-    false
-}
-
-// The status as it stands, without resetting its changes.
-pub fn status(head: Head) -> StatusRead
-    ensures { λ r. ⌜ r ≡ statusRead 128 head ⌝ }
-{
-    if head_alone(head) {
-        StatusRead::Is(head_status(head))
-    } else {
-        StatusRead::Refused(3)
-    }
-}
-
-// How many times a class has changed, modulo 2^64.
-pub fn changes(head: Head) -> ChangesRead
-    ensures { λ r. ⌜ r ≡ changesRead 128 head ⌝ }
-{
-    if head_alone(head) {
-        ChangesRead::Is(head.changes)
-    } else {
-        ChangesRead::Refused(3)
-    }
-}
-
-// Refusal 7: whether the kind on the sheet is one, which a match asks.
-pub fn kind_ok(sheet: Sheet) -> bool
-    ensures { λ r. ⌜ r ≡ kindOk (tracker Matched) sheet ⌝ }
-{
-    sheet.kind != 3
-}
+ghost use Rattle.liveliness_status.specs.Status.{changedHead, Keeps};
 
 // What is acknowledged of a count once a part more is.
 fn acknowledged_after(count: u32, change: i32, part: u32) -> i64
@@ -202,7 +82,7 @@ pub fn take_status(sheet: Sheet, head: Head) -> Called
     ensures { λ r. ⌜ Keeps TakeStatus sheet head r ⌝ }
 {
     let due = liveliness_counts::no_due();
-    let a = liveliness_counts::answer(0, false, 0, due, head_status(head));
+    let a = liveliness_counts::answer(0, false, 0, due, tracker_state::head_status(head));
     let h = with_changes(head, head.lost_count, 0, 0);
     Called { answer: a, head: h }
 }
