@@ -36,7 +36,8 @@ use Rattle.turns.proofs.Finds.{find-only, find-nowhere}
 use Rattle.turns.proofs.Keys.{missing-nowhere, missing-le}
 use Rattle.instance_state.specs.Effects.{Usable, Room}
 use Rattle.instance_table.specs.Laid.{Laid}
-use Rattle.instance_tracker.specs.Turned.{Ready, Left, stateWith, blank, withState}
+use Rattle.instance_table.specs.TableCalls.{Ready, stateWith}
+use Rattle.instance_tracker.specs.Turned.{Left, blank, withState}
 use Rattle.instance_tracker.proofs.Table.{ready-length, ready-rises, ready-few, ready-laid, ready-place, ready-read, ready-usable, ready-room}
 use Rattle.admission.specs.Admits.{Admits, Known, Timely, Noted, limited}
 use Rattle.admission.proofs.Admitted.{leaving, answersOf, admitted-known, admitted-new}

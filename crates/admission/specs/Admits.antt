@@ -18,8 +18,9 @@ use Rattle.model.specs.Instances.{hasKey, admittedObserved, admittedNoted}
 use Rattle.model.specs.Joined.{admitCall, inOrder, passesFilter}
 use Rattle.model.specs.Times.{negative}
 use Rattle.turns.specs.Places.{Only}
-use Rattle.instance_tracker.specs.declared.TableCall.{TableCall}
-use Rattle.instance_tracker.specs.Turned.{Left, stateWith, blank, withState}
+use Rattle.instance_table.specs.declared.TableCall.{TableCall}
+use Rattle.instance_table.specs.TableCalls.{stateWith}
+use Rattle.instance_tracker.specs.Turned.{Left, blank, withState}
 
 -- r and t are what admit leaves of the instances xs
 abbrev pub Admits : ℕ → Sheet → List Instance → ℕ → TableCall → List ℕ → Type 0

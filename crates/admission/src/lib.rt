@@ -8,7 +8,7 @@
 // Derives from instance_tracker.rs of ZeroDDS.
 // Copyright 2026 ZeroDDS Contributors. SPDX-License-Identifier: Apache-2.0. Changed: written anew in Rattle, with the
 // reader's calls for one sample joined into one call.
-use instance_tracker::TableCall;
+use instance_table::TableCall;
 use model::Answer;
 use model::Instance;
 use model::InstanceHandle;
@@ -30,7 +30,8 @@ ghost use Rattle.tables.specs.declared.Found.the-variants.{Missing};
 ghost use Rattle.tables.specs.Found.{foundIn};
 ghost use Rattle.turns.specs.Places.{Only};
 ghost use Rattle.instance_state.specs.Effects.{Usable, Room};
-ghost use Rattle.instance_tracker.specs.Turned.{Ready, Left, stateWith, blank};
+ghost use Rattle.instance_table.specs.TableCalls.{Ready, stateWith};
+ghost use Rattle.instance_tracker.specs.Turned.{Left, blank};
 ghost use Rattle.admission.specs.Admits.{Admits, Known, Timely, Noted, limited};
 
 // ---- the answers

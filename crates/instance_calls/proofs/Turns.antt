@@ -23,11 +23,10 @@ use Rattle.model.specs.InstanceCalls.{Turned, instanceCall}
 use Rattle.model.specs.Instances.{Reach, byKey, startingByKey, startingWithin, byHandle, every}
 use Rattle.model.specs.Refusals.{sheetRefusal}
 use Rattle.model.specs.State.{Lent, State, stateOf, instancesIn}
+use Rattle.instance_table.specs.declared.TableCall.{TableCall}
 use Rattle.instance_table.specs.Laid.{Laid}
-use Rattle.instance_tracker.specs.declared.TableCall.{TableCall as SingleCall}
 use Rattle.instance_tracker.specs.Rules.{single}
 use Rattle.instance_tracker.specs.Turned.{Left as SingleLeft}
-use Rattle.instance_pass.specs.declared.TableCall.{TableCall as EveryCall}
 use Rattle.instance_pass.specs.EveryCalls.{Left as EveryLeft}
 use Rattle.instance_pass.specs.Steps.{isEvery}
 use Rattle.call_laws.specs.Entered.{InstancesJudged}
@@ -74,11 +73,11 @@ module _ (places : ℕ) (c : InstanceCall) (s : Sheet) (head : Head) (pens out :
         (range-left places (instances c) s l h (fine (stateOf l)) turned (instance-graft places c s (stateOf l)) (instance-outcome places c s (lentTable head pens))
         a n next pens′ out′ ea en eh (laid .laid) eo)
 
-    pub every-judged : (out′ : List ℕ) (t : EveryCall) → EveryLeft places turned out t pens′ out′ →
+    pub every-judged : (out′ : List ℕ) (t : TableCall) → EveryLeft places turned out t pens′ out′ →
         r ≡ called (t .answer) (headWith head (t .count) (t .«next_handle»)) → InstancesJudged places c s head pens out r pens′ out′
     every-judged out′ t l e = table-judged (t .answer) (t .count) (t .«next_handle») out′ (l .answer) (l .count) (l .next) (l .laid) (l .list) e
 
-    pub single-judged : (t : SingleCall) → SingleLeft places turned t pens′ →
+    pub single-judged : (t : TableCall) → SingleLeft places turned t pens′ →
         r ≡ called (t .answer) (headWith head (t .count) (t .«next_handle»)) → InstancesJudged places c s head pens out r pens′ out
     single-judged t l e =
         table-judged (t .answer) (t .count) (t .«next_handle») out (l .answer) (l .count) (l .next) (l .laid) (quiet-out (turned .list) out (l .quiet)) e

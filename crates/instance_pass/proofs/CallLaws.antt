@@ -43,7 +43,8 @@ use Rattle.instance_pass.specs.declared.Passing.the-variants.{Call, Loss
 use Rattle.instance_pass.specs.declared.Tally.{Tally}
 use Rattle.instance_pass.specs.Steps.{onEvery, reportOf}
 use Rattle.instance_pass.specs.Passes.{remaining, listing, amount, total, UsableIn, Passed}
-use Rattle.instance_pass.specs.EveryCalls.{answerAs, Ready, stateWith, Left}
+use Rattle.instance_table.specs.TableCalls.{Ready, stateWith}
+use Rattle.instance_pass.specs.EveryCalls.{answerAs, Left}
 use Rattle.instance_pass.proofs.ListLaws.{total-pick}
 use Rattle.instance_pass.proofs.StepLaws.{every-cases, counted-le}
 

@@ -1,24 +1,19 @@
--- What a call on every instance asks of the lent table, and what it leaves.
+-- What a call on every instance leaves.
 --     answerAs      the answer, from what was reported of the instances
---     Ready         the table is well formed
 --     Left          what comes back, the table and Out are what is left of a turn
 -- Rests on model's calls and on instance_table's layout.
-use Prim.Native.Nat.{ℕ, _*_, _≤_}
-use mathlib.Core.Bool.{true}
+use Prim.Native.Nat.{ℕ}
 use mathlib.Core.List.{List}
 use mathlib.Core.Path.{_≡_}
 use lib.ListN.{length}
 use Rattle.model.specs.declared.Answer.{Answer}
-use Rattle.model.specs.declared.Instance.{Instance}
 use Rattle.model.specs.Answers.{silent, counting, listing}
 use Rattle.model.specs.Call.{listIn}
-use Rattle.model.specs.InstanceCalls.{Turned, withInstances}
-use Rattle.model.specs.State.{State, freshState}
-use Rattle.model.specs.WellFormed.{instanceTableOk}
+use Rattle.model.specs.InstanceCalls.{Turned}
+use Rattle.instance_table.specs.declared.TableCall.{TableCall}
 use Rattle.instance_table.specs.Laid.{Laid}
 use Rattle.instance_pass.specs.declared.Report.{Report}
 use Rattle.instance_pass.specs.declared.Report.the-variants.{Nothing, Left as IsLeft, Owner, Prefix, Purge}
-use Rattle.instance_pass.specs.declared.TableCall.{TableCall}
 
 -- how many are listed, or counted
 abbrev pub answerAs : Report → ℕ → ℕ → Answer
@@ -27,16 +22,6 @@ answerAs IsLeft listed counted = listing listed
 answerAs Owner listed counted = counting counted
 answerAs Prefix listed counted = counting counted
 answerAs Purge listed counted = counting counted
-
--- the table is well formed, with so many instances and that next handle
-pub record Ready (places count next : ℕ) (t : List ℕ) : Type 0 where
-  pub few : places ≤ 128
-  pub size : length t ≡ places * 512
-  pub formed : instanceTableOk places count next t ≡ true
-
--- the state of which these instances and the next handle are all
-abbrev pub stateWith : List Instance → ℕ → State
-stateWith xs next = withInstances xs next freshState
 
 -- r, the table t and out are what is left of the turn T, which was lent this Out
 pub record Left (places : ℕ) (T : Turned) (lent : List ℕ) (r : TableCall) (t out : List ℕ) : Type 0 where

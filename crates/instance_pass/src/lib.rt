@@ -5,6 +5,7 @@
 // Derives from instance_tracker.rs of ZeroDDS.
 // Copyright 2026 ZeroDDS Contributors. SPDX-License-Identifier: Apache-2.0. Changed: written anew in Rattle, with the
 // instances as a table of records in lent bytes and every such call as a step on each.
+use instance_table::TableCall;
 use model::Answer;
 use model::Guid;
 use model::Instance;
@@ -28,7 +29,8 @@ ghost use Rattle.model.specs.State.{instancesIn};
 ghost use Rattle.writer_set.specs.Places.{Sound};
 ghost use Rattle.instance_record.specs.Parts.{recordAt};
 ghost use Rattle.instance_state.specs.Effects.{Usable};
-ghost use Rattle.instance_pass.specs.EveryCalls.{answerAs, Ready, stateWith, Left};
+ghost use Rattle.instance_table.specs.TableCalls.{Ready, stateWith};
+ghost use Rattle.instance_pass.specs.EveryCalls.{answerAs, Left};
 ghost use Rattle.instance_pass.specs.Passes.{UsableIn, keptAt, withStep, Ahead, Turned, Passed};
 ghost use Rattle.instance_pass.specs.Steps.{onEvery, Passable, gonesIn, reportOf, countedAs, listedAs, counts, leftIn, listedIn, countedIn, remains, Stepped, lostOne};
 
@@ -60,13 +62,6 @@ pub struct Tally {
     pub kept: usize,
     pub listed: usize,
     pub counted: usize,
-}
-
-// What a call leaves by value.
-pub struct TableCall {
-    pub answer: Answer,
-    pub count: u32,
-    pub next_handle: InstanceHandle,
 }
 
 // ---- the step of a call

@@ -5,6 +5,7 @@
 // Derives from instance_tracker.rs of ZeroDDS.
 // Copyright 2026 ZeroDDS Contributors. SPDX-License-Identifier: Apache-2.0. Changed: written anew in Rattle, with the map of
 // instances as a table of records in lent bytes.
+use model::Answer;
 use model::Guid;
 use model::Instance;
 use model::InstanceHandle;
@@ -23,6 +24,13 @@ ghost use Rattle.model.specs.WellFormed.{instanceOk, otherHandle, handleBelow, 
 ghost use Rattle.tables.specs.Found.{foundIn};
 ghost use Rattle.turns.specs.Places.{placeOf};
 ghost use Rattle.instance_table.specs.Laid.{handleAt, Laid};
+
+// What a call on the table leaves by value.
+pub struct TableCall {
+    pub answer: Answer,
+    pub count: u32,
+    pub next_handle: InstanceHandle,
+}
 
 // ---- well-formedness
 

@@ -52,9 +52,10 @@ use Rattle.instance_state.proofs.Valid.{usable, valid-parts, started-valid}
 use Rattle.instance_table.specs.Laid.{Laid}
 use Rattle.instance_table.proofs.LaidOut.{Formed, table-formed, table-laid}
 use Rattle.instance_table.proofs.Rows.{get-read}
-use Rattle.instance_tracker.specs.declared.TableCall.{TableCall}
 use Rattle.instance_tracker.specs.Rules.{single, handled, saysOf, answerOf}
-use Rattle.instance_tracker.specs.Turned.{Ready, left, Left, Turned, stateWith, blank, Acted, Reached, Absent, Starts}
+use Rattle.instance_table.specs.declared.TableCall.{TableCall}
+use Rattle.instance_table.specs.TableCalls.{Ready, left, stateWith}
+use Rattle.instance_tracker.specs.Turned.{Left, Turned, blank, Acted, Reached, Absent, Starts}
 use Rattle.instance_tracker.proofs.Acting.{room}
 use Rattle.instance_tracker.proofs.Turns.{of-call, key-reach, handle-reach, starts-is, and-false, call-found, call-crowded, call-none, call-limited, call-full, call-spent, call-started}
 

@@ -1,51 +1,33 @@
 -- What a call on one instance asks of the lent table, and what it leaves.
---     Ready             the table is well formed
---     left              what a call leaves by value
 --     Left, Turned      what comes back and what the table then holds is what model's call leaves
 --     Acted             what a call leaves of an instance
 --     Reached, Absent, Starts
 --                       the instance that a call reaches stands at a place; it reaches none; it starts one there
 -- Rests on model's calls and on instance_table's layout.
-use Prim.Native.Nat.{ℕ, _*_, _≤_, _<_}
+use Prim.Native.Nat.{ℕ, _<_}
 use mathlib.Core.Bool.{true, false, not, _&&_}
 use mathlib.Core.List.{List, [], map}
 use mathlib.Core.Option.{some}
 use mathlib.Core.Path.{_≡_}
 use lib.ListN.{length}
-use Rattle.model.specs.declared.Answer.{Answer}
 use Rattle.model.specs.declared.Instance.{Instance}
 use Rattle.model.specs.declared.InstanceCall.{InstanceCall}
-use Rattle.model.specs.declared.InstanceHandle.{InstanceHandle}
 use Rattle.model.specs.declared.InstanceState.{InstanceState}
 use Rattle.model.specs.declared.Sheet.{Sheet}
 use Rattle.model.specs.Guids.{num}
-use Rattle.model.specs.InstanceCalls.{instanceCall, withInstances}
+use Rattle.model.specs.InstanceCalls.{instanceCall}
 use Rattle.model.specs.InstanceCalls as calls
 use Rattle.model.specs.InstanceRecord.{instanceOf}
 use Rattle.model.specs.Instances.{effect, rule, hasKey, reaches, startsBy}
-use Rattle.model.specs.State.{State, freshState, instanceKey}
+use Rattle.model.specs.State.{instanceKey}
 use Rattle.model.specs.Tables.{any}
-use Rattle.model.specs.WellFormed.{instanceTableOk}
 use Rattle.tables.specs.declared.Found.the-variants.{Missing}
 use Rattle.tables.specs.Found.{foundIn}
 use Rattle.turns.specs.Places.{Only, Nowhere}
+use Rattle.instance_table.specs.declared.TableCall.{TableCall}
 use Rattle.instance_table.specs.Laid.{Laid}
-use Rattle.instance_tracker.specs.declared.TableCall.{TableCall}
+use Rattle.instance_table.specs.TableCalls.{stateWith}
 use Rattle.instance_tracker.specs.Rules.{single}
-
--- the table is well formed, with so many instances and that next handle
-pub record Ready (places count next : ℕ) (t : List ℕ) : Type 0 where
-  pub few : places ≤ 128
-  pub size : length t ≡ places * 512
-  pub formed : instanceTableOk places count next t ≡ true
-
--- what a call leaves by value
-abbrev pub left : Answer → ℕ → InstanceHandle → TableCall
-left a count next = record { answer = a; count = count; «next_handle» = next }
-
--- the state of which these instances and the next handle are all
-abbrev pub stateWith : List Instance → ℕ → State
-stateWith xs next = withInstances xs next freshState
 
 -- r, and the table t, are what is left of the turn T, which lists nothing
 pub record Left (places : ℕ) (T : calls.Turned) (r : TableCall) (t : List ℕ) : Type 0 where

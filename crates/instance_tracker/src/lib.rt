@@ -6,6 +6,7 @@
 // Derives from instance_tracker.rs of ZeroDDS.
 // Copyright 2026 ZeroDDS Contributors. SPDX-License-Identifier: Apache-2.0. Changed: written anew in Rattle, with the
 // instances as a table of records in lent bytes and each call as a way to reach an instance and an effect on it.
+use instance_table::TableCall;
 use model::Answer;
 use model::Instance;
 use model::InstanceCall;
@@ -25,14 +26,8 @@ ghost use Rattle.model.specs.State.{instancesIn};
 ghost use Rattle.model.specs.Times.{negative};
 ghost use Rattle.instance_state.specs.Effects.{Usable, Room};
 ghost use Rattle.instance_tracker.specs.Rules.{single, handled, saysOf, answerOf, atKey, atHandle, starting, ruleOf};
-ghost use Rattle.instance_tracker.specs.Turned.{left, Ready, Turned, Acted, Reached, Starts};
-
-// What a call leaves by value.
-pub struct TableCall {
-    pub answer: Answer,
-    pub count: u32,
-    pub next_handle: InstanceHandle,
-}
+ghost use Rattle.instance_table.specs.TableCalls.{Ready, left};
+ghost use Rattle.instance_tracker.specs.Turned.{Turned, Acted, Reached, Starts};
 
 // What a call answers: nothing, the handle, whether the instance is known, handle and samples, the fields for a SampleInfo,
 // whether a sample is accepted, whether an owner is released.

@@ -13,8 +13,9 @@ use Rattle.model.specs.Calls.{joined}
 use Rattle.model.specs.Joined.{admitCall}
 use Rattle.model.specs.Refusals.{sheetRefusal}
 use Rattle.model.specs.State.{Lent, State, stateOf, instancesIn}
-use Rattle.instance_tracker.specs.declared.TableCall.{TableCall}
-use Rattle.instance_tracker.specs.Turned.{Left, stateWith}
+use Rattle.instance_table.specs.declared.TableCall.{TableCall}
+use Rattle.instance_table.specs.TableCalls.{stateWith}
+use Rattle.instance_tracker.specs.Turned.{Left}
 use Rattle.call_laws.specs.Heads.{called, headWith}
 use Rattle.call_laws.proofs.Graft.{tableOf, admit-graft}
 use Rattle.call_laws.proofs.InstanceRange.{admit-outcome, range-left}

@@ -23,7 +23,7 @@ ghost use Rattle.model.specs.Calls.{joined};
 ghost use Rattle.model.specs.State.{instancesIn};
 ghost use Rattle.model.specs.WellFormed.{lostOk};
 ghost use Rattle.instance_pass.specs.Steps.{gonesIn};
-ghost use Rattle.instance_tracker.specs.Turned.{Ready};
+ghost use Rattle.instance_table.specs.TableCalls.{Ready};
 ghost use Rattle.liveliness_turns.specs.Held.{Held};
 ghost use Rattle.call_laws.specs.Entered.{Entered};
 ghost use Rattle.joined_calls.specs.Losses.{Losable, Loses, goneSince, AdmitJudged, LeaveJudged, LapseJudged};
