@@ -49,6 +49,7 @@ use Rattle.model.specs.declared.FoundHandle.{FoundHandle}
 use Rattle.instance_walker.specs.Walk.{walked as walkedBy}
 use Rattle.instance_walker.specs.declared.InstanceWalker.{InstanceWalker}
 use Rattle.instance_walker.specs.declared.Walked.{Walked}
+use Rattle.instance_walker.proofs.Lowered.{found-as}
 use Rattle.model.proofs.FoundHandle as I
 use Rattle.model.proofs.FoundHandle.Laws as I′
 use Rattle.instance_walker.proofs.Walked as S
@@ -81,12 +82,8 @@ stayed = (stay-ref (0 ∷ []) tt behind, tt)
 abbrev StepAt : {M : Type 1} (𝓤 : URA M) (H : Heap 𝓤) (A : Atoms 𝓤) (at-mem : Memory → SProp 𝓤) (run : Routine → Fun 𝓤) → Contract 𝓤
 StepAt 𝓤 H A at-mem run = tripleOf 𝓤 H A by-value.signature (by-value.spec 𝓤 H A at-mem run)
 
--- an enum's machine value is the one that lowering writes
-known-as : (f : FoundHandle) (us : List Val) → Is I.the-row f us → Is I.the-row f (I′.lowered f ∷ [])
-known-as f us is = rw (I′.lowers .val-is f us is) at is
-
 found-is : (r : Walked) (us : List Val) → Is S.the-row r us → Is I.the-row (r .found) (I′.lowered (r .found) ∷ [])
-found-is r us is = known-as (r .found) _ (LL.owed S.the-type S′.the-laws r us is .0)
+found-is r us is = found-as (r .found) _ (LL.owed S.the-type S′.the-laws r us is .0)
 
 module _ {M : Type 1} (𝓤 : URA M) (H : Heap 𝓤) (A : Atoms 𝓤) (W : Given 𝓤 H A) (at-mem : Memory → SProp 𝓤) (run : Routine → Fun 𝓤) (κ κ′ : Lft) (q q′ : Share) (bounds : AllOutlive 2 (step.signature .outlives) (κ, (κ′, tt))) (b o : ℕ) (γ : GName) (h : InstanceWalker) where
   abbrev x : RefT InstanceWalker × Unit {0}

@@ -52,6 +52,7 @@ use Rattle.model.specs.declared.FoundHandle.{FoundHandle}
 use Rattle.instance_walker.specs.Walk.{walked as walkedBy}
 use Rattle.instance_walker.specs.declared.InstanceWalker.{InstanceWalker}
 use Rattle.instance_walker.specs.declared.Walked.{Walked}
+use Rattle.instance_walker.proofs.Lowered.{found-as}
 use Rattle.model.proofs.FoundHandle as I
 use Rattle.model.proofs.FoundHandle.Laws as I′
 use Rattle.instance_walker.proofs.Walked as S
@@ -86,10 +87,6 @@ answer f p = record { found = f; position = p }
 
 whole-is : (f : FoundHandle) (p : ℕ) (r : Walked) → f ≡ r .found → p ≡ r .position → answer f p ≡ r
 whole-is f p r e e′ = rw (e, e′) refl
-
--- an enum's machine value is the one that lowering writes
-known-as : (f : FoundHandle) (us : List Val) → Is I.the-row f us → Is I.the-row f (I′.lowered f ∷ [])
-known-as f us is = rw (I′.lowers .val-is f us is) at is
 
 module _ {M : Type 1} (𝓤 : URA M) (H : Heap 𝓤) (A : Atoms 𝓤) (W : Given 𝓤 H A) (at-mem : Memory → SProp 𝓤) (run : Routine → Fun 𝓤) (κ : Lft) (q : Share) (s : RefT (List ℕ)) (m : ℕ) (fits : m < 2 ^ 64) where
   -- the machine value that s has
@@ -201,10 +198,10 @@ module _ {M : Type 1} (𝓤 : URA M) (H : Heap 𝓤) (A : Atoms 𝓤) (W : Given
         use1 W (‵ (fat fullShare (T′.mir erased) l₃ 0 (T′.lowered (zs .0)))) (W .laws .raw-at fullShare (T′.mir erased) l₃ 0 (T′.lowered (zs .0))) $
         -- [_3; what it owns; 'a's token; the parameters; _6; …; _5; …; _4; …; …; _2; …; _1; …; _0; …]
         assigns ! (of-opd ! (load ! (from ! (fld ! refl (stop !))) (look-in ! 0 (sub ! 1 refl (whole !))))) (from ! (stop !)) (init ! 4 refl (tt, record { fits = was .1 .1 .1 .0 .1 })) $
-        assigns ! (agg ! (and-then ! (load ! (from ! (stop !)) (look ! 8 refl)) (and-then ! (load ! (from ! (stop !)) (look ! 4 refl)) (no-more !)))) (from ! (stop !)) (init ! 15 refl (LL.lawful S.the-type S′.the-laws 𝓤 H A W .typed (answer f (zs .0 .position)) _ (answered f (known-as f _ is) (zs .0 .position) (was .1 .1 .1 .0 .1)) .0)) $
+        assigns ! (agg ! (and-then ! (load ! (from ! (stop !)) (look ! 8 refl)) (and-then ! (load ! (from ! (stop !)) (look ! 4 refl)) (no-more !)))) (from ! (stop !)) (init ! 15 refl (LL.lawful S.the-type S′.the-laws 𝓤 H A W .typed (answer f (zs .0 .position)) _ (answered f (found-as f _ is) (zs .0 .position) (was .1 .1 .1 .0 .1)) .0)) $
         returns ! (look ! 15 refl) $ forget ! 0 refl $ forget ! 4 refl $ forget ! 6 refl $ forget ! 8 refl $ forget ! 11 refl $ forget ! 13 refl $ forget ! 15 refl $
         move ! (15 ∷ 16 ∷ []) $ free1 ! $ move ! (13 ∷ 14 ∷ []) $ free1 ! $ move ! (11 ∷ 12 ∷ []) $ free1 ! $ move ! (0 ∷ 10 ∷ []) $ free1 ! $ move ! (7 ∷ 8 ∷ []) $ free1 ! $ move ! (5 ∷ 6 ∷ []) $ free1 ! $ move ! (3 ∷ 4 ∷ []) $ free1 ! $ free0 ! $
-        keep ! (1 ∷ 2 ∷ []) $ by ! (exits (answer f (zs .0 .position)) (answered f (known-as f _ is) (zs .0 .position) (was .1 .1 .1 .0 .1)) (whole-is f (zs .0 .position) (walkedBy 128 (now s) m) (e .0) (e .1 .1)))))))))))))))))))
+        keep ! (1 ∷ 2 ∷ []) $ by ! (exits (answer f (zs .0 .position)) (answered f (found-as f _ is) (zs .0 .position) (was .1 .1 .1 .0 .1)) (whole-is f (zs .0 .position) (walkedBy 128 (now s) m) (e .0) (e .1 .1)))))))))))))))))))
 
 module _ {M : Type 1} (𝓤 : URA M) (H : Heap 𝓤) (A : Atoms 𝓤) (W : Given 𝓤 H A) (at-mem : Memory → SProp 𝓤) (run : Routine → Fun 𝓤) where
   at-walks : (C : Calls 𝓤 H) (Λ : Loops 𝓤 H) → FmC 𝓤 H (W .laws) C → Triple 𝓤 (C #instance-walker·step) (Step 𝓤 H A at-mem run)
