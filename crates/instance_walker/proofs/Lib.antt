@@ -1,0 +1,3 @@
+-- The laws that the proofs share.
+pub mod Steps
+pub mod Lowered
