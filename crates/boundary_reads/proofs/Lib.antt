@@ -1,0 +1,2 @@
+-- Laws that the proofs of boundary_reads cite.
+pub mod Telling

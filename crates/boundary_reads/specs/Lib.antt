@@ -1,0 +1,2 @@
+-- What the contracts of boundary_reads cite.
+pub mod ReadAnswers

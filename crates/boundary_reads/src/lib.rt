@@ -1,0 +1,182 @@
+// The answers of the reads in bytes, as they cross the C boundary: 24 bytes, whose layout stands in specs/ReadAnswers.
+// Rests on octets, model, numbers and boundary.
+use model::ChangesRead;
+use model::Decision;
+use model::FoundHandle;
+use model::FoundTime;
+use model::Listing;
+ghost use mathlib.Core.Path.{_≡_};
+ghost use lib.ListN.{length};
+ghost use Rattle.octets.specs.Fields.{puts};
+ghost use Rattle.model.specs.InstanceRecord.{bit};
+ghost use Rattle.boundary_reads.specs.ReadAnswers.{readBytes, bitWidths, bitValues, valueWidths, valueValues, refusedAnswer, decisionAnswer, handleAnswer, timeAnswer, listingAnswer, changesAnswer, toldOf, told};
+
+// What a read answers.
+pub struct ReadAnswer {
+    pub number: u8,
+    pub yes: bool,
+    pub present: bool,
+    pub stored: bool,
+    pub size: u32,
+    pub value: u64,
+    pub sec: i32,
+    pub nanosec: u32,
+}
+
+// ---- the answers
+
+// A refusal: its number alone. Number 0: nothing was found.
+pub fn refused_answer(n: u8) -> ReadAnswer
+    ensures { λ r. ⌜ r ≡ refusedAnswer n ⌝ }
+{
+    ReadAnswer {
+        number: n,
+        yes: false,
+        present: false,
+        stored: false,
+        size: 0,
+        value: 0,
+        sec: 0,
+        nanosec: 0,
+    }
+}
+
+// A yes or a no.
+pub fn decision_answer(d: Decision) -> ReadAnswer
+    ensures { λ r. ⌜ r ≡ decisionAnswer d ⌝ }
+{
+    match d {
+        Decision::Refused(n) => refused_answer(n),
+        Decision::Is(yes) => ReadAnswer {
+            number: 0,
+            yes: yes,
+            present: false,
+            stored: false,
+            size: 0,
+            value: 0,
+            sec: 0,
+            nanosec: 0,
+        },
+    }
+}
+
+// A handle, where one was found.
+pub fn handle_answer(f: FoundHandle) -> ReadAnswer
+    ensures { λ r. ⌜ r ≡ handleAnswer f ⌝ }
+{
+    match f {
+        FoundHandle::Refused(n) => refused_answer(n),
+        FoundHandle::Missing => refused_answer(0),
+        FoundHandle::Is(h) => ReadAnswer {
+            number: 0,
+            yes: false,
+            present: true,
+            stored: false,
+            size: 0,
+            value: h.0,
+            sec: 0,
+            nanosec: 0,
+        },
+    }
+}
+
+// A time, where one was found.
+pub fn time_answer(f: FoundTime) -> ReadAnswer
+    ensures { λ r. ⌜ r ≡ timeAnswer f ⌝ }
+{
+    match f {
+        FoundTime::Refused(n) => refused_answer(n),
+        FoundTime::Missing => refused_answer(0),
+        FoundTime::Is(t) => ReadAnswer {
+            number: 0,
+            yes: false,
+            present: true,
+            stored: false,
+            size: 0,
+            value: 0,
+            sec: t.sec,
+            nanosec: t.nanosec,
+        },
+    }
+}
+
+// How many entries were listed.
+pub fn listing_answer(l: Listing) -> ReadAnswer
+    ensures { λ r. ⌜ r ≡ listingAnswer l ⌝ }
+{
+    match l {
+        Listing::Refused(n) => refused_answer(n),
+        Listing::Listed(n) => ReadAnswer {
+            number: 0,
+            yes: false,
+            present: false,
+            stored: false,
+            size: n,
+            value: 0,
+            sec: 0,
+            nanosec: 0,
+        },
+    }
+}
+
+// How many changes were counted.
+pub fn changes_answer(c: ChangesRead) -> ReadAnswer
+    ensures { λ r. ⌜ r ≡ changesAnswer c ⌝ }
+{
+    match c {
+        ChangesRead::Refused(n) => refused_answer(n),
+        ChangesRead::Is(n) => ReadAnswer {
+            number: 0,
+            yes: false,
+            present: false,
+            stored: false,
+            size: 0,
+            value: n,
+            sec: 0,
+            nanosec: 0,
+        },
+    }
+}
+
+// ---- the bytes
+
+// A yes as 1.
+fn bit_of(b: bool) -> u8
+    ensures { λ r. ⌜ r ≡ bit b ⌝ }
+{
+    if b { 1 } else { 0 }
+}
+
+// Number, yes, present and stored, from 0.
+fn write_bits(b: &mut [u8], a: ReadAnswer)
+    requires { ⌜ length (now b) ≡ 24 ⌝ }
+    ensures { λ _. ⌜ now (b .exit) ≡ puts bitWidths (bitValues a) (now (b .entry)) 0 0 ⌝ }
+{
+    octets::put_u8(b, 0, a.number);
+    octets::put_u8(b, 1, bit_of(a.yes));
+    octets::put_u8(b, 2, bit_of(a.present));
+    octets::put_u8(b, 3, bit_of(a.stored));
+}
+
+// The numbers, from 4.
+fn write_values(b: &mut [u8], a: ReadAnswer)
+    requires { ⌜ length (now b) ≡ 24 ⌝ }
+    ensures { λ _. ⌜ now (b .exit) ≡ puts valueWidths (valueValues a) (now (b .entry)) 0 4 ⌝ }
+{
+    octets::put_u32(b, 4, a.size);
+    octets::put_u64(b, 8, a.value);
+    octets::put_u32(b, 16, numbers::bits_of(a.sec));
+    octets::put_u32(b, 20, a.nanosec);
+}
+
+// The answer where it has its length; else nothing is written, and the number is 1.
+pub fn tell(answer: &mut [u8], a: ReadAnswer) -> u32
+    ensures { λ r. ⌜ toldOf r (now (answer .exit)) ≡ told a (now (answer .entry)) ⌝ }
+{
+    if answer.len() != 24 {
+        return 1;
+    }
+    write_bits(answer, a);
+    write_values(answer, a);
+    a.number as u32
+}

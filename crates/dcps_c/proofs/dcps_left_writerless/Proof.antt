@@ -1,0 +1,42 @@
+-- `dcps_left_writerless` meets its contract. Assumes nothing.
+use borrow.Author.Needs.{needs}
+use Rattle.dcps_c.proofs.Tellings.{left-untold, left-told}
+use Rattle.dcps_c.proofs.dcps_left_writerless.Statement.{statement}
+use Rattle.dcps_c.proofs.dcps_left_writerless.Tie as tie
+
+returns : tie.Need-returns
+returns c = left-untold _ _ _ _ _ (c .if1 .taken)
+
+left-writerless-requires : tie.Need-left-writerless-requires
+left-writerless-requires c κs = search needs
+
+listing-answer-requires : tie.Need-listing-answer-requires
+listing-answer-requires c κs = search needs
+
+tell-requires : tie.Need-tell-requires
+tell-requires c κs = search needs
+
+same-length : tie.Need-same-length
+same-length c = search needs
+
+same-length-2 : tie.Need-same-length-2
+same-length-2 c = search needs
+
+returns-2 : tie.Need-returns-2
+returns-2 c =
+    let t = c .before .before in
+    let l = t .before .before .before .before .before in
+    left-told _ _ _ _ _ _ _ _ _ _ (l .before .before .if1 .left) (t .tell .ensures) (t .before .listing-answer .ensures)
+    (l .left-writerless .ensures .0) (l .left-writerless .ensures .1)
+
+pub dcps-left-writerless-spec : {M : Type 1} → statement M
+dcps-left-writerless-spec =
+    tie.close
+    (tie.spec
+    returns
+    left-writerless-requires
+    listing-answer-requires
+    tell-requires
+    same-length
+    same-length-2
+    returns-2)

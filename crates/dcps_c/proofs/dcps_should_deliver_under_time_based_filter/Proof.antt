@@ -1,0 +1,44 @@
+-- `dcps_should_deliver_under_time_based_filter` meets its contract. Assumes nothing.
+use mathlib.Core.Path.{ap, _∙_}
+use borrow.Author.Needs.{needs}
+use lib.IntN.{ℤ}
+use mir.Facts.{toZ-ofZ}
+use mir.Syntax.{w32}
+use mir.Val.{SFits}
+use Rattle.model.specs.Reads.{filterRead}
+use Rattle.dcps_c.specs.Reads.{guidOf, timeAt}
+use Rattle.dcps_c.proofs.Tellings.{decided}
+use Rattle.dcps_c.proofs.dcps_should_deliver_under_time_based_filter.Statement.{statement}
+use Rattle.dcps_c.proofs.dcps_should_deliver_under_time_based_filter.Tie as tie
+
+should-deliver-under-time-based-filter-requires :
+    tie.Need-should-deliver-under-time-based-filter-requires
+should-deliver-under-time-based-filter-requires c κs = search needs
+
+decision-answer-requires : tie.Need-decision-answer-requires
+decision-answer-requires c κs = search needs
+
+tell-requires : tie.Need-tell-requires
+tell-requires c κs = search needs
+
+same-length : tie.Need-same-length
+same-length c = search needs
+
+returns : tie.Need-returns
+returns c =
+    let t = c .before .before in
+    let a = c .before .before .before .before .before .before .before .before .args in
+    let fits : SFits w32 (a .sec) = search needs in
+    decided _ _ (t .tell .ensures) (t .before .decision-answer .ensures)
+    (t .before .before .before .should-deliver-under-time-based-filter .ensures
+    ∙ ap (λ (z : ℤ). filterRead 128 (a .pens .now) (guidOf (a .high) (a .low)) (timeAt z (a .nanosec)) (a .min-separation)) (toZ-ofZ fits))
+
+pub dcps-should-deliver-under-time-based-filter-spec : {M : Type 1} → statement M
+dcps-should-deliver-under-time-based-filter-spec =
+    tie.close
+    (tie.spec
+    should-deliver-under-time-based-filter-requires
+    decision-answer-requires
+    tell-requires
+    same-length
+    returns)

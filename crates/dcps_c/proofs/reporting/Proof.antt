@@ -1,0 +1,13 @@
+-- `reporting` meets its contract. Assumes nothing.
+use borrow.Author.Needs.{needs}
+use Rattle.dcps_c.proofs.reporting.Statement.{statement}
+use Rattle.dcps_c.proofs.reporting.Tie as tie
+
+silent-requires : tie.Need-silent-requires
+silent-requires c κs = search needs
+
+returns : tie.Need-returns
+returns c = rw (c .silent .ensures)
+
+pub reporting-spec : {M : Type 1} → statement M
+reporting-spec = tie.close (tie.spec silent-requires returns)

@@ -1,0 +1,3 @@
+-- What the contracts of dcps_c cite beside model's and boundary's definitions.
+pub mod Boundary
+pub mod Reads

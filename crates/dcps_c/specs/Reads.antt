@@ -1,0 +1,71 @@
+-- The reads across the C boundary: what each answers is a read of section 7; keys, GUIDs and times cross as numbers.
+use Prim.Native.Nat.{ℕ}
+use mathlib.Core.Bool.{true, cond}
+use mathlib.Core.List.{List}
+use mathlib.Core.Path.{_≡_}
+use lib.Dec.{eqb}
+use lib.IntN.{ℤ}
+use lib.ListN.{length}
+use Rattle.model.specs.declared.Answer.{Answer}
+use Rattle.model.specs.declared.FoundHandle.{FoundHandle}
+use Rattle.model.specs.declared.Guid.{Guid}
+use Rattle.model.specs.declared.StatusRead.{StatusRead}
+use Rattle.model.specs.declared.StatusRead.the-variants.{Is, Refused}
+use Rattle.model.specs.declared.Time.{Time}
+use Rattle.model.specs.Answers.{refusedWith, reporting}
+use Rattle.model.specs.Reads.{statusRead, changesRead, leftRead, leftOut, lookupRight}
+use Rattle.model.specs.State.{instancePlaces}
+use Rattle.boundary.specs.Layouts.{headIn, headLaid, answerBytes}
+use Rattle.boundary_reads.specs.declared.ReadAnswer.{ReadAnswer}
+use Rattle.boundary_reads.specs.ReadAnswers.{Told, toldOf, told, readBytes, refusedAnswer, changesAnswer, handleAnswer, listingAnswer}
+use Rattle.dcps_c.specs.Boundary.{headSize, answerSize}
+
+abbrev pub guidOf : ℕ → ℕ → Guid
+guidOf high low = record { hi = high; lo = low }
+
+abbrev pub timeAt : ℤ → ℕ → Time
+timeAt sec nanosec = record { sec = sec; nanosec = nanosec }
+
+-- ---- of the head alone: its length belongs to 1; bytes that are no head's are refused as 3
+
+-- the status goes into the answer of a call
+abbrev pub statusAnswer : StatusRead → Answer
+statusAnswer (Refused n) = refusedWith n
+statusAnswer (Is s) = reporting s
+
+unfoldable pub statusOf : List ℕ → Answer
+statusOf head =
+    cond (eqb (length head) headSize)
+    (cond (headLaid head) (statusAnswer (statusRead instancePlaces (headIn head))) (refusedWith 3)) (refusedWith 1)
+
+unfoldable pub boundaryStatus : List ℕ → List ℕ → Told
+boundaryStatus head answer =
+    cond (eqb (length answer) answerSize) (toldOf (statusOf head .number) (answerBytes (statusOf head))) (toldOf 1 answer)
+
+unfoldable pub changesOf : List ℕ → ReadAnswer
+changesOf head =
+    cond (eqb (length head) headSize)
+    (cond (headLaid head) (changesAnswer (changesRead instancePlaces (headIn head))) (refusedAnswer 3)) (refusedAnswer 1)
+
+-- ---- left_writerless: Out is written where the answer has its length
+
+pub record ToldList : Type 0 where
+  pub told : Told
+  pub out : List ℕ
+
+abbrev pub toldList : ℕ → List ℕ → List ℕ → ToldList
+toldList number out answer = record { told = toldOf number answer; out = out }
+
+unfoldable pub boundaryLeft : List ℕ → List ℕ → ℕ → List ℕ → List ℕ → ToldList
+boundaryLeft pens gone mask out answer =
+    record {
+      told = told (listingAnswer (leftRead instancePlaces pens gone mask out)) answer;
+      out = cond (eqb (length answer) 24) (leftOut instancePlaces pens gone mask out) out;
+    }
+
+-- ---- the writer lookup: some right answer
+
+pub record LookedUp (pens : List ℕ) (g : Guid) (number : ℕ) (lent left : List ℕ) : Type 0 where
+  pub answer : FoundHandle
+  pub right : lookupRight instancePlaces pens g answer ≡ true
+  pub leaves : toldOf number left ≡ told (handleAnswer answer) lent
