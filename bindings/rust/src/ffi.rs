@@ -1,8 +1,11 @@
 //! The C boundary. Fixed lengths here are why no call of this crate can be refused as 1.
 
 use crate::layout::{
-    ANSWER_BYTES, HEAD_BYTES, LOST_BYTES, OUT_BYTES, PENS_BYTES, SHEET_BYTES, WRITERS_BYTES,
+    i32_at, u32_at, u64_at, ANSWER_BYTES, HEAD_BYTES, LOST_BYTES, OUT_BYTES, PENS_BYTES,
+    READ_BYTES, SHEET_BYTES, WRITERS_BYTES,
 };
+use crate::state::refusal;
+use crate::{InstanceHandle, KeyHash, Refusal, Time};
 
 mod c {
     extern "C" {
@@ -31,6 +34,100 @@ mod c {
             writers_len: usize,
             lost: *mut u8,
             lost_len: usize,
+        ) -> u32;
+        pub fn dcps_should_deliver_under_time_based_filter(
+            pens: *const u8,
+            pens_len: usize,
+            key_hi: u64,
+            key_lo: u64,
+            seconds: i32,
+            nanoseconds: u32,
+            min_separation: u64,
+            answer: *mut u8,
+            answer_len: usize,
+        ) -> u32;
+        pub fn dcps_should_deliver_under_destination_order(
+            pens: *const u8,
+            pens_len: usize,
+            key_hi: u64,
+            key_lo: u64,
+            seconds: i32,
+            nanoseconds: u32,
+            by_source: bool,
+            answer: *mut u8,
+            answer_len: usize,
+        ) -> u32;
+        pub fn dcps_last_delivered_ts(
+            pens: *const u8,
+            pens_len: usize,
+            key_hi: u64,
+            key_lo: u64,
+            answer: *mut u8,
+            answer_len: usize,
+        ) -> u32;
+        pub fn dcps_next_handle_after(
+            pens: *const u8,
+            pens_len: usize,
+            previous: u64,
+            answer: *mut u8,
+            answer_len: usize,
+        ) -> u32;
+        pub fn dcps_handle_at_position(
+            pens: *const u8,
+            pens_len: usize,
+            position: usize,
+            answer: *mut u8,
+            answer_len: usize,
+        ) -> u32;
+        pub fn dcps_holder_in_force(
+            pens: *const u8,
+            pens_len: usize,
+            key_hi: u64,
+            key_lo: u64,
+            offered: *const u8,
+            offered_len: usize,
+            answer: *mut u8,
+            answer_len: usize,
+        ) -> u32;
+        pub fn dcps_writer_lookup(
+            pens: *const u8,
+            pens_len: usize,
+            guid_hi: u64,
+            guid_lo: u64,
+            answer: *mut u8,
+            answer_len: usize,
+        ) -> u32;
+        pub fn dcps_would_leave_writerless(
+            pens: *const u8,
+            pens_len: usize,
+            gone: *const u8,
+            gone_len: usize,
+            view_states: u32,
+            answer: *mut u8,
+            answer_len: usize,
+        ) -> u32;
+        pub fn dcps_left_writerless(
+            pens: *const u8,
+            pens_len: usize,
+            gone: *const u8,
+            gone_len: usize,
+            view_states: u32,
+            out: *mut u8,
+            out_len: usize,
+            answer: *mut u8,
+            answer_len: usize,
+        ) -> u32;
+        pub fn dcps_status(
+            head: *const u8,
+            head_len: usize,
+            answer: *mut u8,
+            answer_len: usize,
+        ) -> u32;
+        pub fn dcps_changes(
+            head: *const u8,
+            head_len: usize,
+            answer: *mut u8,
+            answer_len: usize,
         ) -> u32;
     }
 }
@@ -85,4 +182,193 @@ pub(crate) fn fresh(lent: &mut Lent) -> u32 {
             lent.lost.len(),
         )
     }
+}
+
+/// What a read answers, from its 24 bytes.
+pub(crate) struct Read {
+    pub yes: bool,
+    pub present: bool,
+    pub stored: bool,
+    /// Of a holder, or how many entries are listed.
+    pub length: usize,
+    pub handle: InstanceHandle,
+    pub offset: usize,
+    pub changes: u64,
+    pub time: Time,
+}
+
+impl Read {
+    fn of(b: &[u8; READ_BYTES]) -> Self {
+        Self {
+            yes: b[1] != 0,
+            present: b[2] != 0,
+            stored: b[3] != 0,
+            length: u32_at(b, 4) as usize,
+            handle: InstanceHandle::from_raw(u64_at(b, 8)),
+            offset: usize::try_from(u64_at(b, 8)).unwrap_or(PENS_BYTES),
+            changes: u64_at(b, 8),
+            time: Time { sec: i32_at(b, 16), nanosec: u32_at(b, 20) },
+        }
+    }
+
+    pub fn found(&self) -> Option<InstanceHandle> {
+        self.present.then_some(self.handle)
+    }
+}
+
+/// A read by a function that is lent where its answer goes.
+fn read(ask: impl FnOnce(*mut u8, usize) -> u32) -> Result<Read, Refusal> {
+    let mut answer = [0; READ_BYTES];
+    match refusal(ask(answer.as_mut_ptr(), answer.len())) {
+        None => Ok(Read::of(&answer)),
+        Some(refusal) => Err(refusal),
+    }
+}
+
+/// A key or GUID as it crosses: its first and its last 8 bytes.
+fn halves(guid: &[u8; 16]) -> (u64, u64) {
+    (u64_at(guid, 0), u64_at(guid, 8))
+}
+
+// SAFETY, of all reads: each pointer comes from a borrow of that many bytes, and what is written overlaps
+// with nothing else.
+
+type Pens = [u8; PENS_BYTES];
+
+pub(crate) fn filter(
+    pens: &Pens,
+    key: &KeyHash,
+    time: Time,
+    separation: u64,
+) -> Result<Read, Refusal> {
+    let (hi, lo) = halves(key);
+    read(|answer, length| unsafe {
+        c::dcps_should_deliver_under_time_based_filter(
+            pens.as_ptr(),
+            pens.len(),
+            hi,
+            lo,
+            time.sec,
+            time.nanosec,
+            separation,
+            answer,
+            length,
+        )
+    })
+}
+
+pub(crate) fn order(
+    pens: &Pens,
+    key: &KeyHash,
+    time: Time,
+    by_source: bool,
+) -> Result<Read, Refusal> {
+    let (hi, lo) = halves(key);
+    read(|answer, length| unsafe {
+        c::dcps_should_deliver_under_destination_order(
+            pens.as_ptr(),
+            pens.len(),
+            hi,
+            lo,
+            time.sec,
+            time.nanosec,
+            by_source,
+            answer,
+            length,
+        )
+    })
+}
+
+pub(crate) fn last_delivered_ts(pens: &Pens, key: &KeyHash) -> Result<Read, Refusal> {
+    let (hi, lo) = halves(key);
+    read(|answer, length| unsafe {
+        c::dcps_last_delivered_ts(pens.as_ptr(), pens.len(), hi, lo, answer, length)
+    })
+}
+
+pub(crate) fn next_handle_after(pens: &Pens, previous: InstanceHandle) -> Result<Read, Refusal> {
+    read(|answer, length| unsafe {
+        c::dcps_next_handle_after(pens.as_ptr(), pens.len(), previous.as_raw(), answer, length)
+    })
+}
+
+pub(crate) fn handle_at_position(pens: &Pens, position: usize) -> Result<Read, Refusal> {
+    read(|answer, length| unsafe {
+        c::dcps_handle_at_position(pens.as_ptr(), pens.len(), position, answer, length)
+    })
+}
+
+pub(crate) fn holder_in_force(pens: &Pens, key: &KeyHash, offered: &[u8]) -> Result<Read, Refusal> {
+    let (hi, lo) = halves(key);
+    read(|answer, length| unsafe {
+        c::dcps_holder_in_force(
+            pens.as_ptr(),
+            pens.len(),
+            hi,
+            lo,
+            offered.as_ptr(),
+            offered.len(),
+            answer,
+            length,
+        )
+    })
+}
+
+pub(crate) fn writer_lookup(pens: &Pens, guid: &[u8; 16]) -> Result<Read, Refusal> {
+    let (hi, lo) = halves(guid);
+    read(|answer, length| unsafe {
+        c::dcps_writer_lookup(pens.as_ptr(), pens.len(), hi, lo, answer, length)
+    })
+}
+
+pub(crate) fn would_leave_writerless(
+    pens: &Pens,
+    gone: &[[u8; 16]],
+    view_states: u32,
+) -> Result<Read, Refusal> {
+    let gone = gone.as_flattened();
+    read(|answer, length| unsafe {
+        c::dcps_would_leave_writerless(
+            pens.as_ptr(),
+            pens.len(),
+            gone.as_ptr(),
+            gone.len(),
+            view_states,
+            answer,
+            length,
+        )
+    })
+}
+
+pub(crate) fn left_writerless(
+    pens: &Pens,
+    gone: &[[u8; 16]],
+    view_states: u32,
+    out: &mut [u8; OUT_BYTES],
+) -> Result<Read, Refusal> {
+    let gone = gone.as_flattened();
+    read(|answer, length| unsafe {
+        c::dcps_left_writerless(
+            pens.as_ptr(),
+            pens.len(),
+            gone.as_ptr(),
+            gone.len(),
+            view_states,
+            out.as_mut_ptr(),
+            out.len(),
+            answer,
+            length,
+        )
+    })
+}
+
+pub(crate) fn status(head: &[u8; HEAD_BYTES]) -> (u32, [u8; ANSWER_BYTES]) {
+    let mut answer = [0; ANSWER_BYTES];
+    let number =
+        unsafe { c::dcps_status(head.as_ptr(), head.len(), answer.as_mut_ptr(), answer.len()) };
+    (number, answer)
+}
+
+pub(crate) fn changes(head: &[u8; HEAD_BYTES]) -> Result<Read, Refusal> {
+    read(|answer, length| unsafe { c::dcps_changes(head.as_ptr(), head.len(), answer, length) })
 }

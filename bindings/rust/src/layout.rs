@@ -7,6 +7,7 @@ pub(crate) const WRITERS_BYTES: usize = 5_120;
 pub(crate) const LOST_BYTES: usize = 4_096;
 pub(crate) const OUT_BYTES: usize = 4_096;
 pub(crate) const ANSWER_BYTES: usize = 72;
+pub(crate) const READ_BYTES: usize = 24;
 
 pub(crate) const INSTANCE_BYTES: usize = 512;
 pub(crate) const WRITER_BYTES: usize = 40;

@@ -15,6 +15,8 @@ mod layout;
 #[cfg(dcps_library)]
 mod liveliness;
 #[cfg(dcps_library)]
+mod reads;
+#[cfg(dcps_library)]
 mod refusal;
 #[cfg(dcps_library)]
 mod sheet;
@@ -29,6 +31,7 @@ mod types;
 pub use {
     answer::Answer,
     joined::{Admission, Lapse, Parting, Sample},
+    reads::Walker,
     refusal::Refusal,
     snapshot::{InstanceState, WriterLiveliness, WriterState},
     state::{Head, State},
