@@ -1,4 +1,4 @@
-//! The C boundary. Fixed lengths here are why no call of this crate can be refused as 1.
+//! The C boundary, as include/dcps.h has it. Fixed lengths here are why no call of this crate can be refused as 1.
 
 use crate::layout::{
     i32_at, u32_at, u64_at, ANSWER_BYTES, HEAD_BYTES, LOST_BYTES, OUT_BYTES, PENS_BYTES,
@@ -38,10 +38,10 @@ mod c {
         pub fn dcps_should_deliver_under_time_based_filter(
             pens: *const u8,
             pens_len: usize,
-            key_hi: u64,
-            key_lo: u64,
-            seconds: i32,
-            nanoseconds: u32,
+            high: u64,
+            low: u64,
+            sec: i32,
+            nanosec: u32,
             min_separation: u64,
             answer: *mut u8,
             answer_len: usize,
@@ -49,19 +49,19 @@ mod c {
         pub fn dcps_should_deliver_under_destination_order(
             pens: *const u8,
             pens_len: usize,
-            key_hi: u64,
-            key_lo: u64,
-            seconds: i32,
-            nanoseconds: u32,
-            by_source: bool,
+            high: u64,
+            low: u64,
+            sec: i32,
+            nanosec: u32,
+            by_source: u8,
             answer: *mut u8,
             answer_len: usize,
         ) -> u32;
         pub fn dcps_last_delivered_ts(
             pens: *const u8,
             pens_len: usize,
-            key_hi: u64,
-            key_lo: u64,
+            high: u64,
+            low: u64,
             answer: *mut u8,
             answer_len: usize,
         ) -> u32;
@@ -79,21 +79,11 @@ mod c {
             answer: *mut u8,
             answer_len: usize,
         ) -> u32;
-        pub fn dcps_holder_in_force(
-            pens: *const u8,
-            pens_len: usize,
-            key_hi: u64,
-            key_lo: u64,
-            offered: *const u8,
-            offered_len: usize,
-            answer: *mut u8,
-            answer_len: usize,
-        ) -> u32;
         pub fn dcps_writer_lookup(
             pens: *const u8,
             pens_len: usize,
-            guid_hi: u64,
-            guid_lo: u64,
+            high: u64,
+            low: u64,
             answer: *mut u8,
             answer_len: usize,
         ) -> u32;
@@ -133,7 +123,7 @@ mod c {
 }
 
 /// The state and Out, as they are lent with a call.
-#[derive(Clone, PartialEq, Eq)]
+#[derive(Clone)]
 pub(crate) struct Lent {
     pub head: [u8; HEAD_BYTES],
     pub pens: [u8; PENS_BYTES],
@@ -188,11 +178,9 @@ pub(crate) fn fresh(lent: &mut Lent) -> u32 {
 pub(crate) struct Read {
     pub yes: bool,
     pub present: bool,
-    pub stored: bool,
-    /// Of a holder, or how many entries are listed.
-    pub length: usize,
+    /// Entries written to Out.
+    pub listed: u32,
     pub handle: InstanceHandle,
-    pub offset: usize,
     pub changes: u64,
     pub time: Time,
 }
@@ -202,10 +190,8 @@ impl Read {
         Self {
             yes: b[1] != 0,
             present: b[2] != 0,
-            stored: b[3] != 0,
-            length: u32_at(b, 4) as usize,
+            listed: u32_at(b, 4),
             handle: InstanceHandle::from_raw(u64_at(b, 8)),
-            offset: usize::try_from(u64_at(b, 8)).unwrap_or(PENS_BYTES),
             changes: u64_at(b, 8),
             time: Time { sec: i32_at(b, 16), nanosec: u32_at(b, 20) },
         }
@@ -272,7 +258,7 @@ pub(crate) fn order(
             lo,
             time.sec,
             time.nanosec,
-            by_source,
+            u8::from(by_source),
             answer,
             length,
         )
@@ -295,22 +281,6 @@ pub(crate) fn next_handle_after(pens: &Pens, previous: InstanceHandle) -> Result
 pub(crate) fn handle_at_position(pens: &Pens, position: usize) -> Result<Read, Refusal> {
     read(|answer, length| unsafe {
         c::dcps_handle_at_position(pens.as_ptr(), pens.len(), position, answer, length)
-    })
-}
-
-pub(crate) fn holder_in_force(pens: &Pens, key: &KeyHash, offered: &[u8]) -> Result<Read, Refusal> {
-    let (hi, lo) = halves(key);
-    read(|answer, length| unsafe {
-        c::dcps_holder_in_force(
-            pens.as_ptr(),
-            pens.len(),
-            hi,
-            lo,
-            offered.as_ptr(),
-            offered.len(),
-            answer,
-            length,
-        )
     })
 }
 

@@ -1,5 +1,7 @@
 //! Lengths of the buffers, and numbers in bytes, most significant byte first.
 
+use crate::InstanceHandle;
+
 pub(crate) const HEAD_BYTES: usize = 64;
 pub(crate) const SHEET_BYTES: usize = 256;
 pub(crate) const PENS_BYTES: usize = 65_536;
@@ -39,4 +41,16 @@ pub(crate) fn u64_at(b: &[u8], at: usize) -> u64 {
 
 pub(crate) fn put(b: &mut [u8], at: usize, bytes: &[u8]) {
     b[at..at + bytes.len()].copy_from_slice(bytes);
+}
+
+/// The first handles of an Out.
+pub(crate) fn handles(out: &[u8; OUT_BYTES], listed: u32) -> Vec<InstanceHandle> {
+    let entries = out.chunks_exact(HANDLE_BYTES).take(listed as usize);
+    entries.map(|entry| InstanceHandle::from_raw(u64_at(entry, 0))).collect()
+}
+
+/// The first GUIDs of an Out or of Lost.
+pub(crate) fn guids(list: &[u8; OUT_BYTES], listed: u32) -> Vec<[u8; GUID_BYTES]> {
+    let entries = list.chunks_exact(GUID_BYTES).take(listed as usize);
+    entries.map(|entry| array_at(entry, 0)).collect()
 }

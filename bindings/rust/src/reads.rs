@@ -4,8 +4,8 @@
 //! Copyright 2026 ZeroDDS Contributors. SPDX-License-Identifier: Apache-2.0. Changed: written anew, each read
 //! the library's, and refusals answered.
 
-use crate::ffi::{self, Read};
-use crate::layout::{u64_at, HANDLE_BYTES, OUT_BYTES};
+use crate::ffi;
+use crate::layout::{handles, OUT_BYTES};
 use crate::sheet::delay;
 use crate::state::accepted;
 use crate::{InstanceHandle, KeyHash, LivelinessChangedStatus, Refusal, State, Time};
@@ -142,8 +142,7 @@ impl State {
     ) -> Result<Vec<InstanceHandle>, Refusal> {
         let mut out = [0; OUT_BYTES];
         let read = ffi::left_writerless(&self.lent().pens, gone, view_states, &mut out)?;
-        let entries = out.chunks_exact(HANDLE_BYTES).take(read.length);
-        Ok(entries.map(|entry| InstanceHandle::from_raw(u64_at(entry, 0))).collect())
+        Ok(handles(&out, read.listed))
     }
 
     /// The handle that follows another in the order of the keys; the first one after nil. None after the
@@ -177,26 +176,6 @@ impl State {
     #[must_use]
     pub fn walk(&self) -> Walker<'_> {
         Walker { state: self, position: 0 }
-    }
-
-    /// The holder stored for a key, or else the one offered.
-    ///
-    /// ```
-    /// let mut state = dcps::State::new();
-    /// assert_eq!(state.holder_in_force(&[1; 16], b"offered"), b"offered");
-    /// state.register([1; 16], b"stored".to_vec(), None)?;
-    /// assert_eq!(state.holder_in_force(&[1; 16], b"offered"), b"stored");
-    /// # Ok::<(), dcps::Refusal>(())
-    /// ```
-    #[must_use]
-    pub fn holder_in_force<'a>(&'a self, keyhash: &KeyHash, offered: &'a [u8]) -> &'a [u8] {
-        let pens = &self.lent().pens;
-        match ffi::holder_in_force(pens, keyhash, offered) {
-            Ok(Read { stored: true, offset, length, .. }) => {
-                pens.get(offset..offset + length).unwrap_or(offered)
-            }
-            _ => offered,
-        }
     }
 
     /// An alive instance that a writer writes, some one of them.

@@ -5,7 +5,7 @@
 //! Copyright 2026 ZeroDDS Contributors. SPDX-License-Identifier: Apache-2.0. Changed: written anew, over bytes.
 
 use crate::layout::{
-    array_at, i32_at, u16_at, u32_at, u64_at, GUID_BYTES, HOLDER_PLACES, INSTANCE_BYTES,
+    array_at, guids, i32_at, u16_at, u32_at, u64_at, GUID_BYTES, HOLDER_PLACES, INSTANCE_BYTES,
     SET_PLACES, WRITER_BYTES,
 };
 use crate::{InstanceHandle, InstanceStateKind, KeyHash, LivelinessKind, State, Time};
@@ -198,9 +198,7 @@ impl State {
     /// ```
     #[must_use]
     pub fn lost(&self) -> Vec<[u8; 16]> {
-        let used = self.head().lost_count as usize;
-        let entries = self.lent().lost.chunks_exact(GUID_BYTES).take(used);
-        entries.map(|entry| array_at(entry, 0)).collect()
+        guids(&self.lent().lost, self.head().lost_count)
     }
 
     /// The instance of a key.

@@ -28,7 +28,7 @@ fn refused<T: std::fmt::Debug>(
 ) {
     let before = state.clone();
     assert_eq!(call(state).expect_err("refused"), refusal);
-    assert!(*state == before, "{refusal} changed the state");
+    assert!(*state == before && state.out() == before.out(), "{refusal} changed the state");
 }
 
 #[test]
