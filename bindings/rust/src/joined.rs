@@ -18,9 +18,9 @@ pub struct Sample {
     pub keyhash: KeyHash,
     /// The serialized key; kept where the instance has none stored.
     pub key_holder: Vec<u8>,
-    /// The writer, and its strength.
+    /// The writer.
     pub writer: [u8; 16],
-    /// See `writer`.
+    /// The strength that it writes with.
     pub strength: i32,
     /// The time of the sample and of the destination order.
     pub order_ts: Time,
