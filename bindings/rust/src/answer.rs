@@ -1,0 +1,79 @@
+//! The answer of a call, from its 72 bytes.
+
+use crate::layout::{i32_at, u32_at, u64_at, ANSWER_BYTES};
+use crate::{InstanceHandle, InstanceStateKind, LivelinessChangedStatus};
+
+/// What [`State::raw_call`](crate::State::raw_call) answers. Fields that a call does not answer are 0.
+///
+/// ```
+/// let mut sheet = [0; 256];
+/// sheet[81] = 1; // register, of key 0
+/// let answer = dcps::State::new().raw_call(&sheet)?;
+/// assert_eq!((answer.present, answer.handle.as_raw()), (true, 1));
+/// # Ok::<(), dcps::Refusal>(())
+/// ```
+#[derive(Debug, Clone, Copy, PartialEq, Eq, Default)]
+pub struct Answer {
+    /// Of admit: 0 admitted, 1 order, 2 filter, 3 limit, 4 ownership.
+    pub outcome: u8,
+    /// The yes or no of a call that answers one.
+    pub yes: bool,
+    /// Whether there is a handle, or for code 10 an instance.
+    pub present: bool,
+    /// Whether the instance is new to the reader.
+    pub view_new: bool,
+    /// Where the instance stands.
+    pub kind: InstanceStateKind,
+    /// When the next lease runs out, in nanoseconds.
+    pub next_due: Option<u64>,
+    /// The instance's handle.
+    pub handle: InstanceHandle,
+    /// Its samples.
+    pub samples: u32,
+    /// How often it came back after a dispose.
+    pub disposed_generation_count: i32,
+    /// How often it came back after its last writer left.
+    pub no_writers_generation_count: i32,
+    /// Owners cleared, or instances purged.
+    pub count: u32,
+    /// Entries written to Out.
+    pub listed: u32,
+    /// Of code 39, with zeros elsewhere.
+    pub status: LivelinessChangedStatus,
+}
+
+impl Answer {
+    pub(crate) fn of(b: &[u8; ANSWER_BYTES]) -> Self {
+        Self {
+            outcome: b[1],
+            yes: b[2] != 0,
+            present: b[3] != 0,
+            view_new: b[4] != 0,
+            kind: InstanceStateKind::from_bits(b[5]),
+            next_due: (b[6] != 0).then(|| u64_at(b, 56)),
+            handle: InstanceHandle::from_raw(u64_at(b, 8)),
+            samples: u32_at(b, 16),
+            disposed_generation_count: i32_at(b, 20),
+            no_writers_generation_count: i32_at(b, 24),
+            count: u32_at(b, 28),
+            listed: u32_at(b, 32),
+            status: LivelinessChangedStatus {
+                alive_count: i32_at(b, 36),
+                not_alive_count: i32_at(b, 40),
+                alive_count_change: i32_at(b, 44),
+                not_alive_count_change: i32_at(b, 48),
+                last_publication_handle: InstanceHandle::from_raw(u64_at(b, 64)),
+            },
+        }
+    }
+
+    /// The handle, where there is one.
+    ///
+    /// ```
+    /// assert_eq!(dcps::Answer::default().found(), None);
+    /// ```
+    #[must_use]
+    pub fn found(&self) -> Option<InstanceHandle> {
+        self.present.then_some(self.handle)
+    }
+}

@@ -1,0 +1,470 @@
+//! The calls on instances: codes 1 to 21.
+//!
+//! Derives from instance_tracker.rs of ZeroDDS.
+//! Copyright 2026 ZeroDDS Contributors. SPDX-License-Identifier: Apache-2.0. Changed: written anew, each call
+//! by a sheet to the library, and refusals answered.
+
+use crate::sheet::{delay, Sheet};
+use crate::{InstanceHandle, InstanceStateKind, KeyHash, Refusal, State, Time};
+
+/// Calls on the instances.
+impl State {
+    /// An instance is registered: made known or brought back, its registrations one more, its holder
+    /// replaced (DDS 1.4, 2.2.2.4.2.5). Bringing it back does not make it new to the reader.
+    ///
+    /// Refused as 4, 6, 9 or 13.
+    ///
+    /// ```
+    /// let mut state = dcps::State::new();
+    /// let handle = state.register([1; 16], b"serial 1".to_vec(), None)?;
+    /// assert_eq!(state.register([1; 16], b"serial 1".to_vec(), None)?, handle);
+    /// assert_eq!(state.get_by_handle(handle).map(|i| i.writer_count), Some(2));
+    /// # Ok::<(), dcps::Refusal>(())
+    /// ```
+    pub fn register(
+        &mut self,
+        keyhash: KeyHash,
+        key_holder: Vec<u8>,
+        timestamp: Option<Time>,
+    ) -> Result<InstanceHandle, Refusal> {
+        let sheet = Sheet::of(1).key(&keyhash).holder(&key_holder).optional_time1(timestamp);
+        Ok(self.make(&sheet)?.handle)
+    }
+
+    /// An instance is made known or brought back, with one registration at least; none where it is new and
+    /// the limit is reached. A negative limit is none.
+    ///
+    /// Refused as 9 or 13.
+    ///
+    /// ```
+    /// let mut state = dcps::State::new();
+    /// assert_eq!(state.ensure_registered_limited([1; 16], 0)?, None);
+    /// assert!(state.ensure_registered_limited([1; 16], -1)?.is_some());
+    /// # Ok::<(), dcps::Refusal>(())
+    /// ```
+    pub fn ensure_registered_limited(
+        &mut self,
+        keyhash: KeyHash,
+        max_instances: i32,
+    ) -> Result<Option<InstanceHandle>, Refusal> {
+        Ok(self.make(&Sheet::of(2).key(&keyhash).limit(max_instances))?.found())
+    }
+
+    /// An instance is disposed (DDS 1.4, 2.2.2.4.2.10). No where the handle is unknown.
+    ///
+    /// Refused as 4.
+    ///
+    /// ```
+    /// use dcps::{InstanceStateKind, State, Time};
+    ///
+    /// let mut state = State::new();
+    /// let handle = state.register([1; 16], Vec::new(), None)?;
+    /// assert!(state.dispose(handle, Some(Time { sec: 4, nanosec: 0 }))?);
+    /// let kind = state.get_by_handle(handle).map(|i| i.kind);
+    /// assert_eq!(kind, Some(InstanceStateKind::NotAliveDisposed));
+    /// # Ok::<(), dcps::Refusal>(())
+    /// ```
+    pub fn dispose(
+        &mut self,
+        handle: InstanceHandle,
+        timestamp: Option<Time>,
+    ) -> Result<bool, Refusal> {
+        Ok(self.make(&Sheet::of(3).handle(handle).optional_time1(timestamp))?.yes)
+    }
+
+    /// One registration fewer; without any, an instance that is not disposed has no writers
+    /// (DDS 1.4, 2.2.2.4.2.7). The set of writers stays. No where the handle is unknown.
+    ///
+    /// Refused as 4.
+    ///
+    /// ```
+    /// use dcps::{InstanceStateKind, State};
+    ///
+    /// let mut state = State::new();
+    /// let handle = state.register([1; 16], Vec::new(), None)?;
+    /// assert!(state.unregister(handle, None)?);
+    /// let kind = state.get_by_handle(handle).map(|i| i.kind);
+    /// assert_eq!(kind, Some(InstanceStateKind::NotAliveNoWriters));
+    /// # Ok::<(), dcps::Refusal>(())
+    /// ```
+    pub fn unregister(
+        &mut self,
+        handle: InstanceHandle,
+        timestamp: Option<Time>,
+    ) -> Result<bool, Refusal> {
+        Ok(self.make(&Sheet::of(4).handle(handle).optional_time1(timestamp))?.yes)
+    }
+
+    /// A writer unregistered an instance and leaves its set; an alive one whose set is then empty has no
+    /// writers. No where the handle is unknown.
+    ///
+    /// Refused as 4.
+    ///
+    /// ```
+    /// use dcps::{InstanceStateKind, State};
+    ///
+    /// let mut state = State::new();
+    /// let handle = state.register([1; 16], Vec::new(), None)?;
+    /// state.note_writer(handle, [9; 16])?;
+    /// assert!(state.unregister_writer(handle, [9; 16], None)?);
+    /// let kind = state.get_by_handle(handle).map(|i| i.kind);
+    /// assert_eq!(kind, Some(InstanceStateKind::NotAliveNoWriters));
+    /// # Ok::<(), dcps::Refusal>(())
+    /// ```
+    pub fn unregister_writer(
+        &mut self,
+        handle: InstanceHandle,
+        writer: [u8; 16],
+        timestamp: Option<Time>,
+    ) -> Result<bool, Refusal> {
+        let sheet = Sheet::of(5).handle(handle).guid(&writer).optional_time1(timestamp);
+        Ok(self.make(&sheet)?.yes)
+    }
+
+    /// A writer writes an instance: it joins its set.
+    ///
+    /// Refused as 10.
+    ///
+    /// ```
+    /// let mut state = dcps::State::new();
+    /// let handle = state.register([1; 16], Vec::new(), None)?;
+    /// state.note_writer(handle, [9; 16])?;
+    /// assert!(state.get_by_handle(handle).is_some_and(|i| i.writers.contains(&[9; 16])));
+    /// # Ok::<(), dcps::Refusal>(())
+    /// ```
+    pub fn note_writer(&mut self, handle: InstanceHandle, writer: [u8; 16]) -> Result<(), Refusal> {
+        self.make(&Sheet::of(6).handle(handle).guid(&writer))?;
+        Ok(())
+    }
+
+    /// A writer is gone: it leaves every instance. The alive ones that it leaves without a writer are
+    /// answered, in the order of their keys, and have no writers from `timestamp` on.
+    ///
+    /// Refused as 4.
+    ///
+    /// ```
+    /// let mut state = dcps::State::new();
+    /// let handle = state.register([1; 16], Vec::new(), None)?;
+    /// state.note_writer(handle, [9; 16])?;
+    /// assert_eq!(state.drop_writer(&[9; 16], None)?, [handle]);
+    /// # Ok::<(), dcps::Refusal>(())
+    /// ```
+    pub fn drop_writer(
+        &mut self,
+        writer: &[u8; 16],
+        timestamp: Option<Time>,
+    ) -> Result<Vec<InstanceHandle>, Refusal> {
+        let answer = self.make(&Sheet::of(7).guid(writer).optional_time1(timestamp))?;
+        Ok(self.listed_handles(answer.listed))
+    }
+
+    /// The instance of a dispose or unregister marker, made known and counted, but not brought back.
+    ///
+    /// Refused as 4, 6, 9 or 13.
+    ///
+    /// ```
+    /// let mut state = dcps::State::new();
+    /// let handle = state.observe_lifecycle([1; 16], None, None)?;
+    /// assert_eq!(state.get_by_handle(handle).map(|i| i.samples_in_cache), Some(1));
+    /// # Ok::<(), dcps::Refusal>(())
+    /// ```
+    pub fn observe_lifecycle(
+        &mut self,
+        keyhash: KeyHash,
+        key_holder: Option<Vec<u8>>,
+        timestamp: Option<Time>,
+    ) -> Result<InstanceHandle, Refusal> {
+        let sheet = Sheet::of(8)
+            .key(&keyhash)
+            .optional_holder(key_holder.as_deref())
+            .optional_time1(timestamp);
+        Ok(self.make(&sheet)?.handle)
+    }
+
+    /// A sample of an instance that is known or has room: made known or brought back, and counted. Its
+    /// handle and its samples, or none where it is new and the limit is reached. The holder is asked for
+    /// only where none is stored.
+    ///
+    /// Refused as 4, 6, 9 or 13.
+    ///
+    /// ```
+    /// use dcps::{State, Time};
+    ///
+    /// let mut state = State::new();
+    /// let holder = || b"serial 1".to_vec();
+    /// let (handle, samples) = state.observe_admitted([1; 16], holder, Time::ZERO, -1)?.expect("no limit");
+    /// assert_eq!((handle.as_raw(), samples), (1, 1));
+    /// assert_eq!(state.observe_admitted([2; 16], Vec::new, Time::ZERO, 1)?, None);
+    /// # Ok::<(), dcps::Refusal>(())
+    /// ```
+    pub fn observe_admitted(
+        &mut self,
+        keyhash: KeyHash,
+        key_holder: impl FnOnce() -> Vec<u8>,
+        timestamp: Time,
+        max_instances: i32,
+    ) -> Result<Option<(InstanceHandle, u32)>, Refusal> {
+        let stored = self.get_by_keyhash(&keyhash).is_some_and(|i| i.key_holder.is_some());
+        let holder = if stored { Vec::new() } else { key_holder() };
+        let sheet =
+            Sheet::of(9).key(&keyhash).holder(&holder).time1(timestamp).limit(max_instances);
+        let answer = self.make(&sheet)?;
+        Ok(answer.found().map(|handle| (handle, answer.samples)))
+    }
+
+    /// A sample went into the cache: its times become the last of order and filter, and its writer joins
+    /// the set. Whether the instance is new to the reader, where it stands and its two generation counts;
+    /// none where the key is unknown.
+    ///
+    /// Refused as 4 or 10.
+    ///
+    /// ```
+    /// use dcps::{InstanceStateKind, State, Time};
+    ///
+    /// let mut state = State::new();
+    /// state.register([1; 16], Vec::new(), None)?;
+    /// let noted = state.note_admitted(&[1; 16], Time::ZERO, Time::ZERO, [9; 16])?;
+    /// assert_eq!(noted, Some((true, InstanceStateKind::Alive, 0, 0)));
+    /// # Ok::<(), dcps::Refusal>(())
+    /// ```
+    pub fn note_admitted(
+        &mut self,
+        keyhash: &KeyHash,
+        order_ts: Time,
+        filter_ts: Time,
+        writer: [u8; 16],
+    ) -> Result<Option<(bool, InstanceStateKind, i32, i32)>, Refusal> {
+        let sheet = Sheet::of(10).key(keyhash).time1(order_ts).time2(filter_ts).guid(&writer);
+        let a = self.make(&sheet)?;
+        let state =
+            (a.view_new, a.kind, a.disposed_generation_count, a.no_writers_generation_count);
+        Ok(a.present.then_some(state))
+    }
+
+    /// A sample was delivered: its time becomes the last of order and filter.
+    ///
+    /// Refused as 4.
+    ///
+    /// ```
+    /// use dcps::{State, Time};
+    ///
+    /// let mut state = State::new();
+    /// let handle = state.register([1; 16], Vec::new(), None)?;
+    /// let time = Time { sec: 5, nanosec: 0 };
+    /// state.record_delivery(&[1; 16], time)?;
+    /// assert_eq!(state.get_by_handle(handle).and_then(|i| i.last_filter_ts), Some(time));
+    /// # Ok::<(), dcps::Refusal>(())
+    /// ```
+    pub fn record_delivery(&mut self, keyhash: &KeyHash, sample_ts: Time) -> Result<(), Refusal> {
+        self.make(&Sheet::of(11).key(keyhash).time1(sample_ts))?;
+        Ok(())
+    }
+
+    /// Samples of an instance were taken: so many fewer, and it is new no more.
+    ///
+    /// ```
+    /// let mut state = dcps::State::new();
+    /// let handle = state.observe_lifecycle([1; 16], None, None)?;
+    /// state.note_taken(handle, 1)?;
+    /// let instance = state.get_by_handle(handle).expect("it is there");
+    /// assert_eq!((instance.samples_in_cache, instance.reader_view_new), (0, false));
+    /// # Ok::<(), dcps::Refusal>(())
+    /// ```
+    pub fn note_taken(&mut self, handle: InstanceHandle, n: u32) -> Result<(), Refusal> {
+        self.make(&Sheet::of(12).handle(handle).n(n))?;
+        Ok(())
+    }
+
+    /// An instance was seen: it is new no more.
+    ///
+    /// ```
+    /// let mut state = dcps::State::new();
+    /// let handle = state.register([1; 16], Vec::new(), None)?;
+    /// state.mark_view_seen(handle)?;
+    /// assert_eq!(state.get_by_handle(handle).map(|i| i.reader_view_new), Some(false));
+    /// # Ok::<(), dcps::Refusal>(())
+    /// ```
+    pub fn mark_view_seen(&mut self, handle: InstanceHandle) -> Result<(), Refusal> {
+        self.make(&Sheet::of(13).handle(handle))?;
+        Ok(())
+    }
+
+    /// An instance is new again. No where the key is unknown.
+    ///
+    /// ```
+    /// let mut state = dcps::State::new();
+    /// assert!(!state.mark_view_new(&[1; 16])?);
+    /// state.register([1; 16], Vec::new(), None)?;
+    /// assert!(state.mark_view_new(&[1; 16])?);
+    /// # Ok::<(), dcps::Refusal>(())
+    /// ```
+    pub fn mark_view_new(&mut self, keyhash: &KeyHash) -> Result<bool, Refusal> {
+        Ok(self.make(&Sheet::of(14).key(keyhash))?.yes)
+    }
+
+    /// So many samples of an instance fewer.
+    ///
+    /// ```
+    /// let mut state = dcps::State::new();
+    /// let handle = state.observe_lifecycle([1; 16], None, None)?;
+    /// state.drain_samples(handle, 5)?;
+    /// assert_eq!(state.get_by_handle(handle).map(|i| i.samples_in_cache), Some(0));
+    /// # Ok::<(), dcps::Refusal>(())
+    /// ```
+    pub fn drain_samples(&mut self, handle: InstanceHandle, n: u32) -> Result<(), Refusal> {
+        self.make(&Sheet::of(15).handle(handle).n(n))?;
+        Ok(())
+    }
+
+    /// Whether a sample is accepted under exclusive ownership (DDS 1.4, 2.2.3.9.2); if so, its writer owns
+    /// the instance from now on. An unknown instance accepts, and stores nothing.
+    ///
+    /// Refused as 4.
+    ///
+    /// ```
+    /// use dcps::{State, Time};
+    ///
+    /// let mut state = State::new();
+    /// state.register([1; 16], Vec::new(), None)?;
+    /// let at = |sec| Time { sec, nanosec: 0 };
+    /// assert!(state.accept_under_exclusive_ownership(&[1; 16], [8; 16], 5, at(0), None)?);
+    /// assert!(!state.accept_under_exclusive_ownership(&[1; 16], [9; 16], 4, at(1), None)?);
+    /// // The owner missed a deadline of 2 s.
+    /// let deadline = Some(2_000_000_000);
+    /// assert!(state.accept_under_exclusive_ownership(&[1; 16], [9; 16], 4, at(2), deadline)?);
+    /// # Ok::<(), dcps::Refusal>(())
+    /// ```
+    pub fn accept_under_exclusive_ownership(
+        &mut self,
+        keyhash: &KeyHash,
+        writer_guid: [u8; 16],
+        writer_strength: i32,
+        now: Time,
+        deadline_nanos: Option<u128>,
+    ) -> Result<bool, Refusal> {
+        let sheet = Sheet::of(16)
+            .key(keyhash)
+            .guid(&writer_guid)
+            .strength(writer_strength)
+            .time2(now)
+            .deadline(deadline_nanos);
+        Ok(self.make(&sheet)?.yes)
+    }
+
+    /// [`State::accept_under_exclusive_ownership`] at second 0 and without a deadline.
+    ///
+    /// ```
+    /// let mut state = dcps::State::new();
+    /// state.register([1; 16], Vec::new(), None)?;
+    /// assert!(state.should_accept_sample_under_exclusive_ownership(&[1; 16], [9; 16], 5)?);
+    /// // At equal strength the lower GUID takes over.
+    /// assert!(state.should_accept_sample_under_exclusive_ownership(&[1; 16], [8; 16], 5)?);
+    /// # Ok::<(), dcps::Refusal>(())
+    /// ```
+    pub fn should_accept_sample_under_exclusive_ownership(
+        &mut self,
+        keyhash: &KeyHash,
+        writer_guid: [u8; 16],
+        writer_strength: i32,
+    ) -> Result<bool, Refusal> {
+        self.accept_under_exclusive_ownership(
+            keyhash,
+            writer_guid,
+            writer_strength,
+            Time::ZERO,
+            None,
+        )
+    }
+
+    /// A writer announced its strength: it holds the instances it owns at that.
+    ///
+    /// ```
+    /// let mut state = dcps::State::new();
+    /// let handle = state.register([1; 16], Vec::new(), None)?;
+    /// state.should_accept_sample_under_exclusive_ownership(&[1; 16], [9; 16], 5)?;
+    /// state.update_owner_strength([9; 16], 2)?;
+    /// assert_eq!(state.get_by_handle(handle).and_then(|i| i.current_owner), Some(([9; 16], 2)));
+    /// # Ok::<(), dcps::Refusal>(())
+    /// ```
+    pub fn update_owner_strength(
+        &mut self,
+        writer: [u8; 16],
+        strength: i32,
+    ) -> Result<(), Refusal> {
+        self.make(&Sheet::of(17).guid(&writer).strength(strength))?;
+        Ok(())
+    }
+
+    /// A writer gives up the instances it owns; their number.
+    ///
+    /// ```
+    /// let mut state = dcps::State::new();
+    /// state.register([1; 16], Vec::new(), None)?;
+    /// state.should_accept_sample_under_exclusive_ownership(&[1; 16], [9; 16], 5)?;
+    /// assert_eq!(state.clear_owner_for_writer([9; 16])?, 1);
+    /// # Ok::<(), dcps::Refusal>(())
+    /// ```
+    pub fn clear_owner_for_writer(&mut self, writer_guid: [u8; 16]) -> Result<usize, Refusal> {
+        Ok(self.make(&Sheet::of(18).guid(&writer_guid))?.count as usize)
+    }
+
+    /// The writers of a participant give up the instances they own; their number.
+    ///
+    /// ```
+    /// let mut state = dcps::State::new();
+    /// state.register([1; 16], Vec::new(), None)?;
+    /// state.should_accept_sample_under_exclusive_ownership(&[1; 16], [9; 16], 5)?;
+    /// assert_eq!(state.clear_owner_for_writer_prefix([9; 12])?, 1);
+    /// # Ok::<(), dcps::Refusal>(())
+    /// ```
+    pub fn clear_owner_for_writer_prefix(&mut self, prefix: [u8; 12]) -> Result<usize, Refusal> {
+        Ok(self.make(&Sheet::of(19).prefix(prefix))?.count as usize)
+    }
+
+    /// A writer gives up an instance; yes if it owned it.
+    ///
+    /// ```
+    /// let mut state = dcps::State::new();
+    /// state.register([1; 16], Vec::new(), None)?;
+    /// state.should_accept_sample_under_exclusive_ownership(&[1; 16], [9; 16], 5)?;
+    /// assert!(!state.release_owner_of(&[1; 16], [8; 16])?);
+    /// assert!(state.release_owner_of(&[1; 16], [9; 16])?);
+    /// # Ok::<(), dcps::Refusal>(())
+    /// ```
+    pub fn release_owner_of(
+        &mut self,
+        keyhash: &KeyHash,
+        writer: [u8; 16],
+    ) -> Result<bool, Refusal> {
+        Ok(self.make(&Sheet::of(20).key(keyhash).guid(&writer))?.yes)
+    }
+
+    /// Instances that were disposed, or without writers, for their delay go (DDS 1.4, 2.2.3.22); their
+    /// number. `u128::MAX` is never.
+    ///
+    /// Refused as 4.
+    ///
+    /// ```
+    /// use dcps::{State, Time};
+    ///
+    /// let mut state = State::new();
+    /// let handle = state.register([1; 16], Vec::new(), None)?;
+    /// let nanosecond = |nanosec| Time { sec: 0, nanosec };
+    /// state.dispose(handle, Some(nanosecond(10)))?;
+    /// assert_eq!(state.autopurge(nanosecond(14), 5, u128::MAX)?, 0);
+    /// assert_eq!(state.autopurge(nanosecond(15), 5, u128::MAX)?, 1);
+    /// # Ok::<(), dcps::Refusal>(())
+    /// ```
+    pub fn autopurge(
+        &mut self,
+        now: Time,
+        autopurge_disposed_delay_nanos: u128,
+        autopurge_nowriter_delay_nanos: u128,
+    ) -> Result<usize, Refusal> {
+        let sheet = Sheet::of(21)
+            .time2(now)
+            .a(delay(autopurge_disposed_delay_nanos))
+            .b(delay(autopurge_nowriter_delay_nanos));
+        Ok(self.make(&sheet)?.count as usize)
+    }
+}

@@ -1,0 +1,257 @@
+//! The joined calls, 48 to 51: what a reader does for a sample, for the clock and for a writer that leaves.
+
+use crate::sheet::{delay, Sheet};
+use crate::{InstanceHandle, InstanceStateKind, KeyHash, Refusal, State, Time};
+use std::time::Duration;
+
+/// A received sample, with what the reader asks of it, for [`State::admit`].
+///
+/// ```
+/// use dcps::{Sample, Time};
+///
+/// let sample = Sample::new([1; 16], [9; 16], Time { sec: 3, nanosec: 0 });
+/// assert_eq!((sample.filter_ts, sample.max_instances), (sample.order_ts, -1));
+/// ```
+#[derive(Debug, Clone, PartialEq, Eq)]
+pub struct Sample {
+    /// The instance.
+    pub keyhash: KeyHash,
+    /// The serialized key; kept where the instance has none stored.
+    pub key_holder: Vec<u8>,
+    /// The writer.
+    pub writer: [u8; 16],
+    /// The strength that it writes with.
+    pub strength: i32,
+    /// The time of the sample and of the destination order.
+    pub order_ts: Time,
+    /// Now: the time of the filter and of ownership.
+    pub filter_ts: Time,
+    /// Whether the destination order is by source.
+    pub by_source_timestamp: bool,
+    /// The least time between two samples of an instance.
+    pub min_separation_nanos: u128,
+    /// The reader's deadline; none is infinite.
+    pub deadline_nanos: Option<u128>,
+    /// The most instances; a negative limit is none.
+    pub max_instances: i32,
+}
+
+impl Sample {
+    /// A sample of one time, from a reader that asks nothing of it.
+    ///
+    /// ```
+    /// use dcps::{Sample, State, Time};
+    ///
+    /// let admission = State::new().admit(&Sample::new([1; 16], [9; 16], Time::ZERO))?;
+    /// assert!(admission.is_admitted());
+    /// # Ok::<(), dcps::Refusal>(())
+    /// ```
+    #[must_use]
+    pub fn new(keyhash: KeyHash, writer: [u8; 16], time: Time) -> Self {
+        Self {
+            keyhash,
+            key_holder: Vec::new(),
+            writer,
+            strength: 0,
+            order_ts: time,
+            filter_ts: time,
+            by_source_timestamp: false,
+            min_separation_nanos: 0,
+            deadline_nanos: None,
+            max_instances: -1,
+        }
+    }
+}
+
+/// What became of a sample. All but `Admitted` changed nothing.
+#[derive(Debug, Clone, Copy, PartialEq, Eq)]
+pub enum Admission {
+    /// Outcome 0: it is in.
+    Admitted {
+        /// The instance.
+        handle: InstanceHandle,
+        /// Samples of it that were not taken yet, this one among them.
+        samples_in_cache: u32,
+        /// Whether it is new to the reader.
+        view_new: bool,
+        /// Where it stands.
+        kind: InstanceStateKind,
+        /// How often it came back after a dispose.
+        disposed_generation_count: i32,
+        /// How often it came back after its last writer left.
+        no_writers_generation_count: i32,
+    },
+    /// Outcome 1: not later than the last one delivered.
+    DestinationOrder,
+    /// Outcome 2: too close to the last one.
+    TimeBasedFilter,
+    /// Outcome 3: a new instance beyond the limit.
+    MaxInstances,
+    /// Outcome 4: another writer owns the instance.
+    ExclusiveOwnership,
+}
+
+impl Admission {
+    /// Whether the sample is in.
+    ///
+    /// ```
+    /// assert!(!dcps::Admission::MaxInstances.is_admitted());
+    /// ```
+    #[must_use]
+    pub const fn is_admitted(&self) -> bool {
+        matches!(self, Self::Admitted { .. })
+    }
+}
+
+/// What [`State::lapse`] did.
+#[derive(Debug, Clone, PartialEq, Eq)]
+pub struct Lapse {
+    /// Whether a writer expired.
+    pub changed: bool,
+    /// When the next lease runs out.
+    pub next_due: Option<Duration>,
+    /// The instances that it left without a writer, in the order of their keys.
+    pub writerless: Vec<InstanceHandle>,
+    /// Instances whose owner expired.
+    pub owners_cleared: usize,
+}
+
+/// What [`State::part`] or [`State::depart`] did.
+#[derive(Debug, Clone, PartialEq, Eq)]
+pub struct Parting {
+    /// Whether a liveliness count moved.
+    pub changed: bool,
+    /// The instances that it left without a writer, in the order of their keys.
+    pub writerless: Vec<InstanceHandle>,
+    /// Instances that the writer owned.
+    pub owners_cleared: usize,
+}
+
+/// Calls on instances and writers together.
+impl State {
+    /// A sample came in: destination order, filter, limit and ownership are asked in this order, and then
+    /// it is counted in its instance, with its writer.
+    ///
+    /// Refused as 4, 6, 9, 10 or 13.
+    ///
+    /// ```
+    /// use dcps::{Admission, Sample, State, Time};
+    ///
+    /// let mut state = State::new();
+    /// let mut sample = Sample::new([1; 16], [9; 16], Time { sec: 5, nanosec: 0 });
+    /// sample.min_separation_nanos = 1_000_000_000;
+    /// assert!(state.admit(&sample)?.is_admitted());
+    /// sample.filter_ts = Time { sec: 5, nanosec: 999_999_999 };
+    /// assert_eq!(state.admit(&sample)?, Admission::TimeBasedFilter);
+    /// # Ok::<(), dcps::Refusal>(())
+    /// ```
+    pub fn admit(&mut self, sample: &Sample) -> Result<Admission, Refusal> {
+        let sheet = Sheet::of(48)
+            .key(&sample.keyhash)
+            .holder(&sample.key_holder)
+            .guid(&sample.writer)
+            .strength(sample.strength)
+            .time1(sample.order_ts)
+            .time2(sample.filter_ts)
+            .by_source(sample.by_source_timestamp)
+            .a(delay(sample.min_separation_nanos))
+            .deadline(sample.deadline_nanos)
+            .limit(sample.max_instances);
+        let answer = self.make(&sheet)?;
+        Ok(match answer.outcome {
+            0 => Admission::Admitted {
+                handle: answer.handle,
+                samples_in_cache: answer.samples,
+                view_new: answer.view_new,
+                kind: answer.kind,
+                disposed_generation_count: answer.disposed_generation_count,
+                no_writers_generation_count: answer.no_writers_generation_count,
+            },
+            1 => Admission::DestinationOrder,
+            2 => Admission::TimeBasedFilter,
+            3 => Admission::MaxInstances,
+            _ => Admission::ExclusiveOwnership,
+        })
+    }
+
+    /// [`State::expire`], and then each writer that this call expired leaves its instances and gives up
+    /// those it owns. Instances left without a writer are so from `timestamp` on.
+    ///
+    /// Refused as 4, 5 or 12.
+    ///
+    /// ```
+    /// use dcps::{LivelinessKind, Sample, State, Time};
+    /// use std::time::Duration;
+    ///
+    /// let mut state = State::new();
+    /// let second = Duration::from_secs(1);
+    /// state.matched([9; 16], LivelinessKind::Automatic, Some(second), second)?;
+    /// state.admit(&Sample::new([1; 16], [9; 16], Time { sec: 1, nanosec: 0 }))?;
+    /// let lapse = state.lapse(2 * second, Some(Time { sec: 2, nanosec: 0 }))?;
+    /// assert_eq!(lapse.writerless, [state.lookup(&[1; 16]).expect("it is there")]);
+    /// # Ok::<(), dcps::Refusal>(())
+    /// ```
+    pub fn lapse(&mut self, now: Duration, timestamp: Option<Time>) -> Result<Lapse, Refusal> {
+        let answer = self.make(&Sheet::of(49).clock(now).optional_time1(timestamp))?;
+        Ok(Lapse {
+            changed: answer.yes,
+            next_due: answer.next_due.map(Duration::from_nanos),
+            writerless: self.listed_handles(answer.listed),
+            owners_cleared: answer.count as usize,
+        })
+    }
+
+    /// [`State::unmatched`], and then the writer, tracked or not, leaves its instances and gives up those
+    /// it owns.
+    ///
+    /// Refused as 4.
+    ///
+    /// ```
+    /// use dcps::{Sample, State, Time};
+    ///
+    /// let mut state = State::new();
+    /// state.admit(&Sample::new([1; 16], [9; 16], Time::ZERO))?;
+    /// let parting = state.part([9; 16], Some(Time { sec: 7, nanosec: 0 }))?;
+    /// assert_eq!(parting.writerless.len(), 1);
+    /// # Ok::<(), dcps::Refusal>(())
+    /// ```
+    pub fn part(&mut self, writer: [u8; 16], timestamp: Option<Time>) -> Result<Parting, Refusal> {
+        self.parting(50, writer, timestamp)
+    }
+
+    /// [`State::lost_with_participant`], and then as [`State::part`].
+    ///
+    /// Refused as 4.
+    ///
+    /// ```
+    /// use dcps::{LivelinessKind, State};
+    /// use std::time::Duration;
+    ///
+    /// let mut state = State::new();
+    /// state.matched([9; 16], LivelinessKind::Automatic, None, Duration::ZERO)?;
+    /// assert!(state.depart([9; 16], None)?.changed);
+    /// assert_eq!(state.head().not_alive, 1);
+    /// # Ok::<(), dcps::Refusal>(())
+    /// ```
+    pub fn depart(
+        &mut self,
+        writer: [u8; 16],
+        timestamp: Option<Time>,
+    ) -> Result<Parting, Refusal> {
+        self.parting(51, writer, timestamp)
+    }
+
+    fn parting(
+        &mut self,
+        code: u8,
+        writer: [u8; 16],
+        timestamp: Option<Time>,
+    ) -> Result<Parting, Refusal> {
+        let answer = self.make(&Sheet::of(code).guid(&writer).optional_time1(timestamp))?;
+        Ok(Parting {
+            changed: answer.yes,
+            writerless: self.listed_handles(answer.listed),
+            owners_cleared: answer.count as usize,
+        })
+    }
+}

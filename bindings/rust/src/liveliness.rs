@@ -1,0 +1,193 @@
+//! The calls on the writers' liveliness: codes 32 to 40.
+//!
+//! Derives from liveliness_tracker.rs of ZeroDDS.
+//! Copyright 2026 ZeroDDS Contributors. SPDX-License-Identifier: Apache-2.0. Changed: written anew, each call
+//! by a sheet to the library, and refusals answered.
+
+use crate::sheet::Sheet;
+use crate::{LivelinessChangedStatus, LivelinessKind, Refusal, State};
+use std::time::Duration;
+
+/// Calls on the writers.
+impl State {
+    /// A writer matched, with the liveliness that it offers. Yes if a count moved. One that is matched
+    /// already only takes the new kind and lease.
+    ///
+    /// Refused as 5 or 11.
+    ///
+    /// ```
+    /// use dcps::{LivelinessKind, State};
+    /// use std::time::Duration;
+    ///
+    /// let mut state = State::new();
+    /// let lease = Some(Duration::from_secs(2));
+    /// // An automatic writer is alive from its match on, a manual one from its first assertion on.
+    /// assert!(state.matched([1; 16], LivelinessKind::Automatic, lease, Duration::ZERO)?);
+    /// assert!(!state.matched([2; 16], LivelinessKind::ManualByTopic, lease, Duration::ZERO)?);
+    /// # Ok::<(), dcps::Refusal>(())
+    /// ```
+    pub fn matched(
+        &mut self,
+        writer: [u8; 16],
+        kind: LivelinessKind,
+        lease: Option<Duration>,
+        now: Duration,
+    ) -> Result<bool, Refusal> {
+        let sheet = Sheet::of(32).guid(&writer).kind(kind).lease(lease).clock(now);
+        Ok(self.make(&sheet)?.yes)
+    }
+
+    /// A writer is matched no more, deleted as usual. Yes if a count moved.
+    ///
+    /// ```
+    /// use dcps::{LivelinessKind, State};
+    /// use std::time::Duration;
+    ///
+    /// let mut state = State::new();
+    /// state.matched([1; 16], LivelinessKind::Automatic, None, Duration::ZERO)?;
+    /// assert!(state.unmatched([1; 16])?);
+    /// assert!(!state.unmatched([1; 16])?);
+    /// # Ok::<(), dcps::Refusal>(())
+    /// ```
+    pub fn unmatched(&mut self, writer: [u8; 16]) -> Result<bool, Refusal> {
+        Ok(self.make(&Sheet::of(33).guid(&writer))?.yes)
+    }
+
+    /// A writer is matched no more because its participant fell silent: it counts as not alive until it
+    /// matches again and asserts. Yes if a count moved.
+    ///
+    /// ```
+    /// use dcps::{LivelinessKind, State, WriterLiveliness};
+    /// use std::time::Duration;
+    ///
+    /// let mut state = State::new();
+    /// state.matched([1; 16], LivelinessKind::Automatic, None, Duration::ZERO)?;
+    /// assert!(state.lost_with_participant([1; 16])?);
+    /// let writer = state.writers().next().expect("it keeps a record");
+    /// assert_eq!(writer.state, WriterLiveliness::Departed);
+    /// # Ok::<(), dcps::Refusal>(())
+    /// ```
+    pub fn lost_with_participant(&mut self, writer: [u8; 16]) -> Result<bool, Refusal> {
+        Ok(self.make(&Sheet::of(34).guid(&writer))?.yes)
+    }
+
+    /// A writer asserted itself, which asserts its participant too. Yes if a count moved.
+    ///
+    /// Refused as 5.
+    ///
+    /// ```
+    /// use dcps::{LivelinessKind, State};
+    /// use std::time::Duration;
+    ///
+    /// let mut state = State::new();
+    /// state.matched([1; 16], LivelinessKind::ManualByTopic, None, Duration::ZERO)?;
+    /// assert!(state.writer_asserted([1; 16], Duration::from_secs(1))?);
+    /// # Ok::<(), dcps::Refusal>(())
+    /// ```
+    pub fn writer_asserted(&mut self, writer: [u8; 16], now: Duration) -> Result<bool, Refusal> {
+        Ok(self.make(&Sheet::of(35).guid(&writer).clock(now))?.yes)
+    }
+
+    /// A participant was heard: asserts its automatic writers and, where it was a manual assertion, those
+    /// by participant. Yes if a count moved.
+    ///
+    /// Refused as 5.
+    ///
+    /// ```
+    /// use dcps::{LivelinessKind, State};
+    /// use std::time::Duration;
+    ///
+    /// let mut state = State::new();
+    /// state.matched([1; 16], LivelinessKind::ManualByParticipant, None, Duration::ZERO)?;
+    /// assert!(!state.participant_asserted([1; 12], false, Duration::from_secs(1))?);
+    /// assert!(state.participant_asserted([1; 12], true, Duration::from_secs(1))?);
+    /// # Ok::<(), dcps::Refusal>(())
+    /// ```
+    pub fn participant_asserted(
+        &mut self,
+        prefix: [u8; 12],
+        manual: bool,
+        now: Duration,
+    ) -> Result<bool, Refusal> {
+        Ok(self.make(&Sheet::of(36).prefix(prefix).manual(manual).clock(now))?.yes)
+    }
+
+    /// Alive writers whose lease ran out become not alive and go to Lost. Whether a count moved, and when
+    /// the next lease runs out.
+    ///
+    /// Refused as 5 or 12. [`State::lapse`] also takes them out of their instances.
+    ///
+    /// ```
+    /// use dcps::{LivelinessKind, State};
+    /// use std::time::Duration;
+    ///
+    /// let mut state = State::new();
+    /// let (at, lease) = (Duration::from_nanos(100), Duration::from_nanos(10));
+    /// state.matched([1; 16], LivelinessKind::Automatic, Some(lease), at)?;
+    /// assert_eq!(state.expire(Duration::from_nanos(109))?, (false, Some(at + lease)));
+    /// assert_eq!(state.expire(Duration::from_nanos(110))?, (true, None));
+    /// # Ok::<(), dcps::Refusal>(())
+    /// ```
+    pub fn expire(&mut self, now: Duration) -> Result<(bool, Option<Duration>), Refusal> {
+        let answer = self.make(&Sheet::of(37).clock(now))?;
+        Ok((answer.yes, answer.next_due.map(Duration::from_nanos)))
+    }
+
+    /// The writers that expired since the last time, in the order of their expiry; Lost is then empty.
+    ///
+    /// ```
+    /// use dcps::{LivelinessKind, State};
+    /// use std::time::Duration;
+    ///
+    /// let mut state = State::new();
+    /// let second = Duration::from_secs(1);
+    /// state.matched([1; 16], LivelinessKind::Automatic, Some(second), second)?;
+    /// state.expire(2 * second)?;
+    /// assert_eq!(state.take_lost()?, [[1; 16]]);
+    /// assert!(state.take_lost()?.is_empty());
+    /// # Ok::<(), dcps::Refusal>(())
+    /// ```
+    pub fn take_lost(&mut self) -> Result<Vec<[u8; 16]>, Refusal> {
+        let answer = self.make(&Sheet::of(38))?;
+        Ok(self.listed_guids(answer.listed))
+    }
+
+    /// The status; its changes are then acknowledged.
+    ///
+    /// ```
+    /// use dcps::{LivelinessKind, State};
+    /// use std::time::Duration;
+    ///
+    /// let mut state = State::new();
+    /// state.matched([1; 16], LivelinessKind::Automatic, None, Duration::ZERO)?;
+    /// assert_eq!(state.take_status()?.alive_count_change, 1);
+    /// assert_eq!(state.take_status()?.alive_count_change, 0);
+    /// # Ok::<(), dcps::Refusal>(())
+    /// ```
+    pub fn take_status(&mut self) -> Result<LivelinessChangedStatus, Refusal> {
+        Ok(self.make(&Sheet::of(39))?.status)
+    }
+
+    /// A listener was handed a status: its changes are pending no more, later ones still are.
+    ///
+    /// Refused as 8.
+    ///
+    /// ```
+    /// use dcps::{LivelinessChangedStatus, LivelinessKind, State};
+    /// use std::time::Duration;
+    ///
+    /// let mut state = State::new();
+    /// state.matched([1; 16], LivelinessKind::Automatic, None, Duration::ZERO)?;
+    /// let reported = LivelinessChangedStatus { alive_count_change: 1, ..Default::default() };
+    /// state.acknowledge(&reported)?;
+    /// assert_eq!(state.head().alive_change, 0);
+    /// # Ok::<(), dcps::Refusal>(())
+    /// ```
+    pub fn acknowledge(&mut self, reported: &LivelinessChangedStatus) -> Result<(), Refusal> {
+        let sheet = Sheet::of(40)
+            .limit(reported.alive_count_change)
+            .strength(reported.not_alive_count_change);
+        self.make(&sheet)?;
+        Ok(())
+    }
+}

@@ -1,0 +1,227 @@
+//! The reads, which change nothing.
+//!
+//! Derives from instance_tracker.rs and liveliness_tracker.rs of ZeroDDS.
+//! Copyright 2026 ZeroDDS Contributors. SPDX-License-Identifier: Apache-2.0. Changed: written anew, each read
+//! the library's, and refusals answered.
+
+use crate::ffi;
+use crate::layout::{handles, OUT_BYTES};
+use crate::sheet::delay;
+use crate::state::accepted;
+use crate::{InstanceHandle, KeyHash, LivelinessChangedStatus, Refusal, State, Time};
+
+/// The handles of a state in the order of their keys, of [`State::walk`].
+#[derive(Debug, Clone)]
+pub struct Walker<'a> {
+    state: &'a State,
+    position: usize,
+}
+
+impl Iterator for Walker<'_> {
+    type Item = InstanceHandle;
+
+    fn next(&mut self) -> Option<InstanceHandle> {
+        let read = ffi::handle_at_position(&self.state.lent().pens, self.position);
+        let handle = read.ok()?.found()?;
+        self.position += 1;
+        Some(handle)
+    }
+}
+
+/// Reads.
+impl State {
+    /// Whether a sample is delivered under the time-based filter (DDS 1.4, 2.2.3.12): earlier than the last
+    /// one, or so far from it. Yes where there is no last one.
+    ///
+    /// Refused as 4.
+    ///
+    /// ```
+    /// use dcps::{State, Time};
+    ///
+    /// let mut state = State::new();
+    /// state.register([1; 16], Vec::new(), None)?;
+    /// state.record_delivery(&[1; 16], Time { sec: 5, nanosec: 0 })?;
+    /// let at = |sec, nanosec| {
+    ///     state.should_deliver_under_time_based_filter(&[1; 16], Time { sec, nanosec }, 1_000_000_000)
+    /// };
+    /// assert_eq!((at(4, 0)?, at(5, 999_999_999)?, at(6, 0)?), (true, false, true));
+    /// # Ok::<(), dcps::Refusal>(())
+    /// ```
+    pub fn should_deliver_under_time_based_filter(
+        &self,
+        keyhash: &KeyHash,
+        sample_ts: Time,
+        min_separation_nanos: u128,
+    ) -> Result<bool, Refusal> {
+        let separation = delay(min_separation_nanos);
+        Ok(ffi::filter(&self.lent().pens, keyhash, sample_ts, separation)?.yes)
+    }
+
+    /// Whether a sample is delivered under the destination order (DDS 1.4, 2.2.3.17): by source, later than
+    /// the last one. Yes where there is no last one, and by reception.
+    ///
+    /// Refused as 4.
+    ///
+    /// ```
+    /// use dcps::{State, Time};
+    ///
+    /// let mut state = State::new();
+    /// state.register([1; 16], Vec::new(), None)?;
+    /// let last = Time { sec: 5, nanosec: 0 };
+    /// state.record_delivery(&[1; 16], last)?;
+    /// assert!(!state.should_deliver_under_destination_order(&[1; 16], last, true)?);
+    /// assert!(state.should_deliver_under_destination_order(&[1; 16], last, false)?);
+    /// # Ok::<(), dcps::Refusal>(())
+    /// ```
+    pub fn should_deliver_under_destination_order(
+        &self,
+        keyhash: &KeyHash,
+        source_ts: Time,
+        by_source_timestamp: bool,
+    ) -> Result<bool, Refusal> {
+        Ok(ffi::order(&self.lent().pens, keyhash, source_ts, by_source_timestamp)?.yes)
+    }
+
+    /// When a sample of an instance was delivered last.
+    ///
+    /// ```
+    /// use dcps::{State, Time};
+    ///
+    /// let mut state = State::new();
+    /// state.register([1; 16], Vec::new(), None)?;
+    /// assert_eq!(state.last_delivered_ts(&[1; 16])?, None);
+    /// state.record_delivery(&[1; 16], Time { sec: 5, nanosec: 0 })?;
+    /// assert_eq!(state.last_delivered_ts(&[1; 16])?, Some(Time { sec: 5, nanosec: 0 }));
+    /// # Ok::<(), dcps::Refusal>(())
+    /// ```
+    pub fn last_delivered_ts(&self, keyhash: &KeyHash) -> Result<Option<Time>, Refusal> {
+        let read = ffi::last_delivered_ts(&self.lent().pens, keyhash)?;
+        Ok(read.present.then_some(read.time))
+    }
+
+    /// Whether the loss of these writers would leave an alive instance, of a view state in the mask, without
+    /// writers.
+    ///
+    /// Refused as 1 for more than 256 writers.
+    ///
+    /// ```
+    /// use dcps::view_state_mask::{NEW, NOT_NEW};
+    ///
+    /// let mut state = dcps::State::new();
+    /// let handle = state.register([1; 16], Vec::new(), None)?;
+    /// state.note_writer(handle, [9; 16])?;
+    /// assert!(state.would_leave_writerless(&[[9; 16]], NEW)?);
+    /// assert!(!state.would_leave_writerless(&[[9; 16]], NOT_NEW)?);
+    /// # Ok::<(), dcps::Refusal>(())
+    /// ```
+    pub fn would_leave_writerless(
+        &self,
+        gone: &[[u8; 16]],
+        view_states: u32,
+    ) -> Result<bool, Refusal> {
+        Ok(ffi::would_leave_writerless(&self.lent().pens, gone, view_states)?.yes)
+    }
+
+    /// The handles of those instances, in the order of their keys.
+    ///
+    /// Refused as 1 for more than 256 writers.
+    ///
+    /// ```
+    /// use dcps::view_state_mask::{NEW, NOT_NEW};
+    ///
+    /// let mut state = dcps::State::new();
+    /// let handle = state.register([1; 16], Vec::new(), None)?;
+    /// state.note_writer(handle, [9; 16])?;
+    /// assert_eq!(state.left_writerless(&[[9; 16], [8; 16]], NEW | NOT_NEW)?, [handle]);
+    /// # Ok::<(), dcps::Refusal>(())
+    /// ```
+    pub fn left_writerless(
+        &self,
+        gone: &[[u8; 16]],
+        view_states: u32,
+    ) -> Result<Vec<InstanceHandle>, Refusal> {
+        let mut out = [0; OUT_BYTES];
+        let read = ffi::left_writerless(&self.lent().pens, gone, view_states, &mut out)?;
+        Ok(handles(&out, read.listed))
+    }
+
+    /// The handle that follows another in the order of the keys; the first one after nil. None after the
+    /// last and after one that is unknown.
+    ///
+    /// ```
+    /// use dcps::HANDLE_NIL;
+    ///
+    /// let mut state = dcps::State::new();
+    /// let handle = state.register([1; 16], Vec::new(), None)?;
+    /// assert_eq!(state.next_handle_after(HANDLE_NIL)?, Some(handle));
+    /// assert_eq!(state.next_handle_after(handle)?, None);
+    /// # Ok::<(), dcps::Refusal>(())
+    /// ```
+    pub fn next_handle_after(
+        &self,
+        previous: InstanceHandle,
+    ) -> Result<Option<InstanceHandle>, Refusal> {
+        Ok(ffi::next_handle_after(&self.lent().pens, previous)?.found())
+    }
+
+    /// All handles, in the order of their keys.
+    ///
+    /// ```
+    /// let mut state = dcps::State::new();
+    /// let second = state.register([2; 16], Vec::new(), None)?;
+    /// let first = state.register([1; 16], Vec::new(), None)?;
+    /// assert_eq!(state.walk().collect::<Vec<_>>(), [first, second]);
+    /// # Ok::<(), dcps::Refusal>(())
+    /// ```
+    #[must_use]
+    pub fn walk(&self) -> Walker<'_> {
+        Walker { state: self, position: 0 }
+    }
+
+    /// An alive instance that a writer writes, some one of them.
+    ///
+    /// ```
+    /// let mut state = dcps::State::new();
+    /// assert_eq!(state.writer_lookup(&[9; 16])?, None);
+    /// let handle = state.register([1; 16], Vec::new(), None)?;
+    /// state.note_writer(handle, [9; 16])?;
+    /// assert_eq!(state.writer_lookup(&[9; 16])?, Some(handle));
+    /// # Ok::<(), dcps::Refusal>(())
+    /// ```
+    pub fn writer_lookup(&self, writer: &[u8; 16]) -> Result<Option<InstanceHandle>, Refusal> {
+        Ok(ffi::writer_lookup(&self.lent().pens, writer)?.found())
+    }
+
+    /// The status, whose changes stay pending.
+    ///
+    /// ```
+    /// use dcps::{LivelinessKind, State};
+    /// use std::time::Duration;
+    ///
+    /// let mut state = State::new();
+    /// state.matched([1; 16], LivelinessKind::Automatic, None, Duration::ZERO)?;
+    /// assert_eq!(state.status()?.alive_count_change, 1);
+    /// assert_eq!(state.status()?.alive_count_change, 1);
+    /// # Ok::<(), dcps::Refusal>(())
+    /// ```
+    pub fn status(&self) -> Result<LivelinessChangedStatus, Refusal> {
+        let (number, answer) = ffi::status(&self.lent().head);
+        Ok(accepted(number, &answer)?.status)
+    }
+
+    /// How often a writer moved one of the status's counts, modulo 2^64.
+    ///
+    /// ```
+    /// use dcps::{LivelinessKind, State};
+    /// use std::time::Duration;
+    ///
+    /// let mut state = State::new();
+    /// state.matched([1; 16], LivelinessKind::Automatic, None, Duration::ZERO)?;
+    /// state.unmatched([1; 16])?;
+    /// assert_eq!(state.changes()?, 2);
+    /// # Ok::<(), dcps::Refusal>(())
+    /// ```
+    pub fn changes(&self) -> Result<u64, Refusal> {
+        Ok(ffi::changes(&self.lent().head)?.changes)
+    }
+}

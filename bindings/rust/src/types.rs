@@ -1,0 +1,179 @@
+//! The types of arguments and answers.
+//!
+//! Names and fields from instance_tracker.rs, liveliness_tracker.rs and instance_handle.rs of ZeroDDS.
+//! Copyright 2026 ZeroDDS Contributors. SPDX-License-Identifier: Apache-2.0. Changed: written anew.
+
+use std::fmt;
+
+/// The 16 bytes that name an instance (DDSI-RTPS KeyHash).
+pub type KeyHash = [u8; 16];
+
+/// Bits of a mask of view states.
+///
+/// ```
+/// use dcps::view_state_mask::{NEW, NOT_NEW};
+/// assert_eq!((NEW, NOT_NEW), (1, 2));
+/// ```
+pub mod view_state_mask {
+    /// Instances that the reader has not seen since they came or came back.
+    pub const NEW: u32 = 1;
+    /// The others.
+    pub const NOT_NEW: u32 = 2;
+}
+
+/// A time of DDS: seconds, and nanoseconds below 10^9.
+///
+/// ```
+/// use dcps::Time;
+/// assert!(Time::ZERO < Time { sec: 0, nanosec: 1 });
+/// assert!(Time { sec: -1, nanosec: 0 } < Time::ZERO);
+/// ```
+#[derive(Debug, Clone, Copy, PartialEq, Eq, Hash, PartialOrd, Ord, Default)]
+pub struct Time {
+    /// Seconds, which may be negative.
+    pub sec: i32,
+    /// Nanoseconds; a call that uses 10^9 or more of them is refused as 4.
+    pub nanosec: u32,
+}
+
+impl Time {
+    /// Second 0.
+    pub const ZERO: Self = Self { sec: 0, nanosec: 0 };
+}
+
+/// The handle of an instance (DDS 1.4, 2.3.3); 0 is nil.
+#[derive(Debug, Clone, Copy, PartialEq, Eq, Hash, PartialOrd, Ord, Default)]
+pub struct InstanceHandle(u64);
+
+/// The handle that is no instance's.
+pub const HANDLE_NIL: InstanceHandle = InstanceHandle::NIL;
+
+impl InstanceHandle {
+    /// The handle that is no instance's.
+    pub const NIL: Self = Self(0);
+
+    /// The handle of a number.
+    ///
+    /// ```
+    /// assert_eq!(dcps::InstanceHandle::from_raw(7).as_raw(), 7);
+    /// ```
+    #[must_use]
+    pub const fn from_raw(raw: u64) -> Self {
+        Self(raw)
+    }
+
+    /// Its number.
+    ///
+    /// ```
+    /// assert_eq!(dcps::HANDLE_NIL.as_raw(), 0);
+    /// ```
+    #[must_use]
+    pub const fn as_raw(&self) -> u64 {
+        self.0
+    }
+
+    /// Whether it is nil.
+    ///
+    /// ```
+    /// assert!(dcps::InstanceHandle::NIL.is_nil());
+    /// ```
+    #[must_use]
+    pub const fn is_nil(&self) -> bool {
+        self.0 == 0
+    }
+
+    /// The handle by which a status names a writer: 64-bit FNV-1a of its GUID, and 1 where that is 0.
+    ///
+    /// ```
+    /// use dcps::{InstanceHandle, LivelinessKind, State};
+    /// use std::time::Duration;
+    ///
+    /// let mut state = State::new();
+    /// state.matched([7; 16], LivelinessKind::Automatic, None, Duration::ZERO)?;
+    /// let status = state.take_status()?;
+    /// assert_eq!(status.last_publication_handle, InstanceHandle::from_guid([7; 16]));
+    /// # Ok::<(), dcps::Refusal>(())
+    /// ```
+    #[must_use]
+    pub fn from_guid(guid: [u8; 16]) -> Self {
+        let fold = |h: u64, b: u8| (h ^ u64::from(b)).wrapping_mul(0x0100_0000_01b3);
+        Self(guid.into_iter().fold(0xcbf2_9ce4_8422_2325, fold).max(1))
+    }
+}
+
+impl fmt::Display for InstanceHandle {
+    fn fmt(&self, f: &mut fmt::Formatter<'_>) -> fmt::Result {
+        if self.is_nil() {
+            f.write_str("HANDLE_NIL")
+        } else {
+            write!(f, "InstanceHandle({:#x})", self.0)
+        }
+    }
+}
+
+/// Where an instance stands (DDS 1.4, 2.2.2.5.1.3).
+#[derive(Debug, Clone, Copy, PartialEq, Eq, Hash, Default)]
+pub enum InstanceStateKind {
+    /// It has a writer, or none has left it yet.
+    #[default]
+    Alive,
+    /// A writer disposed it.
+    NotAliveDisposed,
+    /// Its last writer left it.
+    NotAliveNoWriters,
+}
+
+impl InstanceStateKind {
+    pub(crate) fn from_bits(bits: u8) -> Self {
+        match bits & 3 {
+            0 => Self::Alive,
+            1 => Self::NotAliveDisposed,
+            _ => Self::NotAliveNoWriters,
+        }
+    }
+}
+
+/// What asserts a writer's liveliness (DDS 1.4, 2.2.3.11).
+#[derive(Debug, Clone, Copy, PartialEq, Eq, Hash, Default)]
+pub enum LivelinessKind {
+    /// Any sign of its participant.
+    #[default]
+    Automatic,
+    /// A manual assertion of its participant or of a writer of it.
+    ManualByParticipant,
+    /// Its own assertions alone.
+    ManualByTopic,
+}
+
+impl LivelinessKind {
+    pub(crate) fn bits(self) -> u8 {
+        match self {
+            Self::Automatic => 0,
+            Self::ManualByParticipant => 1,
+            Self::ManualByTopic => 2,
+        }
+    }
+
+    pub(crate) fn from_bits(bits: u8) -> Self {
+        match bits & 3 {
+            0 => Self::Automatic,
+            1 => Self::ManualByParticipant,
+            _ => Self::ManualByTopic,
+        }
+    }
+}
+
+/// The liveliness status of a reader (DDS 1.4, 2.2.4.1).
+#[derive(Debug, Clone, Copy, PartialEq, Eq, Hash, Default)]
+pub struct LivelinessChangedStatus {
+    /// Writers that are alive.
+    pub alive_count: i32,
+    /// Writers that were alive and are not, those lost with their participant among them.
+    pub not_alive_count: i32,
+    /// By how much `alive_count` moved since it was acknowledged.
+    pub alive_count_change: i32,
+    /// By how much `not_alive_count` moved since it was acknowledged.
+    pub not_alive_count_change: i32,
+    /// The writer that moved one of them last, or nil.
+    pub last_publication_handle: InstanceHandle,
+}
