@@ -80,11 +80,16 @@ fn sheet_of(key: u64) -> [u8; 256] {
 
 // The instance of the key is registered, where there are no writers.
 fn register(head: Head, key: u64, pens: &mut [u8]) -> Head {
-    let sheet = sheet_of(key);
     let mut writers = [0u8; 5120];
     let mut lost = [0u8; 4096];
+    call(head, key, pens, &mut writers, &mut lost)
+}
+
+// The call, and the head after it.
+fn call(head: Head, key: u64, pens: &mut [u8], writers: &mut [u8], lost: &mut [u8]) -> Head {
+    let sheet = sheet_of(key);
     let mut out = [0u8; 4096];
-    let called = dcps::call(head, &sheet, pens, &mut writers, &mut lost, &mut out);
+    let called = dcps::call(head, &sheet, pens, writers, lost, &mut out);
     let after = called.head;
     after
 }
