@@ -9,7 +9,7 @@ ghost use mathlib.Core.Path.{_≡_};
 ghost use lib.ListN.{length};
 ghost use Rattle.octets.specs.Fields.{puts};
 ghost use Rattle.model.specs.InstanceRecord.{bit};
-ghost use Rattle.boundary_reads.specs.ReadAnswers.{readBytes, bitWidths, bitValues, valueWidths, valueValues, refusedAnswer, decisionAnswer, handleAnswer, timeAnswer, listingAnswer, changesAnswer, toldOf, told};
+ghost use Rattle.boundary_reads.specs.ReadAnswers.{bitWidths, bitValues, valueWidths, valueValues, refusedAnswer, decisionAnswer, handleAnswer, timeAnswer, listingAnswer, changesAnswer, toldOf, told};
 
 // What a read answers.
 pub struct ReadAnswer {

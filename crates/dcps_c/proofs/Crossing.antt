@@ -5,10 +5,10 @@
 --     fresh-short, fresh-made     the fresh state
 --     made                        a call on a head that was read, and on one that was none
 -- Assumes nothing.
-use Prim.Native.Nat.{ℕ, zero, suc}
-use mathlib.Core.Bool.{Bool, true, false, cond, _&&_, and-false}
+use Prim.Native.Nat.{ℕ}
+use mathlib.Core.Bool.{Bool, true, false, cond, and-false}
 use mathlib.Core.Option.{Option, none, some}
-use mathlib.Core.Path.{_≡_, refl, sym, ap, _∙_}
+use mathlib.Core.Path.{_≡_, refl, ap, _∙_}
 use mathlib.Core.List.{List, []}
 use native.Mathlib.Omega.{arith}
 use borrow.Author.Tests.{eq-eqb, ne-eqb}
@@ -18,7 +18,7 @@ use Rattle.model.specs.declared.Called.{Called}
 use Rattle.model.specs.declared.Head.{Head}
 use Rattle.model.specs.declared.Sheet.{Sheet}
 use Rattle.model.specs.Answers.{refusedWith}
-use Rattle.model.specs.Call.{Left, refuse, coded, callIn, callOf, lentOf, leftOf}
+use Rattle.model.specs.Call.{refuse, coded, callIn, callOf, lentOf, leftOf}
 use Rattle.model.specs.Calls.{Call, callOfCode}
 use Rattle.model.specs.Refusals.{lengthsOk}
 use Rattle.model.specs.Sheets.{sheetOf}
@@ -26,7 +26,7 @@ use Rattle.model.specs.State.{Lent}
 use Rattle.model.specs.WellFormed.{wellFormed, headOk}
 use Rattle.boundary.specs.Layouts.{headBytes, headIn, headLaid, answerBytes}
 use Rattle.dcps.specs.Fresh.{freshOf}
-use Rattle.dcps_c.specs.Boundary.{Crossed, crossedOf, crossed, calledHead, answerLeft, codeNumber, unlaidNumber, laidCall, lentCall, boundaryCall, boundaryFresh, noHead, headOr}
+use Rattle.dcps_c.specs.Boundary.{crossedOf, crossed, calledHead, answerLeft, codeNumber, unlaidNumber, laidCall, lentCall, boundaryCall, boundaryFresh, noHead, headOr}
 
 -- ---- the head
 

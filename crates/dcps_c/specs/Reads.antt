@@ -17,7 +17,7 @@ use Rattle.model.specs.Reads.{statusRead, changesRead, leftRead, leftOut, looku
 use Rattle.model.specs.State.{instancePlaces}
 use Rattle.boundary.specs.Layouts.{headIn, headLaid, answerBytes}
 use Rattle.boundary_reads.specs.declared.ReadAnswer.{ReadAnswer}
-use Rattle.boundary_reads.specs.ReadAnswers.{Told, toldOf, told, readBytes, refusedAnswer, changesAnswer, handleAnswer, listingAnswer}
+use Rattle.boundary_reads.specs.ReadAnswers.{Told, toldOf, told, refusedAnswer, changesAnswer, handleAnswer, listingAnswer}
 use Rattle.dcps_c.specs.Boundary.{headSize, answerSize}
 
 abbrev pub guidOf : ℕ → ℕ → Guid
