@@ -19,7 +19,7 @@ ghost use mathlib.Core.Bool.{true, false};
 ghost use mathlib.Core.List.{map};
 ghost use mathlib.Core.Option.{some};
 ghost use mathlib.Core.Path.{_≡_};
-ghost use Prim.Native.Nat.{_≤_, _<_};
+ghost use Prim.Native.Nat.{_<_};
 ghost use Rattle.model.specs.Answers.{refusedWith, stopping, both};
 ghost use Rattle.model.specs.Guids.{num};
 ghost use Rattle.model.specs.InstanceCalls.{samplesAnswer, infoAnswer, crowds};

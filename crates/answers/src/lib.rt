@@ -8,7 +8,7 @@ use model::LivelinessChangedStatus;
 use model::MaybeDue;
 use model::SampleInfo;
 ghost use mathlib.Core.Path.{_≡_};
-ghost use Rattle.model.specs.Answers.{noInfo, noDue, noStatus, refusedWith, silent, saying, counting, listing, handed, handedSamples, infoOf, informed};
+ghost use Rattle.model.specs.Answers.{noInfo, noStatus, refusedWith, silent, saying, counting, listing, handed, handedSamples, infoOf, informed};
 
 fn no_info() -> SampleInfo
     ensures { λ r. ⌜ r ≡ noInfo ⌝ }

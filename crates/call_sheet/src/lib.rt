@@ -8,7 +8,7 @@ use model::TrackerCall;
 ghost use mathlib.Core.Path.{_≡_};
 ghost use mathlib.Core.Bool.{true};
 ghost use mathlib.Core.List.{[], _∷_};
-ghost use Prim.Native.Nat.{_+_, _*_, _≤_, _<_, min};
+ghost use Prim.Native.Nat.{_+_, _≤_, _<_, min};
 ghost use lib.ListN.{length, take, drop};
 ghost use Rattle.model.specs.InstanceRecord.{flag, timeAt};
 ghost use Rattle.model.specs.declared.TrackerCall.the-variants.{Matched};

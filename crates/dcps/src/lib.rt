@@ -21,13 +21,12 @@ use model::Time;
 ghost use mathlib.Core.Bool.{true, _&&_};
 ghost use mathlib.Core.List.{[]};
 ghost use mathlib.Core.Path.{_≡_};
-ghost use Prim.Native.Nat.{_*_, _≤_};
 ghost use lib.Dec.{eqb};
 ghost use lib.ListN.{length};
 ghost use Rattle.model.specs.Call.{coded, callOf, lentOf, leftOf};
 ghost use Rattle.model.specs.Calls.{callOfCode};
 ghost use Rattle.model.specs.Reads.{filterRead, orderRead, lastDeliveredRead, nextHandleRead, walkRead, holderInForce, lookupRight, wouldLeaveRead, leftRead, leftOut, statusRead, changesRead};
-ghost use Rattle.dcps.specs.Fresh.{freshHead, roomOk, freshOf};
+ghost use Rattle.dcps.specs.Fresh.{freshHead, freshOf};
 
 // ---- every call
 

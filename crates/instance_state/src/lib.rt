@@ -21,7 +21,7 @@ ghost use mathlib.Core.Bool.{true, cond, not, _&&_};
 ghost use mathlib.Core.Option.{some};
 ghost use mathlib.Core.Path.{_≡_};
 ghost use lib.Dec.{eqb};
-ghost use Prim.Native.Nat.{_-_, _≤_, max};
+ghost use Prim.Native.Nat.{_-_, max};
 ghost use Rattle.model.specs.Instances.{withLife, withTimes, withOwner, withHolder, withWriters, withKind, withView, withGenerations, withWriterCount, withSamples, withLastSample, withDelivery, withDisposedAt, withNoWritersAt, withOwnerAt, isAlive, isDisposed, revived, revivedNew, sampledAt, writerless, stored, counted, writersIn, countedDown, without, registered, ensured, disposed, unregistered, writerUnregistered, writerNoted, leftBy, writerDropped, lifecycleObserved, admittedObserved, admittedNoted, deliveryRecorded, viewed, drained, noOwner, owns, ownsPrefix, outbids, takesOver, ownedFrom, ownershipTried, strengthUpdated, ownerCleared, prefixCleared, purged, effect, rule, startedState, started};
 ghost use Rattle.model.specs.Sets.{isEmpty};
 ghost use Rattle.model.specs.Times.{always, ifPresent, given};

@@ -17,7 +17,7 @@ use tables::Found;
 ghost use mathlib.Core.Bool.{true, false, not, _&&_};
 ghost use mathlib.Core.Option.{none, some};
 ghost use mathlib.Core.Path.{_≡_};
-ghost use Prim.Native.Nat.{_≤_, _<_};
+ghost use Prim.Native.Nat.{_<_};
 ghost use lib.Dec.{leb};
 ghost use Rattle.model.specs.Answers.{refusedWith};
 ghost use Rattle.model.specs.InstanceCalls.{crowds, samplesAnswer};

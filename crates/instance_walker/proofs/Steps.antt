@@ -4,18 +4,18 @@
 -- Assumes nothing.
 use Prim.Native.Nat.{ℕ, zero, suc, _+_, _≤_, _<_}
 use mathlib.Core.List.{List}
-use mathlib.Core.Path.{_≡_, refl, sym, ap, _∙_}
+use mathlib.Core.Path.{_≡_, refl, ap, _∙_}
 use mathlib.Core.Logic.{⊎-elim}
 use native.Mathlib.Omega.{arith}
 use Rattle.model.specs.declared.FoundHandle.{FoundHandle}
 use Rattle.model.specs.declared.FoundHandle.the-variants.{Is as foundHandleIs, Missing as foundHandleMissing, Refused as foundHandleRefused}
 use Rattle.model.specs.declared.InstanceHandle.{InstanceHandle}
-use Rattle.model.specs.Reads.{usedIn, tableOf, tableRefusal, handleFound, first, walkRead}
+use Rattle.model.specs.Reads.{usedIn, tableRefusal, walkRead}
 use Rattle.turns.proofs.Finds.{lt-or-le}
 use Rattle.instance_reads.proofs.Table.{whole}
 use Rattle.instance_reads.proofs.Walks.{handle-past}
 use Rattle.instance_walker.specs.declared.Walked.{Walked}
-use Rattle.instance_walker.specs.Walk.{movedOn, walked}
+use Rattle.instance_walker.specs.Walk.{walked}
 
 -- answers of two cases differ
 abbrev caseOf : FoundHandle → ℕ

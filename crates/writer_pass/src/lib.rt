@@ -13,7 +13,7 @@ use writer_state::Assertion;
 ghost use mathlib.Core.Bool.{_&&_, cond};
 ghost use mathlib.Core.List.{_++_, map};
 ghost use mathlib.Core.Path.{_≡_};
-ghost use Prim.Native.Nat.{_+_, _*_, _≤_, _<_, min};
+ghost use Prim.Native.Nat.{_+_, _*_, _≤_, _<_};
 ghost use lib.ListN.{length, take, drop};
 ghost use Rattle.octets.specs.Lay.{lay};
 ghost use Rattle.model.specs.Guids.{guidsIn};

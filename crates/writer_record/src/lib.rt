@@ -16,7 +16,7 @@ ghost use Prim.Native.Nat.{_+_, _*_, _/_, _%_, _≤_, _<_};
 ghost use lib.ListN.{length, take, drop};
 ghost use Rattle.octets.specs.Patch.{patch};
 ghost use Rattle.model.specs.Guids.{guidBytes};
-ghost use Rattle.model.specs.InstanceRecord.{bit, flag};
+ghost use Rattle.model.specs.InstanceRecord.{bit};
 ghost use Rattle.model.specs.WellFormed.{leaseOk, onlyState, writerOk};
 ghost use Rattle.model.specs.WriterRecord.{livelinessNumber, livelinessNumbered, stateNumber, stateNumbered, writerOf, writerFlags, writerBytes};
 ghost use Rattle.writer_record.specs.Records.{sparesIn, writerFrom};

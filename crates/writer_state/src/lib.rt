@@ -16,7 +16,7 @@ ghost use mathlib.Core.Option.{none, some};
 ghost use mathlib.Core.Path.{_≡_};
 ghost use Prim.Native.Nat.{_+_, _<_, _^_};
 ghost use Rattle.model.specs.State.{classOf, isAliveClass, isNotAliveClass};
-ghost use Rattle.model.specs.Writers.{isTracked, isNotAlive, isAliveState, isAutomatic, coversKind, hasGuid, leaseOn, matchedAs, matchedFrom, matchedWriter, withState, covers, renews, asserted, leased, dueAt, expires, expired, departed, sameClass};
+ghost use Rattle.model.specs.Writers.{isTracked, isNotAlive, isAliveState, isAutomatic, coversKind, hasGuid, leaseOn, matchedAs, matchedWriter, withState, covers, renews, asserted, leased, dueAt, expires, expired, departed, sameClass};
 ghost use Rattle.writer_state.specs.Acts.{assertionOf, classNumber};
 
 // An assertion: whom it names or whose prefix it gives, whether it names that writer, whether it is manual, and its clock.

@@ -2,7 +2,7 @@
 use native.Mathlib.Omega.{arith}
 use borrow.Author.Needs.{needs}
 use Rattle.model.specs.Calls.{joined}
-use Rattle.call_ranges.proofs.Ranges.{formed-parts, entered, refused-3, by-code}
+use Rattle.call_ranges.proofs.Ranges.{entered, refused-3, by-code}
 use Rattle.call_ranges.proofs.joined.Statement.{statement}
 use Rattle.call_ranges.proofs.joined.Tie as tie
 

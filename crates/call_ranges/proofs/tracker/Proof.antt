@@ -1,5 +1,4 @@
 -- `tracker` meets its contract: refused as 3, else the call on the writers. Assumes nothing.
-use native.Mathlib.Omega.{arith}
 use borrow.Author.Needs.{needs}
 use Rattle.model.specs.Calls.{tracker}
 use Rattle.call_ranges.proofs.Ranges.{formed-parts, entered, refused-3, by-code}

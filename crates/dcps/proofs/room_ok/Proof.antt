@@ -1,6 +1,6 @@
 -- `room_ok` meets its contract: the first length that is another makes the whole fail. Assumes nothing.
 use mathlib.Core.Bool.{true, false}
-use mathlib.Core.Path.{_≡_, sym}
+use mathlib.Core.Path.{_≡_}
 use borrow.Author.Tests.{eq-eqb, ne-eqb}
 use lib.Dec.{eqb}
 use Rattle.dcps.proofs.room_ok.Statement.{statement}

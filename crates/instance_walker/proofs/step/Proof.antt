@@ -45,7 +45,6 @@ use denote.Triple.Spec.{Meets, tripleOf}
 use denote.Triple.Table.{entered, cited}
 use denote.Triple.Walked.{says, Stays, stay-ref, walkOf, goes-ref, Walks, ends-at, walked, walk-meets}
 use denote.Triple.Clauses.{ensured, lasts}
-use Rattle.model.specs.declared.FoundHandle.{FoundHandle}
 use Rattle.instance_walker.specs.Walk.{walked as walkedBy}
 use Rattle.instance_walker.specs.declared.InstanceWalker.{InstanceWalker}
 use Rattle.instance_walker.specs.declared.Walked.{Walked}
