@@ -1,6 +1,7 @@
 //! Times the same lists through the original Rust trackers and through the
 //! static library, and one pass over the lent bytes as the floor.
 
+mod calls;
 mod mixes;
 mod reads;
 mod state;
@@ -36,15 +37,35 @@ fn main() {
     println!("|---|---|---|---|---|---|");
     for size in SIZES {
         for mix in mixes(size) {
-            let (rust, library) = timed(&mix);
-            row(mix.name, size, rust, library, floor);
+            row(mix.name, size, timed(&mix), floor);
         }
-        let (rust, library) = timed_reads(&state(size, size.records));
-        row("reads", size, rust, library, floor);
+        row("reads", size, timed_reads(&state(size, size.records)), floor);
+    }
+    each_call(floor);
+}
+
+/// The library's time for each call by itself, on the last of the sizes.
+fn each_call(floor: f64) {
+    let size = SIZES[SIZES.len() - 1];
+    let start = state(size, size.records);
+    println!("\n| call on {} instances | library, ns | library / floor |", size.name);
+    println!("|---|---|---|");
+    for (name, sheet) in calls::calls(&start) {
+        let rounds = (0..ROUNDS).map(|_| {
+            let mut buffers = Buffers::of(&start);
+            let time = each(1, || {
+                black_box(buffers.call(black_box(&sheet)));
+            });
+            assert_eq!(buffers.answer[0], 0, "{name}");
+            time
+        });
+        let library = median(rounds.collect());
+        println!("| {name} | {library:.0} | {:.1} |", library / floor);
     }
 }
 
-fn row(name: &str, size: Size, rust: f64, library: f64, floor: f64) {
+fn row(name: &str, size: Size, times: Option<(f64, f64)>, floor: f64) {
+    let Some((rust, library)) = times else { return };
     let (by_rust, by_floor) = (library / rust, library / floor);
     println!(
         "| {name} | {} | {rust:.0} | {library:.0} | {by_rust:.1} | {by_floor:.1} |",
@@ -101,20 +122,17 @@ impl Buffers {
     }
 }
 
-fn original_at(state: &State) -> Original {
-    Original::at(state).expect("the sources are at hand")
-}
-
 fn sheet_of(bytes: &[u8]) -> Sheet<'_> {
     Sheet::of(bytes).expect("sheets of 256 bytes")
 }
 
-/// Nanoseconds a call of the Rust and of the library.
-fn timed(mix: &Mix) -> (f64, f64) {
-    agree(mix);
+/// Nanoseconds a call of the Rust and of the library; none without the Rust.
+fn timed(mix: &Mix) -> Option<(f64, f64)> {
+    agree(mix)?;
     let (mut rusts, mut libraries) = (Vec::new(), Vec::new());
     for _ in 0..ROUNDS {
-        let mut rust = original_at(&mix.start);
+        let mut rust = Original::at(&mix.start);
+        let rust = rust.as_mut()?;
         rusts.push(each(mix.sheets.len(), || {
             for sheet in &mix.sheets {
                 black_box(rust.turn(sheet_of(black_box(sheet))));
@@ -127,34 +145,37 @@ fn timed(mix: &Mix) -> (f64, f64) {
             }
         }));
     }
-    (median(rusts), median(libraries))
+    Some((median(rusts), median(libraries)))
 }
 
 /// Both sides give the same answers, and the ones that the mix is about.
-fn agree(mix: &Mix) {
-    let (mut rust, mut buffers) = (original_at(&mix.start), Buffers::of(&mix.start));
+fn agree(mix: &Mix) -> Option<()> {
+    let (mut rust, mut buffers) = (Original::at(&mix.start), Buffers::of(&mix.start));
+    let rust = rust.as_mut()?;
     for (n, sheet) in mix.sheets.iter().enumerate() {
         buffers.call(sheet);
         let answer = Answer::of_bytes(&buffers.answer);
         assert_eq!(rust.turn(sheet_of(sheet)).0, answer, "{}, call {n}", mix.name);
         assert!((mix.expected)(&answer), "{}, call {n}: {answer:?}", mix.name);
     }
+    Some(())
 }
 
-fn timed_reads(state: &State) -> (f64, f64) {
-    let (rust, mut buffers) = (original_at(state), Buffers::of(state));
+fn timed_reads(state: &State) -> Option<(f64, f64)> {
+    let (rust, mut buffers) = (Original::at(state), Buffers::of(state));
+    let rust = rust.as_ref()?;
     let asked = reads::questions(state);
     let pens = &buffers.image.pens[..PENS_BYTES];
     let (head, out) = (&buffers.head, &mut buffers.out);
     for q in &asked {
-        assert_eq!(reads::of_rust(&rust, q), reads::of_library(head, pens, out, q), "reads");
+        assert_eq!(reads::of_rust(rust, q), reads::of_library(head, pens, out, q), "reads");
     }
     let calls = asked.len() * reads::READS;
     let (mut rusts, mut libraries) = (Vec::new(), Vec::new());
     for _ in 0..ROUNDS {
         rusts.push(each(calls, || {
             for q in &asked {
-                black_box(reads::of_rust(&rust, black_box(q)));
+                black_box(reads::of_rust(rust, black_box(q)));
             }
         }));
         libraries.push(each(calls, || {
@@ -163,5 +184,5 @@ fn timed_reads(state: &State) -> (f64, f64) {
             }
         }));
     }
-    (median(rusts), median(libraries))
+    Some((median(rusts), median(libraries)))
 }

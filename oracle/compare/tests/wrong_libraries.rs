@@ -5,10 +5,12 @@ use compare::library::Lent;
 use compare::list::Library;
 use compare::run::Parting;
 use compare::shrink::shrink;
-use compare::{List, Tally};
+use compare::{Case, Fault, List, Tally};
+use lists::Step;
+use lists::fill::Filled;
 use reading::answer::ANSWER_BYTES;
 use reading::head::HEAD_BYTES;
-use reading::{Head, Misreading, call_as};
+use reading::{Head, Misreading, State, call_as};
 
 const LISTS: u64 = 600;
 
@@ -94,10 +96,19 @@ fn a_bad_head_that_wins_over_an_unknown_code_is_caught() {
         lent.answer[0] = number;
         u32::from(number)
     };
-    let mut tally = Tally::default();
-    let library = Library { call: wrong, reads: false };
-    let parted = (1..60_000).find_map(|seed| List::of_seed(seed, library, &mut tally).err());
-    let (list, _) = *parted.expect("it is caught");
+    let case = |code, fault| Case { step: Step::of(Filled::code(code).0), fault };
+    let bad = Some(Fault::HeadByte(28, 7));
+    let list = List {
+        start: State::fresh(),
+        cases: vec![case(39, None), case(22, None), case(39, bad), case(22, bad), case(39, None)],
+    };
+    assert_eq!(list.parts(|lent| over_bytes(lent, None)), None);
     let small = shrink(&list, |list| list.parts(wrong).is_some());
-    assert_eq!(small.cases.len(), 1, "{small}");
+    assert_eq!(small.cases, [case(22, bad)].map(plain));
+}
+
+/// As a shrunk list has it.
+fn plain(mut case: Case) -> Case {
+    case.step.fill = 0;
+    case
 }
