@@ -38,13 +38,11 @@ pub const SIZES: [Size; 4] = [
     },
 ];
 
-/// GUIDs of participants with eight writers each.
-fn guid(rng: &mut Rng, place: usize) -> Guid {
+/// GUIDs that rise, of participants with eight writers each.
+fn guid(place: usize) -> Guid {
     let mut guid = [0; 16];
     guid[..4].copy_from_slice(&(place as u32 / 8).to_be_bytes());
     guid[12..].copy_from_slice(&(place as u32 % 8 + 1).to_be_bytes());
-    rng.fill(&mut guid[13..15]);
-    guid[12] = place as u8 % 8;
     guid
 }
 
@@ -52,7 +50,7 @@ fn guid(rng: &mut Rng, place: usize) -> Guid {
 pub fn state(size: Size, instances: usize) -> State {
     let mut rng = Rng::new(1);
     let mut state = State::fresh();
-    let guids: Vec<Guid> = (0..size.records).map(|place| guid(&mut rng, place)).collect();
+    let guids: Vec<Guid> = (0..size.records).map(guid).collect();
     let mut keys: Vec<[u8; 16]> = (0..instances)
         .map(|_| {
             let mut key = [0; 16];

@@ -98,9 +98,11 @@ fn plainer_calls(mut list: List, fails: &mut impl FnMut(&List) -> bool) -> List 
     list
 }
 
+type Change = Box<dyn Fn(&mut Case)>;
+
 /// Ways to make a case plainer.
-fn plainer(case: &Case) -> Vec<Box<dyn Fn(&mut Case)>> {
-    let mut all: Vec<Box<dyn Fn(&mut Case)>> = vec![
+fn plainer(case: &Case) -> Vec<Change> {
+    let mut all: Vec<Change> = vec![
         Box::new(|case| case.fault = None),
         Box::new(|case| case.step.damaged_head = None),
         Box::new(|case| case.step.damage.clear()),
