@@ -26,6 +26,10 @@ impl Original {
         match *self {}
     }
 
+    pub fn turn(&mut self, _: Sheet<'_>) -> (Answer, Vec<u8>) {
+        match *self {}
+    }
+
     pub fn delivers_under_filter(&self, _: &Key, _: Time, _: u64) -> bool {
         match *self {}
     }

@@ -76,10 +76,21 @@ impl Original {
     /// Runs a sheet that meets none of refusals 1 to 8. After a refusal here
     /// the trackers are to be set anew: they hold what has no place.
     pub fn call(&mut self, sheet: Sheet<'_>) -> Turn {
-        let turn = match sheet.code() {
+        if sheet.code() == 48
+            && let Some(number) = self.no_place_to_admit(sheet)
+        {
+            return Err(number);
+        }
+        let turn = self.turn(sheet);
+        self.no_place().map_or(Ok(turn), Err)
+    }
+
+    /// The same, and nobody asks whether there is a place for its result.
+    pub fn turn(&mut self, sheet: Sheet<'_>) -> (Answer, Vec<u8>) {
+        match sheet.code() {
             1..=21 => self.instance_call(sheet),
             32..=40 => self.liveliness_call(sheet),
-            48 => self.admit(sheet)?,
+            48 => (self.admit(sheet), Vec::new()),
             49 => self.lapse(sheet),
             50 => {
                 let yes = self.liveliness.unmatched(sheet.guid());
@@ -89,8 +100,7 @@ impl Original {
                 let yes = self.liveliness.lost_with_participant(sheet.guid());
                 self.without(sheet, Answer::yes(yes), &[sheet.guid()])
             }
-        };
-        self.no_place().map_or(Ok(turn), Err)
+        }
     }
 
     pub fn delivers_under_filter(&self, key: &Key, time: Time, separation: u64) -> bool {
@@ -249,39 +259,52 @@ impl Original {
         }
     }
 
-    /// Code 48. Refusals 9, 13 and 10 come before ownership is asked, so they
-    /// are looked for ahead of it.
-    fn admit(&mut self, sheet: Sheet<'_>) -> Result<(Answer, Vec<u8>), u8> {
-        let t = &self.instances;
-        let (key, guid) = (sheet.key(), sheet.guid());
-        let outcome = |n| Ok((Answer::outcome(n), Vec::new()));
-        let (order, filter) = (to_time(sheet.time1()), to_time(sheet.time2()));
-        if !t.should_deliver_under_destination_order(&key, order, sheet.by_source()) {
-            return outcome(1);
-        }
-        if !t.should_deliver_under_time_based_filter(&key, filter, delay(sheet.a())) {
-            return outcome(2);
-        }
-        let known = t.get_by_keyhash(&key);
-        let limit = sheet.limit();
-        if known.is_none() && limit >= 0 && t.len() >= limit as usize {
-            return outcome(3);
-        }
-        match known {
-            None if t.len() == layout::PLACES => return Err(9),
-            None if self.state_next_handle() == layout::LAST_NEXT_HANDLE => return Err(13),
-            Some(s) if s.writers.len() == layout::SET_PLACES && !s.writers.contains(&guid) => {
-                return Err(10);
-            }
-            _ => {}
+    /// Code 48.
+    fn admit(&mut self, sheet: Sheet<'_>) -> Answer {
+        if let Some(outcome) = self.turned_away(sheet) {
+            return Answer::outcome(outcome);
         }
         if !self.accept(sheet) {
-            return outcome(4);
+            return Answer::outcome(4);
         }
         let observed = self.observe_admitted(sheet);
         let noted = self.note_admitted(sheet);
-        let answer = Answer { handle: observed.handle, samples: observed.samples, ..noted };
-        Ok((answer, Vec::new()))
+        Answer { handle: observed.handle, samples: observed.samples, ..noted }
+    }
+
+    /// Outcomes 1 to 3, which come before ownership is asked.
+    fn turned_away(&self, sheet: Sheet<'_>) -> Option<u8> {
+        let t = &self.instances;
+        let (key, limit) = (sheet.key(), sheet.limit());
+        let (order, filter) = (to_time(sheet.time1()), to_time(sheet.time2()));
+        if !t.should_deliver_under_destination_order(&key, order, sheet.by_source()) {
+            Some(1)
+        } else if !t.should_deliver_under_time_based_filter(&key, filter, delay(sheet.a())) {
+            Some(2)
+        } else if limit >= 0 && t.lookup(&key).is_none() && t.len() >= limit as usize {
+            Some(3)
+        } else {
+            None
+        }
+    }
+
+    /// Refusals 9, 13 and 10 of code 48: they too come before ownership is
+    /// asked, so they are looked for ahead of it.
+    fn no_place_to_admit(&self, sheet: Sheet<'_>) -> Option<u8> {
+        let t = &self.instances;
+        if self.turned_away(sheet).is_some() {
+            return None;
+        }
+        match t.get_by_keyhash(&sheet.key()) {
+            None if t.len() == layout::PLACES => Some(9),
+            None if self.state_next_handle() == layout::LAST_NEXT_HANDLE => Some(13),
+            Some(s)
+                if s.writers.len() == layout::SET_PLACES && !s.writers.contains(&sheet.guid()) =>
+            {
+                Some(10)
+            }
+            _ => None,
+        }
     }
 
     fn state_next_handle(&self) -> u64 {
@@ -290,10 +313,10 @@ impl Original {
 
     /// Code 49. What this call expired is what it adds to the lost writers.
     fn lapse(&mut self, sheet: Sheet<'_>) -> (Answer, Vec<u8>) {
-        let before = liveliness_tracker::access::get(&self.liveliness).lost.len();
+        let before = liveliness_tracker::access::lost(&self.liveliness).len();
         let answer = self.expire(Duration::from_nanos(sheet.a()));
-        let lost = liveliness_tracker::access::get(&self.liveliness).lost;
-        self.without(sheet, answer, &lost[before..])
+        let gone = &liveliness_tracker::access::lost(&self.liveliness)[before..];
+        self.without(sheet, answer, gone)
     }
 
     /// Codes 7 and 18 for each writer gone.
@@ -303,9 +326,12 @@ impl Original {
             writerless.extend(self.instances.drop_writer(guid, given_time(sheet)));
             count += self.instances.clear_owner_for_writer(*guid) as u32;
         }
-        let mut handles = self.instances.ordered_handles();
-        handles.retain(|h| writerless.contains(h));
-        listing(Answer { count, ..answer }, &handles)
+        if writerless.len() > 1 {
+            let mut handles = self.instances.ordered_handles();
+            handles.retain(|h| writerless.contains(h));
+            writerless = handles;
+        }
+        listing(Answer { count, ..answer }, &writerless)
     }
 
     /// Refusals 9 to 13: what the trackers now hold and section 2 has no

@@ -83,6 +83,11 @@ pub mod access {
         }
     }
 
+    /// The writers lost and not yet taken.
+    pub fn lost(tracker: &LivelinessTracker) -> &[[u8; 16]] {
+        &tracker.lost
+    }
+
     fn seen(guid: &[u8; 16], t: &Tracked) -> Writer {
         let standing = match t.state {
             State::Unasserted => Standing::Unasserted,

@@ -1,0 +1,188 @@
+//! Times the same lists through the original Rust trackers and through the
+//! static library, and one pass over the lent bytes as the floor.
+
+mod calls;
+mod mixes;
+mod reads;
+mod state;
+
+use std::hint::black_box;
+use std::time::Instant;
+
+use compare::library::{self, Lent};
+use lists::Image;
+use mixes::{Mix, mixes};
+use original::Original;
+use reading::answer::ANSWER_BYTES;
+use reading::layout::{LOST_BYTES, OUT_BYTES, PENS_BYTES, WRITERS_BYTES};
+use reading::{Answer, Sheet, State};
+use state::{SIZES, Size, state};
+
+/// Each list is run so often; the median counts.
+const ROUNDS: usize = 301;
+const LENT_BYTES: usize = PENS_BYTES + WRITERS_BYTES + LOST_BYTES;
+
+fn main() {
+    if !library::PRESENT {
+        println!("SKIPPED: no libdcps_c.a (rt staticlib dcps_c, or set DCPS_LIB_DIR)");
+        return;
+    }
+    if !original::PRESENT {
+        println!("SKIPPED: no sources of ZeroDDS (set ZERO_DDS_SRC)");
+        return;
+    }
+    let floor = floor();
+    println!("one pass over {LENT_BYTES} bytes: {floor:.0} ns\n");
+    println!("| mix | instances | Rust, ns | library, ns | library / Rust | library / floor |");
+    println!("|---|---|---|---|---|---|");
+    for size in SIZES {
+        for mix in mixes(size) {
+            row(mix.name, size, timed(&mix), floor);
+        }
+        row("reads", size, timed_reads(&state(size, size.records)), floor);
+    }
+    each_call(floor);
+}
+
+/// The library's time for each call by itself, on the last of the sizes.
+fn each_call(floor: f64) {
+    let size = SIZES[SIZES.len() - 1];
+    let start = state(size, size.records);
+    println!("\n| call on {} instances | library, ns | library / floor |", size.name);
+    println!("|---|---|---|");
+    for (name, sheet) in calls::calls(&start) {
+        let rounds = (0..ROUNDS).map(|_| {
+            let mut buffers = Buffers::of(&start);
+            let time = each(1, || {
+                black_box(buffers.call(black_box(&sheet)));
+            });
+            assert_eq!(buffers.answer[0], 0, "{name}");
+            time
+        });
+        let library = median(rounds.collect());
+        println!("| {name} | {library:.0} | {:.1} |", library / floor);
+    }
+}
+
+fn row(name: &str, size: Size, times: Option<(f64, f64)>, floor: f64) {
+    let Some((rust, library)) = times else { return };
+    let (by_rust, by_floor) = (library / rust, library / floor);
+    println!(
+        "| {name} | {} | {rust:.0} | {library:.0} | {by_rust:.1} | {by_floor:.1} |",
+        size.name
+    );
+}
+
+fn median(mut all: Vec<f64>) -> f64 {
+    all.sort_by(f64::total_cmp);
+    all[all.len() / 2]
+}
+
+/// Nanoseconds of a run of `work`, which is `calls` calls.
+fn each(calls: usize, work: impl FnOnce()) -> f64 {
+    let begun = Instant::now();
+    work();
+    begun.elapsed().as_nanos() as f64 / calls as f64
+}
+
+/// One pass that every byte has a say in, and that compiles to vector code.
+fn floor() -> f64 {
+    let bytes = vec![0u8; LENT_BYTES];
+    let pass = || {
+        black_box(black_box(&bytes).iter().fold(0, |all, byte| all | byte));
+    };
+    median((0..ROUNDS).map(|_| each(1, pass)).collect())
+}
+
+/// What is lent to the library.
+struct Buffers {
+    image: Image,
+    head: Vec<u8>,
+    out: Vec<u8>,
+    answer: [u8; ANSWER_BYTES],
+}
+
+impl Buffers {
+    fn of(state: &State) -> Self {
+        let image = Image::of_state(state);
+        let head = image.head.bytes().to_vec();
+        Self { image, head, out: vec![0; OUT_BYTES], answer: [0; ANSWER_BYTES] }
+    }
+
+    fn call(&mut self, sheet: &[u8]) -> u32 {
+        library::call(Lent {
+            head: &mut self.head,
+            sheet,
+            pens: &mut self.image.pens[..PENS_BYTES],
+            writers: &mut self.image.writers[..WRITERS_BYTES],
+            lost: &mut self.image.lost[..LOST_BYTES],
+            out: &mut self.out,
+            answer: &mut self.answer,
+        })
+    }
+}
+
+fn sheet_of(bytes: &[u8]) -> Sheet<'_> {
+    Sheet::of(bytes).expect("sheets of 256 bytes")
+}
+
+/// Nanoseconds a call of the Rust and of the library; none without the Rust.
+fn timed(mix: &Mix) -> Option<(f64, f64)> {
+    agree(mix)?;
+    let (mut rusts, mut libraries) = (Vec::new(), Vec::new());
+    for _ in 0..ROUNDS {
+        let mut rust = Original::at(&mix.start);
+        let rust = rust.as_mut()?;
+        rusts.push(each(mix.sheets.len(), || {
+            for sheet in &mix.sheets {
+                black_box(rust.turn(sheet_of(black_box(sheet))));
+            }
+        }));
+        let mut buffers = Buffers::of(&mix.start);
+        libraries.push(each(mix.sheets.len(), || {
+            for sheet in &mix.sheets {
+                black_box(buffers.call(black_box(sheet)));
+            }
+        }));
+    }
+    Some((median(rusts), median(libraries)))
+}
+
+/// Both sides give the same answers, and the ones that the mix is about.
+fn agree(mix: &Mix) -> Option<()> {
+    let (mut rust, mut buffers) = (Original::at(&mix.start), Buffers::of(&mix.start));
+    let rust = rust.as_mut()?;
+    for (n, sheet) in mix.sheets.iter().enumerate() {
+        buffers.call(sheet);
+        let answer = Answer::of_bytes(&buffers.answer);
+        assert_eq!(rust.turn(sheet_of(sheet)).0, answer, "{}, call {n}", mix.name);
+        assert!((mix.expected)(&answer), "{}, call {n}: {answer:?}", mix.name);
+    }
+    Some(())
+}
+
+fn timed_reads(state: &State) -> Option<(f64, f64)> {
+    let (rust, mut buffers) = (Original::at(state), Buffers::of(state));
+    let rust = rust.as_ref()?;
+    let asked = reads::questions(state);
+    let pens = &buffers.image.pens[..PENS_BYTES];
+    let (head, out) = (&buffers.head, &mut buffers.out);
+    for q in &asked {
+        assert_eq!(reads::of_rust(rust, q), reads::of_library(head, pens, out, q), "reads");
+    }
+    let calls = asked.len() * reads::READS;
+    let (mut rusts, mut libraries) = (Vec::new(), Vec::new());
+    for _ in 0..ROUNDS {
+        rusts.push(each(calls, || {
+            for q in &asked {
+                black_box(reads::of_rust(rust, black_box(q)));
+            }
+        }));
+        libraries.push(each(calls, || {
+            for q in &asked {
+                black_box(reads::of_library(head, pens, out, black_box(q)));
+            }
+        }));
+    }
+    Some((median(rusts), median(libraries)))
+}

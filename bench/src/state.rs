@@ -1,0 +1,103 @@
+//! The states that the lists start from.
+
+use lists::rng::Rng;
+use reading::State;
+use reading::bytes::Guid;
+use reading::layout::{HOLDER_PLACES, Instance, LOST_PLACES, SET_PLACES, Standing, Time, Writer};
+
+/// All instances saw their last sample at this time, in seconds.
+pub const LAST: i32 = 100;
+pub const LEASE: u64 = 10_000_000_000;
+/// Writers stand a second apart by their last assertion.
+pub const APART: u64 = 1_000_000_000;
+/// What a full Lost leaves free, for a list's expiries.
+pub const EXPIRIES: usize = 16;
+
+/// How much is there.
+#[derive(Clone, Copy)]
+pub struct Size {
+    pub name: &'static str,
+    /// Instances, and as many writer records.
+    pub records: usize,
+    set: usize,
+    holder: usize,
+    lost: usize,
+}
+
+pub const SIZES: [Size; 4] = [
+    Size { name: "0", records: 0, set: 0, holder: 0, lost: 0 },
+    Size { name: "16", records: 16, set: 2, holder: 24, lost: 0 },
+    Size { name: "128", records: 128, set: 2, holder: 24, lost: 0 },
+    // Every record, set and holder as large as it can be.
+    Size {
+        name: "128, full",
+        records: 128,
+        set: SET_PLACES,
+        holder: HOLDER_PLACES,
+        lost: LOST_PLACES - EXPIRIES,
+    },
+];
+
+/// GUIDs that rise, of participants with eight writers each.
+fn guid(place: usize) -> Guid {
+    let mut guid = [0; 16];
+    guid[..4].copy_from_slice(&(place as u32 / 8).to_be_bytes());
+    guid[12..].copy_from_slice(&(place as u32 % 8 + 1).to_be_bytes());
+    guid
+}
+
+/// Alive instances with owner, holder, times and writers, and alive writers.
+pub fn state(size: Size, instances: usize) -> State {
+    let mut rng = Rng::new(1);
+    let mut state = State::fresh();
+    let guids: Vec<Guid> = (0..size.records).map(guid).collect();
+    let mut keys: Vec<[u8; 16]> = (0..instances)
+        .map(|_| {
+            let mut key = [0; 16];
+            rng.fill(&mut key);
+            key
+        })
+        .collect();
+    keys.sort_unstable();
+    for (place, key) in keys.into_iter().enumerate() {
+        state.instances.push(instance(size, place, key, &guids));
+    }
+    for (place, guid) in guids.iter().enumerate() {
+        state.writers.push(Writer {
+            guid: *guid,
+            standing: Standing::Alive,
+            lease: Some(LEASE),
+            last_assertion: place as u64 * APART,
+            ..Writer::default()
+        });
+    }
+    state.lost = (0..size.lost).map(|place| guids[place % guids.len()]).collect();
+    let head = &mut state.head;
+    head.instances = instances as u32;
+    head.writer_records = guids.len() as u32;
+    head.lost = state.lost.len() as u32;
+    head.alive = guids.len() as u32;
+    head.alive_change = guids.len() as i32;
+    head.last_writer = guids.last().copied();
+    head.next_handle = instances as u64 + 1;
+    head.changes = guids.len() as u64;
+    assert!(state.well_formed());
+    state
+}
+
+fn instance(size: Size, place: usize, key: [u8; 16], guids: &[Guid]) -> Instance {
+    let mut instance = Instance::fresh(key, place as u64 + 1);
+    let mut writers: Vec<Guid> = (0..size.set).map(|n| guids[(place + n) % guids.len()]).collect();
+    writers.sort_unstable();
+    let last = Some(Time { seconds: LAST, nanoseconds: 0 });
+    instance.view_new = false;
+    instance.samples = 1;
+    instance.last_sample = last;
+    instance.last_delivered = last;
+    instance.last_filter = last;
+    instance.owner = writers.first().map(|guid| (*guid, 1));
+    instance.owner_at = last;
+    instance.holder = Some(vec![0x77; size.holder]);
+    instance.writers = writers;
+    instance
+}

@@ -1,0 +1,15 @@
+//! The static library beside the reading of 01 and the Rust: generated lists
+//! through all three, every answer and every byte compared.
+
+pub mod case;
+pub mod library;
+pub mod list;
+pub mod reads;
+pub mod run;
+pub mod shrink;
+pub mod tally;
+
+pub use case::{Case, Fault};
+pub use list::List;
+pub use run::{Parting, Run};
+pub use tally::Tally;

@@ -1,0 +1,181 @@
+//! One list as it runs through the library, the reading and the Rust.
+
+use judge::compare::judged;
+use lists::Image;
+use original::Original;
+use reading::answer::ANSWER_BYTES;
+use reading::head::HEAD_BYTES;
+use reading::{Answer, Head, State};
+
+use crate::case::{Case, is_head};
+use crate::library::Lent;
+
+/// What every byte of an answer is before the call.
+const ANSWER_FILL: u8 = 0xc3;
+
+/// Why a list ends at a call.
+#[derive(Debug, Clone, PartialEq, Eq)]
+pub enum Parting {
+    /// What differs after it.
+    Differs(String),
+    /// All three agree on a number that damage cannot meet: the list is wrong.
+    Unrefused(u8),
+}
+
+/// The reading's image and the library's own buffers, and the Rust where it is
+/// at hand.
+pub struct Run<L> {
+    library: L,
+    image: Image,
+    /// Its head stays unused: the one lent is the reading's, to which the
+    /// library's was equal after the call before.
+    theirs: Image,
+    rust: Option<Original>,
+    pub state: State,
+}
+
+/// What the library gave.
+struct Given {
+    number: u32,
+    answer: Vec<u8>,
+    head: Vec<u8>,
+    out: Vec<u8>,
+}
+
+impl<L: FnMut(Lent<'_>) -> u32> Run<L> {
+    pub fn of(start: &State, library: L) -> Self {
+        let image = Image::of_state(start);
+        Self {
+            library,
+            theirs: image.clone(),
+            image,
+            rust: Original::at(start),
+            state: start.clone(),
+        }
+    }
+
+    /// The bytes of instances and the head, as the reading has them.
+    pub fn image(&self) -> &Image {
+        &self.image
+    }
+
+    /// A call of all three; the answer that they agree on.
+    pub fn call(&mut self, case: &Case) -> Result<Answer, Parting> {
+        let step = &case.step;
+        let (head, undo) = self.image.damage(step);
+        self.theirs.damage(step);
+        let lent_head = case.head_bytes(&self.image.head);
+        let given = self.ask(case, &lent_head);
+        let (answer, out) = self.expect(case, &lent_head);
+        self.same(case, &lent_head, &given, &answer, &out)?;
+        if case.spoilt() {
+            if !matches!(answer.number, 1..=3) {
+                return Err(Parting::Unrefused(answer.number));
+            }
+            self.image.head = head;
+            for edit in &undo {
+                self.image.edit(edit);
+                self.theirs.edit(edit);
+            }
+        }
+        self.judge(case, &answer, &out)?;
+        Ok(answer)
+    }
+
+    fn ask(&mut self, case: &Case, head: &[u8]) -> Given {
+        let lengths = &case.step.lengths;
+        let mut given = Given {
+            number: 0,
+            answer: vec![ANSWER_FILL; case.answer_length()],
+            head: head.to_vec(),
+            out: vec![case.step.fill; lengths.out],
+        };
+        given.number = (self.library)(Lent {
+            head: &mut given.head,
+            sheet: &case.step.sheet,
+            pens: &mut self.theirs.pens[..lengths.pens],
+            writers: &mut self.theirs.writers[..lengths.writers],
+            lost: &mut self.theirs.lost[..lengths.lost],
+            out: &mut given.out,
+            answer: &mut given.answer,
+        });
+        given
+    }
+
+    /// The reading's answer and Out. It takes its head by value, so lengths of
+    /// head and answer, and bytes that are no head's, are judged here.
+    fn expect(&mut self, case: &Case, lent_head: &[u8]) -> (Answer, Vec<u8>) {
+        let step = &case.step;
+        if lent_head.len() != HEAD_BYTES || case.answer_length() != ANSWER_BYTES {
+            return (Answer::refused(1), vec![step.fill; step.lengths.out]);
+        }
+        if !is_head(lent_head) {
+            return self.image.lend(step, |head, sheet, lent| {
+                reading::call(&mut Head { next_handle: 0, ..*head }, sheet, lent)
+            });
+        }
+        self.image.head = Head::of_bytes(lent_head);
+        self.image.lend(step, reading::call)
+    }
+
+    /// Compares all that the library was lent to write to.
+    fn same(
+        &self,
+        case: &Case,
+        lent_head: &[u8],
+        given: &Given,
+        answer: &Answer,
+        out: &[u8],
+    ) -> Result<(), Parting> {
+        let (laid, head) = (answer.bytes(), self.image.head.bytes());
+        let untouched = [ANSWER_FILL; 2 * ANSWER_BYTES];
+        let fits = case.answer_length() == ANSWER_BYTES;
+        let answer_bytes = if fits { &laid[..] } else { &untouched[..case.answer_length()] };
+        let head = if answer.number == 0 { &head[..] } else { lent_head };
+        same_bytes("number", &u32::from(answer.number).to_be_bytes(), &given.number.to_be_bytes())?;
+        same_bytes("answer", answer_bytes, &given.answer)?;
+        same_bytes("head", head, &given.head)?;
+        same_bytes("Out", out, &given.out)?;
+        same_bytes("pens", &self.image.pens, &self.theirs.pens)?;
+        same_bytes("writers", &self.image.writers, &self.theirs.writers)?;
+        same_bytes("Lost", &self.image.lost, &self.theirs.lost)
+    }
+
+    /// The Rust after the same call; a refused call leaves all states alone.
+    fn judge(&mut self, case: &Case, answer: &Answer, out: &[u8]) -> Result<(), Parting> {
+        if let Some(rust) = &mut self.rust {
+            judged(rust, &self.state, &case.step, answer, out).map_err(Parting::Differs)?;
+        }
+        if answer.number != 0 {
+            return Ok(());
+        }
+        self.state = self
+            .image
+            .state()
+            .ok_or_else(|| Parting::Differs("not well formed after it".into()))?;
+        match self.rust.as_ref().map(Original::state) {
+            Some(state) if state != self.state => Err(Parting::Differs(format!(
+                "the Rust has {state:?}, the library {:?}",
+                self.state
+            ))),
+            _ => Ok(()),
+        }
+    }
+}
+
+/// Where two rows of bytes first differ.
+pub fn same_bytes(what: &str, expected: &[u8], given: &[u8]) -> Result<(), Parting> {
+    if expected == given {
+        return Ok(());
+    }
+    let at = expected.iter().zip(given).position(|(e, g)| e != g).unwrap_or(0);
+    let part = |bytes: &[u8]| {
+        let end = bytes.len().min(at + 16);
+        bytes[at.min(end)..end].iter().map(|byte| format!("{byte:02x}")).collect::<String>()
+    };
+    Err(Parting::Differs(format!(
+        "{what} from byte {at}: the reading has {}, the library {}",
+        part(expected),
+        part(given)
+    )))
+}

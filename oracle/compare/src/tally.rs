@@ -1,0 +1,120 @@
+//! What was run, counted by code and by number.
+
+use std::fmt;
+
+use lists::generate::CODES;
+use reading::{Answer, State, sheet};
+
+use crate::case::Case;
+
+/// Accepted, and refusals 1 to 13.
+const NUMBERS: usize = 14;
+
+#[derive(Debug, Clone)]
+pub struct Tally {
+    pub lists: u64,
+    pub stored_starts: u64,
+    pub calls: u64,
+    /// States on which the reads were compared, and the reads.
+    pub read: u64,
+    pub reads: u64,
+    pub damaged: u64,
+    pub boundary_faults: u64,
+    pub odd_lengths: u64,
+    codes: Vec<[u64; NUMBERS]>,
+    /// Sheets too short to have a code.
+    no_code: [u64; NUMBERS],
+    outcomes: [u64; 5],
+}
+
+impl Default for Tally {
+    fn default() -> Self {
+        Self {
+            lists: 0,
+            stored_starts: 0,
+            calls: 0,
+            read: 0,
+            reads: 0,
+            damaged: 0,
+            boundary_faults: 0,
+            odd_lengths: 0,
+            codes: vec![[0; NUMBERS]; 256],
+            no_code: [0; NUMBERS],
+            outcomes: [0; 5],
+        }
+    }
+}
+
+impl Tally {
+    pub fn list(&mut self, start: &State) {
+        self.lists += 1;
+        self.stored_starts += u64::from(*start != State::fresh());
+    }
+
+    pub fn call(&mut self, case: &Case, answer: &Answer) {
+        self.calls += 1;
+        self.damaged += u64::from(case.step.damages());
+        self.boundary_faults += u64::from(case.fault.is_some());
+        let odd = case.step.lengths != lists::image::Lengths::STATED
+            || case.step.sheet.len() != sheet::SHEET_BYTES;
+        self.odd_lengths += u64::from(odd);
+        let row = match case.step.code() {
+            Some(code) => &mut self.codes[usize::from(code)],
+            None => &mut self.no_code,
+        };
+        row[usize::from(answer.number)] += 1;
+        if case.step.code() == Some(48) && answer.number == 0 {
+            self.outcomes[usize::from(answer.outcome)] += 1;
+        }
+    }
+
+    /// How often each number was answered.
+    pub fn numbers(&self) -> [u64; NUMBERS] {
+        sum(self.codes.iter().chain([&self.no_code]))
+    }
+}
+
+fn sum<'a>(rows: impl Iterator<Item = &'a [u64; NUMBERS]>) -> [u64; NUMBERS] {
+    rows.fold([0; NUMBERS], |mut sum, row| {
+        sum.iter_mut().zip(row).for_each(|(s, n)| *s += n);
+        sum
+    })
+}
+
+impl fmt::Display for Tally {
+    fn fmt(&self, f: &mut fmt::Formatter<'_>) -> fmt::Result {
+        writeln!(
+            f,
+            "{} calls of {} lists, {} of them from a state other than fresh",
+            self.calls, self.lists, self.stored_starts
+        )?;
+        writeln!(
+            f,
+            "{} calls on damaged states, {} with another length of sheet or buffer, {} with a fault in head or answer",
+            self.damaged, self.odd_lengths, self.boundary_faults
+        )?;
+        writeln!(f, "{} reads on {} states", self.reads, self.read)?;
+        write!(f, "{:>7}{:>9}", "code", "accepted")?;
+        (1..NUMBERS).try_for_each(|number| write!(f, "{number:>8}"))?;
+        writeln!(f)?;
+        for code in CODES {
+            row(f, &code.to_string(), &self.codes[usize::from(code)])?;
+        }
+        let unknown =
+            (0..=255).filter(|c| !sheet::known_code(*c)).map(|c| &self.codes[usize::from(c)]);
+        row(f, "unknown", &sum(unknown))?;
+        row(f, "none", &self.no_code)?;
+        row(f, "all", &self.numbers())?;
+        write!(f, "outcomes of code 48:")?;
+        for (outcome, n) in self.outcomes.iter().enumerate() {
+            write!(f, "  {outcome}: {n}")?;
+        }
+        Ok(())
+    }
+}
+
+fn row(f: &mut fmt::Formatter<'_>, name: &str, numbers: &[u64; NUMBERS]) -> fmt::Result {
+    write!(f, "{name:>7}{:>9}", numbers[0])?;
+    numbers[1..].iter().try_for_each(|n| write!(f, "{n:>8}"))?;
+    writeln!(f)
+}
