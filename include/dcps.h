@@ -64,10 +64,10 @@
  *                                       64   last publication handle u64
  *
  * Answer, 24 bytes; what a read does not answer is 0
- *      0   number u8                     4   listed u32: entries written to out
- *      1   yes u8                        8   handle or changes u64
+ *      0   number u8                     4   listed u32: entries written to out; or a stored holder's length
+ *      1   yes u8                        8   handle, changes, or a stored holder's offset in pens u64
  *      2   present u8: one was found    16   seconds i32
- *      3   zero u8                      20   nanoseconds u32
+ *      3   stored u8                    20   nanoseconds u32
  *
  * A key or a GUID of 16 bytes passes as two numbers: high is its first 8 bytes, low its last 8. A list of GUIDs is a
  * multiple of 16 bytes, 4096 at most, else it is refused as 1. The reads of instances are lent pens alone, and meet
@@ -118,6 +118,11 @@ uint32_t dcps_next_handle_after(const uint8_t *pens, size_t pens_len, uint64_t p
 
 /* The handle of the instance at a position from 0, in the order of the keys: present and handle. */
 uint32_t dcps_handle_at_position(const uint8_t *pens, size_t pens_len, size_t position, uint8_t *answer, size_t answer_len);
+
+/* Where the bytes from which the key was made stand in pens: stored, offset and length. Where stored is 0, also because
+ * pens would be refused, the bytes that the caller has at hand are in force. Refused as 1 for the answer's length alone. */
+uint32_t dcps_holder_in_force(const uint8_t *pens, size_t pens_len, uint64_t high, uint64_t low, uint8_t *answer,
+                              size_t answer_len);
 
 /* The handle of some alive instance whose set has the GUID: present and handle. */
 uint32_t dcps_writer_lookup(const uint8_t *pens, size_t pens_len, uint64_t high, uint64_t low, uint8_t *answer,

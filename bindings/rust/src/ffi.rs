@@ -79,6 +79,14 @@ mod c {
             answer: *mut u8,
             answer_len: usize,
         ) -> u32;
+        pub fn dcps_holder_in_force(
+            pens: *const u8,
+            pens_len: usize,
+            high: u64,
+            low: u64,
+            answer: *mut u8,
+            answer_len: usize,
+        ) -> u32;
         pub fn dcps_writer_lookup(
             pens: *const u8,
             pens_len: usize,
@@ -178,6 +186,8 @@ pub(crate) fn fresh(lent: &mut Lent) -> u32 {
 pub(crate) struct Read {
     pub yes: bool,
     pub present: bool,
+    /// Offset and length in pens of a stored holder.
+    pub stored: Option<(usize, usize)>,
     /// Entries written to Out.
     pub listed: u32,
     pub handle: InstanceHandle,
@@ -190,6 +200,7 @@ impl Read {
         Self {
             yes: b[1] != 0,
             present: b[2] != 0,
+            stored: (b[3] != 0).then(|| (u64_at(b, 8) as usize, u32_at(b, 4) as usize)),
             listed: u32_at(b, 4),
             handle: InstanceHandle::from_raw(u64_at(b, 8)),
             changes: u64_at(b, 8),
@@ -281,6 +292,13 @@ pub(crate) fn next_handle_after(pens: &Pens, previous: InstanceHandle) -> Result
 pub(crate) fn handle_at_position(pens: &Pens, position: usize) -> Result<Read, Refusal> {
     read(|answer, length| unsafe {
         c::dcps_handle_at_position(pens.as_ptr(), pens.len(), position, answer, length)
+    })
+}
+
+pub(crate) fn holder_in_force(pens: &Pens, key: &KeyHash) -> Result<Read, Refusal> {
+    let (hi, lo) = halves(key);
+    read(|answer, length| unsafe {
+        c::dcps_holder_in_force(pens.as_ptr(), pens.len(), hi, lo, answer, length)
     })
 }
 

@@ -178,6 +178,22 @@ impl State {
         Walker { state: self, position: 0 }
     }
 
+    /// The bytes from which an instance's key was made: those stored, or, where none are, those offered.
+    ///
+    /// ```
+    /// let mut state = dcps::State::new();
+    /// assert_eq!(state.holder_in_force(&[1; 16], b"offered"), b"offered");
+    /// state.register([1; 16], b"serial 1".to_vec(), None)?;
+    /// assert_eq!(state.holder_in_force(&[1; 16], b"offered"), b"serial 1");
+    /// # Ok::<(), dcps::Refusal>(())
+    /// ```
+    #[must_use]
+    pub fn holder_in_force<'a>(&'a self, keyhash: &KeyHash, offered: &'a [u8]) -> &'a [u8] {
+        let pens = &self.lent().pens;
+        let stored = ffi::holder_in_force(pens, keyhash).ok().and_then(|read| read.stored);
+        stored.map_or(offered, |(at, length)| &pens[at..at + length])
+    }
+
     /// An alive instance that a writer writes, some one of them.
     ///
     /// ```

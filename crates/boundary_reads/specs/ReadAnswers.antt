@@ -81,6 +81,11 @@ abbrev pub listingAnswer : Listing → ReadAnswer
 listingAnswer (listingRefused n) = refusedAnswer n
 listingAnswer (Listed n) = readOf 0 false false n 0
 
+-- a holder by its place; where none is stored, all is 0
+abbrev pub holderAnswer : Bool → ℕ → ℕ → ReadAnswer
+holderAnswer stored offset len =
+    record { number = 0; yes = false; present = false; stored = stored; size = len; value = offset; sec = pos 0; nanosec = 0 }
+
 abbrev pub changesAnswer : ChangesRead → ReadAnswer
 changesAnswer (changesRefused n) = refusedAnswer n
 changesAnswer (changesIs n) = readOf 0 false false 0 n

@@ -9,7 +9,7 @@ ghost use mathlib.Core.Path.{_≡_};
 ghost use lib.ListN.{length};
 ghost use Rattle.octets.specs.Fields.{puts};
 ghost use Rattle.model.specs.InstanceRecord.{bit};
-ghost use Rattle.boundary_reads.specs.ReadAnswers.{bitWidths, bitValues, valueWidths, valueValues, refusedAnswer, decisionAnswer, handleAnswer, timeAnswer, listingAnswer, changesAnswer, toldOf, told};
+ghost use Rattle.boundary_reads.specs.ReadAnswers.{bitWidths, bitValues, valueWidths, valueValues, refusedAnswer, decisionAnswer, handleAnswer, timeAnswer, listingAnswer, holderAnswer, changesAnswer, toldOf, told};
 
 // What a read answers.
 pub struct ReadAnswer {
@@ -116,6 +116,22 @@ pub fn listing_answer(l: Listing) -> ReadAnswer
             sec: 0,
             nanosec: 0,
         },
+    }
+}
+
+// Where a stored holder stands: its first byte and its length.
+pub fn holder_answer(stored: bool, offset: u64, len: u16) -> ReadAnswer
+    ensures { λ r. ⌜ r ≡ holderAnswer stored offset len ⌝ }
+{
+    ReadAnswer {
+        number: 0,
+        yes: false,
+        present: false,
+        stored: stored,
+        size: len as u32,
+        value: offset,
+        sec: 0,
+        nanosec: 0,
     }
 }
 

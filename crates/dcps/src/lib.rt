@@ -5,6 +5,7 @@
 // Derives from instance_tracker.rs and liveliness_tracker.rs of ZeroDDS.
 // Copyright 2026 ZeroDDS Contributors. SPDX-License-Identifier: Apache-2.0. Changed: written anew in Rattle, with the state
 // lent as head and buffers and every call behind one entry.
+use instance_reads::HolderPlace;
 use model::Called;
 use model::ChangesRead;
 use model::Decision;
@@ -19,13 +20,15 @@ use model::Sheet;
 use model::StatusRead;
 use model::Time;
 ghost use mathlib.Core.Bool.{true, _&&_};
-ghost use mathlib.Core.List.{[]};
+ghost use mathlib.Core.List.{List, []};
 ghost use mathlib.Core.Path.{_≡_};
+ghost use Prim.Native.Nat.{ℕ};
 ghost use lib.Dec.{eqb};
 ghost use lib.ListN.{length};
 ghost use Rattle.model.specs.Call.{coded, callOf, lentOf, leftOf};
 ghost use Rattle.model.specs.Calls.{callOfCode};
 ghost use Rattle.model.specs.Reads.{filterRead, orderRead, lastDeliveredRead, nextHandleRead, walkRead, holderInForce, lookupRight, wouldLeaveRead, leftRead, leftOut, statusRead, changesRead};
+ghost use Rattle.instance_reads.specs.HolderPlaces.{holderPlace, bytesAt};
 ghost use Rattle.dcps.specs.Fresh.{freshHead, freshOf};
 
 // ---- every call
@@ -170,6 +173,14 @@ pub fn handle_at_position(pens: &[u8], position: usize) -> FoundHandle
     ensures { λ r. ⌜ r ≡ walkRead 128 (now (pens .entry)) position ⌝ }
 {
     instance_reads::handle_at_position(pens, position)
+}
+
+// Where the stored holder of the key stands in pens: for callers who can't be handed a slice.
+pub fn holder_place(pens: &[u8], key: Guid) -> HolderPlace
+    ensures place { λ r. ⌜ r ≡ holderPlace 128 (now (pens .entry)) key ⌝ }
+    ensures force { λ r. ⌜ ((offered : List ℕ) → bytesAt r (now (pens .entry)) offered ≡ holderInForce 128 (now (pens .entry)) key offered) ⌝ }
+{
+    instance_reads::holder_place(pens, key)
 }
 
 // The stored holder of the key, or the one offered.

@@ -1,6 +1,6 @@
 -- The answers of the reads of instances.
---     decided, handled, timed     what was read is what is told
---     left-untold, left-told      the list, where the answer has its length
+--     decided, handled, timed, placed     what was read is what is told
+--     left-untold, left-told              the list, where the answer has its length
 -- Assumes nothing.
 use Prim.Native.Nat.{ℕ}
 use mathlib.Core.Path.{_≡_, ap, _∙_}
@@ -13,8 +13,9 @@ use Rattle.model.specs.declared.FoundTime.{FoundTime}
 use Rattle.model.specs.declared.Listing.{Listing}
 use Rattle.model.specs.Reads.{leftRead, leftOut}
 use Rattle.boundary_reads.specs.declared.ReadAnswer.{ReadAnswer}
-use Rattle.boundary_reads.specs.ReadAnswers.{toldOf, told, decisionAnswer, handleAnswer, timeAnswer, listingAnswer}
-use Rattle.dcps_c.specs.Reads.{toldList, boundaryLeft}
+use Rattle.boundary_reads.specs.ReadAnswers.{toldOf, told, decisionAnswer, handleAnswer, timeAnswer, listingAnswer, holderAnswer}
+use Rattle.instance_reads.specs.declared.HolderPlace.{HolderPlace}
+use Rattle.dcps_c.specs.Reads.{placeAnswer, toldList, boundaryLeft}
 
 module _ {n : ℕ} (lent left : List ℕ) {a : ReadAnswer} (tells : toldOf n left ≡ told a lent) where
   pub retold : {c : ReadAnswer} → a ≡ c → toldOf n left ≡ told c lent
@@ -28,6 +29,9 @@ module _ {n : ℕ} (lent left : List ℕ) {a : ReadAnswer} (tells : toldOf n lef
 
   pub timed : {d f : FoundTime} → a ≡ timeAnswer d → d ≡ f → toldOf n left ≡ told (timeAnswer f) lent
   timed e r = retold (e ∙ ap timeAnswer r)
+
+  pub placed : (p : HolderPlace) {f : HolderPlace} → a ≡ holderAnswer (p .stored) (p .offset) (p .len) → p ≡ f → toldOf n left ≡ told (placeAnswer f) lent
+  placed p e r = retold (e ∙ ap placeAnswer r)
 
 module _ (pens gone : List ℕ) (mask : ℕ) (out answer : List ℕ) where
   pub left-untold : (length answer ≡ 24 → ⊥) → toldList 1 out answer ≡ boundaryLeft pens gone mask out answer

@@ -17,7 +17,8 @@ use Rattle.model.specs.Reads.{statusRead, changesRead, leftRead, leftOut, looku
 use Rattle.model.specs.State.{instancePlaces}
 use Rattle.boundary.specs.Layouts.{headIn, headLaid, answerBytes}
 use Rattle.boundary_reads.specs.declared.ReadAnswer.{ReadAnswer}
-use Rattle.boundary_reads.specs.ReadAnswers.{Told, toldOf, told, refusedAnswer, changesAnswer, handleAnswer, listingAnswer}
+use Rattle.boundary_reads.specs.ReadAnswers.{Told, toldOf, told, refusedAnswer, changesAnswer, handleAnswer, listingAnswer, holderAnswer}
+use Rattle.instance_reads.specs.declared.HolderPlace.{HolderPlace}
 use Rattle.dcps_c.specs.Boundary.{headSize, answerSize}
 
 abbrev pub guidOf : ℕ → ℕ → Guid
@@ -62,6 +63,11 @@ boundaryLeft pens gone mask out answer =
       told = told (listingAnswer (leftRead instancePlaces pens gone mask out)) answer;
       out = cond (eqb (length answer) 24) (leftOut instancePlaces pens gone mask out) out;
     }
+
+-- ---- the holder in force: where it is stored, by its place in pens
+
+abbrev pub placeAnswer : HolderPlace → ReadAnswer
+placeAnswer p = holderAnswer (p .stored) (p .offset) (p .len)
 
 -- ---- the writer lookup: some right answer
 

@@ -21,8 +21,9 @@ ghost use Rattle.boundary_reads.specs.ReadAnswers.{toldOf, told, decisionAnswer
 ghost use Rattle.model.specs.Answers.{refusedWith, reporting};
 ghost use Rattle.model.specs.Handles.{handle};
 ghost use Rattle.model.specs.Reads.{filterRead, orderRead, lastDeliveredRead, nextHandleRead, walkRead, wouldLeaveRead};
+ghost use Rattle.instance_reads.specs.HolderPlaces.{holderPlace};
 ghost use Rattle.dcps_c.specs.Boundary.{crossedOf, headOr, noHead, calledHead, boundaryCall, boundaryFresh};
-ghost use Rattle.dcps_c.specs.Reads.{guidOf, timeAt, statusAnswer, statusOf, boundaryStatus, changesOf, toldList, boundaryLeft, LookedUp};
+ghost use Rattle.dcps_c.specs.Reads.{guidOf, timeAt, statusAnswer, statusOf, boundaryStatus, changesOf, toldList, boundaryLeft, placeAnswer, LookedUp};
 
 // ---- the head and the answer
 
@@ -280,6 +281,17 @@ pub extern "C" fn dcps_handle_at_position(pens: &[u8], position: usize, answer: 
 {
     let f = dcps::handle_at_position(pens, position);
     boundary_reads::tell(answer, boundary_reads::handle_answer(f))
+}
+
+// Where the bytes from which the key was made are stored in pens; where they are not, the caller's own are in force.
+#[no_mangle]
+pub extern "C" fn dcps_holder_in_force(pens: &[u8], high: u64, low: u64, answer: &mut [u8]) -> u32
+    ensures { λ r. ⌜ toldOf r (now (answer .exit)) ≡ told (placeAnswer (holderPlace 128 (now (pens .entry)) (guidOf high low))) (now (answer .entry)) ⌝ }
+{
+    let key = Guid { hi: high, lo: low };
+    let p = dcps::holder_place(pens, key);
+    let a = boundary_reads::holder_answer(p.stored, p.offset as u64, p.len);
+    boundary_reads::tell(answer, a)
 }
 
 // An alive instance that the writer writes.

@@ -1,2 +1,3 @@
 -- What the contracts of instance_reads cite beside model's definitions.
+pub mod HolderPlaces
 pub mod Looked

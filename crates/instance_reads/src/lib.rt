@@ -19,15 +19,15 @@ use model::Time;
 use model::Times;
 use tables::Found;
 ghost use mathlib.Core.Bool.{true, cond};
-ghost use mathlib.Core.List.{map};
+ghost use mathlib.Core.List.{List, map};
 ghost use mathlib.Core.Path.{_≡_};
-ghost use Prim.Native.Nat.{_+_, _*_, _/_, _%_, _≤_, _<_};
+ghost use Prim.Native.Nat.{ℕ, _+_, _*_, _/_, _%_, _≤_, _<_};
 ghost use lib.ListN.{length, drop};
 ghost use Rattle.octets.specs.Octets.{put};
 ghost use Rattle.model.specs.Guids.{num, guidsIn};
 ghost use Rattle.model.specs.InstanceRecord.{instanceOf};
 ghost use Rattle.model.specs.Instances.{hasKey};
-ghost use Rattle.model.specs.Reads.{usedIn, tableOf, tableRefusal, timeRefusal, filterRead, orderRead, lastDeliveredRead, handleFound, first, nextHandleRead, walkRead, storedOr, holderInForce, writes as writesIn, lookupRight, viewIn, among, leftWith, listRefusal, wouldLeaveRead, leftRead, leftOut};
+ghost use Rattle.model.specs.Reads.{usedIn, tableOf, tableRefusal, timeRefusal, filterRead, orderRead, lastDeliveredRead, handleFound, first, nextHandleRead, walkRead, holderInForce, writes as writesIn, lookupRight, viewIn, among, leftWith, listRefusal, wouldLeaveRead, leftRead, leftOut};
 ghost use Rattle.model.specs.Sets.{has};
 ghost use Rattle.model.specs.State.{instanceKey};
 ghost use Rattle.model.specs.Tables.{find, all};
@@ -36,7 +36,15 @@ ghost use Rattle.model.specs.WellFormed.{instanceOk};
 ghost use Rattle.tables.specs.Found.{foundIn};
 ghost use Rattle.instance_record.specs.Parts.{recordAt};
 ghost use Rattle.turns.specs.Places.{placeOf};
+ghost use Rattle.instance_reads.specs.HolderPlaces.{noPlace, storedAt, holderPlace, bytesAt};
 ghost use Rattle.instance_reads.specs.Looked.{timesIn, ListedBy};
+
+// Where a stored holder stands in the table: its first byte and its length.
+pub struct HolderPlace {
+    pub stored: bool,
+    pub offset: usize,
+    pub len: u16,
+}
 
 // ---- refusals
 
@@ -244,33 +252,62 @@ pub fn handle_at_position(pens: &[u8], position: usize) -> FoundHandle
 
 // ---- the holder in force
 
-// The stored holder of instance i, where there is one, else what is offered.
-fn stored_or<'a>(pens: &'a [u8], i: usize, offered: &'a [u8]) -> &'a [u8]
-    requires { ⌜ (i * 512 + 512 ≤ length (now pens)) × (instanceOk (instanceOf (recordAt (now pens) i)) ≡ true) ⌝ }
-    ensures { λ r. ⌜ now r ≡ storedOr (now (offered .entry)) (instanceOf (recordAt (now (pens .entry)) i) .state .holder) ⌝ }
+// Nowhere in the table.
+fn nowhere() -> HolderPlace
+    ensures { λ r. ⌜ r ≡ noPlace ⌝ }
+{
+    HolderPlace {
+        stored: false,
+        offset: 0,
+        len: 0,
+    }
+}
+
+// Where the stored holder of instance i stands.
+fn holder_at(pens: &[u8], i: usize) -> HolderPlace
+    requires { ⌜ i * 512 + 512 ≤ length (now pens) ⌝ }
+    ensures { λ r. ⌜ r ≡ storedAt i (instanceOf (recordAt (now (pens .entry)) i) .state .holder) ⌝ }
 {
     let o = i * 512;
     let f = octets::get_u16(pens, o + 24);
     if f / 32 % 2 != 1 {
-        return offered;
+        return nowhere();
     }
-    let n = octets::get_u16(pens, o + 26) as usize;
-    let start = o + 112;
-    let end = start + n;
-    &pens[start..end]
+    let n = octets::get_u16(pens, o + 26);
+    HolderPlace {
+        stored: true,
+        offset: o + 112,
+        len: n,
+    }
+}
+
+// Where the bytes from which the key was made are stored; nowhere too where the table would be refused.
+pub fn holder_place(pens: &[u8], key: Guid) -> HolderPlace
+    ensures place { λ r. ⌜ r ≡ holderPlace 128 (now (pens .entry)) key ⌝ }
+    ensures force { λ r. ⌜ ((offered : List ℕ) → bytesAt r (now (pens .entry)) offered ≡ holderInForce 128 (now (pens .entry)) key offered) ⌝ }
+{
+    if table_refusal(pens) != 0 {
+        return nowhere();
+    }
+    match locate(pens, 128, key) {
+        Found::At(i) => holder_at(pens, i),
+        Found::Missing(_) => nowhere(),
+    }
 }
 
 // The bytes from which the key was made: those stored, else, and where the table would be refused, all that are offered.
 pub fn holder_in_force<'a>(pens: &'a [u8], key: Guid, offered: &'a [u8]) -> &'a [u8]
     ensures { λ r. ⌜ now r ≡ holderInForce 128 (now (pens .entry)) key (now (offered .entry)) ⌝ }
 {
-    if table_refusal(pens) != 0 {
+    let p = holder_place(pens, key);
+    let stored = p.stored;
+    let start = p.offset;
+    let n = p.len;
+    if !stored {
         return offered;
     }
-    match locate(pens, 128, key) {
-        Found::At(i) => stored_or(pens, i, offered),
-        Found::Missing(_) => offered,
-    }
+    let end = start + n as usize;
+    &pens[start..end]
 }
 
 // ---- GUIDs

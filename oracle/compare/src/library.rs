@@ -60,6 +60,7 @@ boundary! {
     last_delivered = dcps_last_delivered_ts(pens; high: u64, low: u64; answer);
     next_handle_after = dcps_next_handle_after(pens; previous: u64; answer);
     handle_at_position = dcps_handle_at_position(pens; position: usize; answer);
+    holder_in_force = dcps_holder_in_force(pens; high: u64, low: u64; answer);
     writer_lookup = dcps_writer_lookup(pens; high: u64, low: u64; answer);
     would_leave_writerless = dcps_would_leave_writerless(pens, gone; view_states: u32; answer);
     left_writerless = dcps_left_writerless(pens, gone; view_states: u32; out, answer);

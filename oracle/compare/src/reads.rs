@@ -5,9 +5,9 @@ use lists::image::{Buffer, PENS_MOST};
 use lists::rng::Rng;
 use lists::{Image, Step, damage};
 use reading::answer::ANSWER_BYTES;
-use reading::bytes::{Guid, put, u64_at};
+use reading::bytes::{Guid, Key, put, u64_at};
 use reading::head::HEAD_BYTES;
-use reading::layout::{Kind, LOST_BYTES, OUT_BYTES, PENS_BYTES, Time, WRITERS_BYTES};
+use reading::layout::{INSTANCE_BYTES, Kind, LOST_BYTES, OUT_BYTES, PENS_BYTES, Time, WRITERS_BYTES};
 use reading::{Answer, Head, Sheet, State, reads};
 
 use crate::case::{Fault, is_head};
@@ -18,6 +18,8 @@ use crate::tally::Tally;
 pub const READ_BYTES: usize = 24;
 /// What every byte of an answer and of Out is before a read.
 const FILL: u8 = 0xc3;
+/// Where the holder stands in an instance's record.
+const HOLDER_AT: usize = 112;
 /// Damage, and odd lengths, one in so many times.
 const SPOILT_ONE_IN: usize = 6;
 
@@ -26,8 +28,10 @@ const SPOILT_ONE_IN: usize = 6;
 struct Told {
     yes: bool,
     present: bool,
+    stored: bool,
+    /// Or a stored holder's length.
     listed: u32,
-    /// Or changes.
+    /// Or changes, or a stored holder's offset.
     handle: u64,
     time: Time,
 }
@@ -53,6 +57,7 @@ fn laid_out(told: &Result<Told, u8>) -> [u8; READ_BYTES] {
         Ok(told) => {
             bytes[1] = u8::from(told.yes);
             bytes[2] = u8::from(told.present);
+            bytes[3] = u8::from(told.stored);
             put(&mut bytes, 4, &told.listed.to_be_bytes());
             put(&mut bytes, 8, &told.handle.to_be_bytes());
             put(&mut bytes, 16, &told.time.bytes());
@@ -132,6 +137,7 @@ pub fn same_reads(
         reads::table(&pens).map(|all| Told::handle(all.get(position).map(|i| i.handle))),
         |answer| library::handle_at_position(&pens, position, answer),
     )?;
+    asked.holder(&pens, &key)?;
     asked.lookup(&pens, &guid)?;
     asked.writerless(&pens, state, sheet)?;
     asked.of_head(image, state)?;
@@ -182,6 +188,26 @@ impl Asked<'_> {
     ) -> Result<(), Parting> {
         let (number, answer) = self.ask(READ_BYTES, read);
         same_answer(what, &laid_out(&expected), number, &answer)
+    }
+
+    /// Where the holder of a key is stored, and that its bytes are there; never
+    /// refused.
+    fn holder(&mut self, pens: &[u8], key: &Key) -> Result<(), Parting> {
+        let (high, low) = (u64_at(key, 0), u64_at(key, 8));
+        let table = reads::table(pens).unwrap_or_default();
+        let stored = table.iter().position(|i| i.key == *key && i.holder.is_some());
+        let held = reads::holder_in_force(pens, key, &[]);
+        let at = stored.map_or(0, |place| place * INSTANCE_BYTES + HOLDER_AT);
+        let told = Told {
+            stored: stored.is_some(),
+            listed: held.len() as u32,
+            handle: at as u64,
+            ..Told::default()
+        };
+        same_bytes("holder in pens", &held, &pens[at..at + held.len()])?;
+        self.same("holder in force", Ok(told), |answer| {
+            library::holder_in_force(pens, high, low, answer)
+        })
     }
 
     /// Some alive instance whose set has the GUID: which one is free.

@@ -1,58 +1,44 @@
--- `holder_in_force` meets its contract, by its test and what it calls. Assumes nothing.
-use mathlib.Core.Path.{sym, _∙_}
+-- `holder_in_force` meets its contract: what is stored is a part of the table. Assumes nothing.
+use native.Mathlib.Omega.{arith}
 use borrow.Author.Needs.{needs}
-use Rattle.instance_reads.proofs.Table.{found-room, found-here, found-valid, found-none}
-use Rattle.instance_reads.proofs.Stored.{force-refused, force-none, force-here}
+use borrow.Author.Tests.{not-true, not-false}
+use Rattle.instance_reads.proofs.Stored.{offered-there, part-there, part-room}
 use Rattle.instance_reads.proofs.holder_in_force.Statement.{statement}
 use Rattle.instance_reads.proofs.holder_in_force.Tie as tie
 
-table-refusal-requires : tie.Need-table-refusal-requires
-table-refusal-requires c κs = search needs
+holder-place-requires : tie.Need-holder-place-requires
+holder-place-requires c κs = search needs
 
 returns : tie.Need-returns
-returns c = force-refused _ _ _ _ _ (c .before .table-refusal .ensures) (c .if1 .taken)
+returns c = offered-there _ _ _ _ (c .before .holder-place .ensures .0) (not-true _ (c .if1 .taken)) _
 
-locate-requires : tie.Need-locate-requires
-locate-requires c κs = search needs
+cast-end : tie.Need-cast-end
+cast-end c = search needs
 
-enum-known-i : tie.Need-enum-known-i
-enum-known-i c = search needs
+add-end : tie.Need-add-end
+add-end c = search (needs, part-room _ _ _ _ (c .before .holder-place .ensures .0))
 
-stored-or-requires : tie.Need-stored-or-requires
-stored-or-requires c κs =
-    let l = c .before .before .before in
-    let r = sym (l .before .before .table-refusal .ensures) ∙ l .before .if1 .left in (
-      found-room _ _ r _ _ _ (l .locate .ensures) (c .before .i .given .1),
-      found-valid _ _ r _ _ _ (l .locate .ensures) (c .before .i .given .1),
-    )
+sub-result : tie.Need-sub-result
+sub-result c = search needs
 
-enum-told : tie.Need-enum-told
-enum-told c = search needs
+part-result-start : tie.Need-part-result-start
+part-result-start c = search needs
+
+part-result-end : tie.Need-part-result-end
+part-result-end c = omega (arith, part-room _ _ _ _ (c .before .holder-place .ensures .0))
 
 returns-2 : tie.Need-returns-2
-returns-2 c =
-    let i = c .before .before in
-    let l = i .before .before in
-    let n = l .before .before .table-refusal .ensures in
-    let r = sym n ∙ l .before .if1 .left in
-    force-here _ _ _ _ _ n (l .before .if1 .left) _ _ (found-here _ _ r _ _ _ (l .locate .ensures) (i .i .given .1)) (c .stored-or .ensures)
-
-returns-3 : tie.Need-returns-3
-returns-3 c =
-    let l = c .before .before in
-    let n = l .before .before .table-refusal .ensures in
-    let r = sym n ∙ l .before .if1 .left in
-    force-none _ _ _ _ _ n (l .before .if1 .left) (found-none _ _ r _ _ _ (l .locate .ensures) (c .enum-told .given .1))
+returns-2 c = part-there _ _ _ _ (c .before .before .holder-place .ensures .0) (not-false _ (c .before .if1 .left)) _
 
 pub holder-in-force-spec : {M : Type 1} → statement M
 holder-in-force-spec =
     tie.close
     (tie.spec
-    table-refusal-requires
+    holder-place-requires
     returns
-    locate-requires
-    enum-known-i
-    stored-or-requires
-    enum-told
-    returns-2
-    returns-3)
+    cast-end
+    add-end
+    sub-result
+    part-result-start
+    part-result-end
+    returns-2)

@@ -1,0 +1,63 @@
+-- `holder_place` meets its contract, by its test and what it calls. Assumes nothing.
+use borrow.Author.Needs.{needs}
+use mathlib.Core.Path.{sym, _∙_}
+use Rattle.instance_reads.proofs.Table.{found-room, found-none}
+use Rattle.instance_reads.proofs.Stored.{force-at, place-refused, place-none, place-here}
+use Rattle.instance_reads.proofs.holder_place.Statement.{statement}
+use Rattle.instance_reads.proofs.holder_place.Tie as tie
+
+table-refusal-requires : tie.Need-table-refusal-requires
+table-refusal-requires c κs = search needs
+
+nowhere-requires : tie.Need-nowhere-requires
+nowhere-requires c κs = search needs
+
+returns : tie.Need-returns
+returns c =
+    force-at _ _ _ _ (c .nowhere .ensures ∙ place-refused _ _ _ _ (c .before .before .table-refusal .ensures) (c .before .if1 .taken))
+
+locate-requires : tie.Need-locate-requires
+locate-requires c κs = search needs
+
+enum-known-i : tie.Need-enum-known-i
+enum-known-i c = search needs
+
+holder-at-requires : tie.Need-holder-at-requires
+holder-at-requires c κs =
+    let l = c .before .before .before in
+    let r = sym (l .before .before .table-refusal .ensures) ∙ l .before .if1 .left in
+    found-room _ _ r _ _ _ (l .locate .ensures) (c .before .i .given .1)
+
+enum-told : tie.Need-enum-told
+enum-told c = search needs
+
+nowhere-requires-2 : tie.Need-nowhere-requires-2
+nowhere-requires-2 c κs = search needs
+
+returns-2 : tie.Need-returns-2
+returns-2 c =
+    let i = c .before .before in
+    let l = i .before .before in
+    let r = sym (l .before .before .table-refusal .ensures) ∙ l .before .if1 .left in
+    force-at _ _ _ _ (place-here _ _ _ r _ _ (l .locate .ensures) (i .i .given .1) _ (c .holder-at .ensures))
+
+returns-3 : tie.Need-returns-3
+returns-3 c =
+    let l = c .before .before .before in
+    let r = sym (l .before .before .table-refusal .ensures) ∙ l .before .if1 .left in
+    force-at _ _ _ _ (c .nowhere2 .ensures ∙ place-none _ _ _ r (found-none _ _ r _ _ _ (l .locate .ensures) (c .before .enum-told .given .1)))
+
+pub holder-place-spec : {M : Type 1} → statement M
+holder-place-spec =
+    tie.close
+    (tie.spec
+    table-refusal-requires
+    nowhere-requires
+    returns
+    locate-requires
+    enum-known-i
+    holder-at-requires
+    enum-told
+    nowhere-requires-2
+    returns-2
+    returns-3)
