@@ -2,6 +2,7 @@
 //! through all three, every answer and every byte compared.
 
 pub mod case;
+pub mod guarded;
 pub mod library;
 pub mod list;
 pub mod reads;

@@ -7,10 +7,13 @@ use lists::{Image, Step, damage};
 use reading::answer::ANSWER_BYTES;
 use reading::bytes::{Guid, Key, put, u64_at};
 use reading::head::HEAD_BYTES;
-use reading::layout::{INSTANCE_BYTES, Kind, LOST_BYTES, OUT_BYTES, PENS_BYTES, Time, WRITERS_BYTES};
+use reading::layout::{
+    INSTANCE_BYTES, Kind, LOST_BYTES, OUT_BYTES, PENS_BYTES, Time, WRITERS_BYTES,
+};
 use reading::{Answer, Head, Sheet, State, reads};
 
 use crate::case::{Fault, is_head};
+use crate::guarded::Guarded;
 use crate::library;
 use crate::run::{Parting, same_bytes};
 use crate::tally::Tally;
@@ -170,13 +173,13 @@ struct Asked<'a> {
 impl Asked<'_> {
     /// The number and the bytes that a read gives; the answer's own length is
     /// another now and then.
-    fn ask(&mut self, stated: usize, read: impl FnOnce(&mut [u8]) -> u32) -> (u32, Vec<u8>) {
+    fn ask(&mut self, stated: usize, read: impl FnOnce(&mut [u8]) -> u32) -> (u32, Guarded) {
         self.count += 1;
         let odd = self.rng.one_in(8 * SPOILT_ONE_IN);
         let lengths = [0, 1, stated - 1, stated + 1, 2 * stated];
         let length = if odd { self.rng.pick(&lengths) } else { stated };
-        let mut answer = vec![FILL; length];
-        let number = read(&mut answer);
+        let mut answer = Guarded::filled(FILL, length);
+        let number = read(answer.lent());
         (number, answer)
     }
 
@@ -221,7 +224,8 @@ impl Asked<'_> {
                 .filter(|i| i.kind == Kind::Alive && i.writers.contains(guid))
                 .map(|i| i.handle);
             let first = handles.next();
-            let given = (answer.len() == READ_BYTES).then(|| u64_at(&answer, 8));
+            let answer = answer.bytes();
+            let given = (answer.len() == READ_BYTES).then(|| u64_at(answer, 8));
             Told::handle(handles.find(|h| Some(*h) == given).or(first))
         });
         same_answer("writer lookup", &laid_out(&found), number, &answer)
@@ -251,18 +255,18 @@ impl Asked<'_> {
         let odd = self.rng.one_in(SPOILT_ONE_IN);
         let length =
             if odd { self.rng.pick(&[0, OUT_BYTES - 8, OUT_BYTES + 8]) } else { OUT_BYTES };
-        let (mut expected_out, mut out) = (vec![FILL; length], vec![FILL; length]);
+        let (mut expected_out, mut out) = (vec![FILL; length], Guarded::filled(FILL, length));
         let (number, answer) =
-            self.ask(READ_BYTES, |a| library::left_writerless(pens, &gone, views, &mut out, a));
+            self.ask(READ_BYTES, |a| library::left_writerless(pens, &gone, views, out.lent(), a));
         // Where the answer's own length is wrong nothing at all is written.
-        if answer.len() == READ_BYTES {
+        if answer.bytes().len() == READ_BYTES {
             let listed = reads::left_writerless(pens, &gone, views, &mut expected_out);
             let told = listed.map(|n| Told { listed: n as u32, ..Told::default() });
             same_answer("left writerless", &laid_out(&told), number, &answer)?;
         } else {
             same_answer("left writerless", &[0; READ_BYTES], number, &answer)?;
         }
-        same_bytes("Out of left writerless", &expected_out, &out)
+        out.same("Out of left writerless", &expected_out)
     }
 
     /// Status and changes, of the head as it is, damaged, or no head's.
@@ -292,12 +296,13 @@ impl Asked<'_> {
 
 /// An answer of the stated length as expected; one of another length is
 /// refused as 1 and left alone.
-fn same_answer(what: &str, expected: &[u8], number: u32, answer: &[u8]) -> Result<(), Parting> {
-    if answer.len() == expected.len() {
+fn same_answer(what: &str, expected: &[u8], number: u32, answer: &Guarded) -> Result<(), Parting> {
+    let length = answer.bytes().len();
+    if length == expected.len() {
         same_bytes(what, &[expected[0]], &[number as u8])?;
-        same_bytes(what, expected, answer)
+        answer.same(what, expected)
     } else {
         same_bytes(what, &[1], &[number as u8])?;
-        same_bytes(what, &vec![FILL; answer.len()], answer)
+        answer.same(what, &vec![FILL; length])
     }
 }

@@ -8,6 +8,7 @@ use reading::head::HEAD_BYTES;
 use reading::{Answer, Head, State};
 
 use crate::case::{Case, is_head};
+use crate::guarded::Guarded;
 use crate::library::Lent;
 
 /// What every byte of an answer is before the call.
@@ -37,9 +38,9 @@ pub struct Run<L> {
 /// What the library gave.
 struct Given {
     number: u32,
-    answer: Vec<u8>,
-    head: Vec<u8>,
-    out: Vec<u8>,
+    answer: Guarded,
+    head: Guarded,
+    out: Guarded,
 }
 
 impl<L: FnMut(Lent<'_>) -> u32> Run<L> {
@@ -86,18 +87,18 @@ impl<L: FnMut(Lent<'_>) -> u32> Run<L> {
         let lengths = &case.step.lengths;
         let mut given = Given {
             number: 0,
-            answer: vec![ANSWER_FILL; case.answer_length()],
-            head: head.to_vec(),
-            out: vec![case.step.fill; lengths.out],
+            answer: Guarded::filled(ANSWER_FILL, case.answer_length()),
+            head: Guarded::of(head),
+            out: Guarded::filled(case.step.fill, lengths.out),
         };
         given.number = (self.library)(Lent {
-            head: &mut given.head,
+            head: given.head.lent(),
             sheet: &case.step.sheet,
             pens: &mut self.theirs.pens[..lengths.pens],
             writers: &mut self.theirs.writers[..lengths.writers],
             lost: &mut self.theirs.lost[..lengths.lost],
-            out: &mut given.out,
-            answer: &mut given.answer,
+            out: given.out.lent(),
+            answer: given.answer.lent(),
         });
         given
     }
@@ -133,9 +134,9 @@ impl<L: FnMut(Lent<'_>) -> u32> Run<L> {
         let answer_bytes = if fits { &laid[..] } else { &untouched[..case.answer_length()] };
         let head = if answer.number == 0 { &head[..] } else { lent_head };
         same_bytes("number", &u32::from(answer.number).to_be_bytes(), &given.number.to_be_bytes())?;
-        same_bytes("answer", answer_bytes, &given.answer)?;
-        same_bytes("head", head, &given.head)?;
-        same_bytes("Out", out, &given.out)?;
+        given.answer.same("answer", answer_bytes)?;
+        given.head.same("head", head)?;
+        given.out.same("Out", out)?;
         same_bytes("pens", &self.image.pens, &self.theirs.pens)?;
         same_bytes("writers", &self.image.writers, &self.theirs.writers)?;
         same_bytes("Lost", &self.image.lost, &self.theirs.lost)
