@@ -5,7 +5,7 @@ use crate::layout::{
     READ_BYTES, SHEET_BYTES, WRITERS_BYTES,
 };
 use crate::state::refusal;
-use crate::{InstanceHandle, KeyHash, Refusal, Time};
+use crate::{InstanceHandle, Refusal, Time};
 
 mod c {
     extern "C" {
@@ -35,72 +35,9 @@ mod c {
             lost: *mut u8,
             lost_len: usize,
         ) -> u32;
-        pub fn dcps_should_deliver_under_time_based_filter(
-            pens: *const u8,
-            pens_len: usize,
-            high: u64,
-            low: u64,
-            sec: i32,
-            nanosec: u32,
-            min_separation: u64,
-            answer: *mut u8,
-            answer_len: usize,
-        ) -> u32;
-        pub fn dcps_should_deliver_under_destination_order(
-            pens: *const u8,
-            pens_len: usize,
-            high: u64,
-            low: u64,
-            sec: i32,
-            nanosec: u32,
-            by_source: u8,
-            answer: *mut u8,
-            answer_len: usize,
-        ) -> u32;
-        pub fn dcps_last_delivered_ts(
-            pens: *const u8,
-            pens_len: usize,
-            high: u64,
-            low: u64,
-            answer: *mut u8,
-            answer_len: usize,
-        ) -> u32;
-        pub fn dcps_next_handle_after(
-            pens: *const u8,
-            pens_len: usize,
-            previous: u64,
-            answer: *mut u8,
-            answer_len: usize,
-        ) -> u32;
-        pub fn dcps_handle_at_position(
-            pens: *const u8,
-            pens_len: usize,
-            position: usize,
-            answer: *mut u8,
-            answer_len: usize,
-        ) -> u32;
-        pub fn dcps_holder_in_force(
-            pens: *const u8,
-            pens_len: usize,
-            high: u64,
-            low: u64,
-            answer: *mut u8,
-            answer_len: usize,
-        ) -> u32;
-        pub fn dcps_writer_lookup(
-            pens: *const u8,
-            pens_len: usize,
-            high: u64,
-            low: u64,
-            answer: *mut u8,
-            answer_len: usize,
-        ) -> u32;
-        pub fn dcps_would_leave_writerless(
-            pens: *const u8,
-            pens_len: usize,
-            gone: *const u8,
-            gone_len: usize,
-            view_states: u32,
+        pub fn dcps_status(
+            head: *const u8,
+            head_len: usize,
             answer: *mut u8,
             answer_len: usize,
         ) -> u32;
@@ -112,18 +49,6 @@ mod c {
             view_states: u32,
             out: *mut u8,
             out_len: usize,
-            answer: *mut u8,
-            answer_len: usize,
-        ) -> u32;
-        pub fn dcps_status(
-            head: *const u8,
-            head_len: usize,
-            answer: *mut u8,
-            answer_len: usize,
-        ) -> u32;
-        pub fn dcps_changes(
-            head: *const u8,
-            head_len: usize,
             answer: *mut u8,
             answer_len: usize,
         ) -> u32;
@@ -223,118 +148,54 @@ fn read(ask: impl FnOnce(*mut u8, usize) -> u32) -> Result<Read, Refusal> {
 }
 
 /// A key or GUID as it crosses: its first and its last 8 bytes.
-fn halves(guid: &[u8; 16]) -> (u64, u64) {
+pub(crate) fn halves(guid: &[u8; 16]) -> (u64, u64) {
     (u64_at(guid, 0), u64_at(guid, 8))
 }
 
-// SAFETY, of all reads: each pointer comes from a borrow of that many bytes, and what is written overlaps
-// with nothing else.
+/// Reads by the functions of the header that have these names: what is lent, what passes by value, and 24 bytes for the
+/// answer.
+macro_rules! reads {
+    ($($name:ident = $symbol:ident($($lent:ident: $bytes:ty),*; $($value:ident: $type:ty),*);)*) => {
+        $(
+            pub(crate) fn $name($($lent: $bytes,)* $($value: $type),*) -> Result<Read, Refusal> {
+                extern "C" {
+                    fn $symbol(
+                        $($lent: *const u8, _: usize,)* $($value: $type,)* answer: *mut u8, answer_len: usize,
+                    ) -> u32;
+                }
+                // SAFETY: each pointer comes from a borrow of that many bytes, and what is written overlaps with
+                // nothing else.
+                read(|answer, length| unsafe {
+                    $symbol($($lent.as_ptr(), $lent.len(),)* $($value,)* answer, length)
+                })
+            }
+        )*
+    };
+}
 
 type Pens = [u8; PENS_BYTES];
 
-pub(crate) fn filter(
-    pens: &Pens,
-    key: &KeyHash,
-    time: Time,
-    separation: u64,
-) -> Result<Read, Refusal> {
-    let (hi, lo) = halves(key);
-    read(|answer, length| unsafe {
-        c::dcps_should_deliver_under_time_based_filter(
-            pens.as_ptr(),
-            pens.len(),
-            hi,
-            lo,
-            time.sec,
-            time.nanosec,
-            separation,
-            answer,
-            length,
-        )
-    })
-}
-
-pub(crate) fn order(
-    pens: &Pens,
-    key: &KeyHash,
-    time: Time,
-    by_source: bool,
-) -> Result<Read, Refusal> {
-    let (hi, lo) = halves(key);
-    read(|answer, length| unsafe {
-        c::dcps_should_deliver_under_destination_order(
-            pens.as_ptr(),
-            pens.len(),
-            hi,
-            lo,
-            time.sec,
-            time.nanosec,
-            u8::from(by_source),
-            answer,
-            length,
-        )
-    })
-}
-
-pub(crate) fn last_delivered_ts(pens: &Pens, key: &KeyHash) -> Result<Read, Refusal> {
-    let (hi, lo) = halves(key);
-    read(|answer, length| unsafe {
-        c::dcps_last_delivered_ts(pens.as_ptr(), pens.len(), hi, lo, answer, length)
-    })
-}
-
-pub(crate) fn next_handle_after(pens: &Pens, previous: InstanceHandle) -> Result<Read, Refusal> {
-    read(|answer, length| unsafe {
-        c::dcps_next_handle_after(pens.as_ptr(), pens.len(), previous.as_raw(), answer, length)
-    })
-}
-
-pub(crate) fn handle_at_position(pens: &Pens, position: usize) -> Result<Read, Refusal> {
-    read(|answer, length| unsafe {
-        c::dcps_handle_at_position(pens.as_ptr(), pens.len(), position, answer, length)
-    })
-}
-
-pub(crate) fn holder_in_force(pens: &Pens, key: &KeyHash) -> Result<Read, Refusal> {
-    let (hi, lo) = halves(key);
-    read(|answer, length| unsafe {
-        c::dcps_holder_in_force(pens.as_ptr(), pens.len(), hi, lo, answer, length)
-    })
-}
-
-pub(crate) fn writer_lookup(pens: &Pens, guid: &[u8; 16]) -> Result<Read, Refusal> {
-    let (hi, lo) = halves(guid);
-    read(|answer, length| unsafe {
-        c::dcps_writer_lookup(pens.as_ptr(), pens.len(), hi, lo, answer, length)
-    })
-}
-
-pub(crate) fn would_leave_writerless(
-    pens: &Pens,
-    gone: &[[u8; 16]],
-    view_states: u32,
-) -> Result<Read, Refusal> {
-    let gone = gone.as_flattened();
-    read(|answer, length| unsafe {
-        c::dcps_would_leave_writerless(
-            pens.as_ptr(),
-            pens.len(),
-            gone.as_ptr(),
-            gone.len(),
-            view_states,
-            answer,
-            length,
-        )
-    })
+reads! {
+    filter = dcps_should_deliver_under_time_based_filter(
+        pens: &Pens; high: u64, low: u64, sec: i32, nanosec: u32, min_separation: u64);
+    order = dcps_should_deliver_under_destination_order(
+        pens: &Pens; high: u64, low: u64, sec: i32, nanosec: u32, by_source: u8);
+    last_delivered_ts = dcps_last_delivered_ts(pens: &Pens; high: u64, low: u64);
+    next_handle_after = dcps_next_handle_after(pens: &Pens; previous: u64);
+    handle_at_position = dcps_handle_at_position(pens: &Pens; position: usize);
+    holder_in_force = dcps_holder_in_force(pens: &Pens; high: u64, low: u64);
+    writer_lookup = dcps_writer_lookup(pens: &Pens; high: u64, low: u64);
+    would_leave_writerless = dcps_would_leave_writerless(pens: &Pens, gone: &[u8]; view_states: u32);
+    changes = dcps_changes(head: &[u8; HEAD_BYTES];);
 }
 
 pub(crate) fn left_writerless(
     pens: &Pens,
-    gone: &[[u8; 16]],
+    gone: &[u8],
     view_states: u32,
     out: &mut [u8; OUT_BYTES],
 ) -> Result<Read, Refusal> {
-    let gone = gone.as_flattened();
+    // SAFETY: as of the reads above.
     read(|answer, length| unsafe {
         c::dcps_left_writerless(
             pens.as_ptr(),
@@ -352,11 +213,8 @@ pub(crate) fn left_writerless(
 
 pub(crate) fn status(head: &[u8; HEAD_BYTES]) -> (u32, [u8; ANSWER_BYTES]) {
     let mut answer = [0; ANSWER_BYTES];
+    // SAFETY: as of the reads above.
     let number =
         unsafe { c::dcps_status(head.as_ptr(), head.len(), answer.as_mut_ptr(), answer.len()) };
     (number, answer)
-}
-
-pub(crate) fn changes(head: &[u8; HEAD_BYTES]) -> Result<Read, Refusal> {
-    read(|answer, length| unsafe { c::dcps_changes(head.as_ptr(), head.len(), answer, length) })
 }

@@ -4,7 +4,7 @@
 //! Copyright 2026 ZeroDDS Contributors. SPDX-License-Identifier: Apache-2.0. Changed: written anew, each read
 //! the library's, and refusals answered.
 
-use crate::ffi;
+use crate::ffi::{self, halves};
 use crate::layout::{handles, OUT_BYTES};
 use crate::sheet::delay;
 use crate::state::accepted;
@@ -54,7 +54,8 @@ impl State {
         min_separation_nanos: u128,
     ) -> Result<bool, Refusal> {
         let separation = delay(min_separation_nanos);
-        Ok(ffi::filter(&self.lent().pens, keyhash, sample_ts, separation)?.yes)
+        let ((high, low), Time { sec, nanosec }) = (halves(keyhash), sample_ts);
+        Ok(ffi::filter(&self.lent().pens, high, low, sec, nanosec, separation)?.yes)
     }
 
     /// Whether a sample is delivered under the destination order (DDS 1.4, 2.2.3.17): by source, later than
@@ -79,7 +80,9 @@ impl State {
         source_ts: Time,
         by_source_timestamp: bool,
     ) -> Result<bool, Refusal> {
-        Ok(ffi::order(&self.lent().pens, keyhash, source_ts, by_source_timestamp)?.yes)
+        let ((high, low), Time { sec, nanosec }) = (halves(keyhash), source_ts);
+        let by_source = u8::from(by_source_timestamp);
+        Ok(ffi::order(&self.lent().pens, high, low, sec, nanosec, by_source)?.yes)
     }
 
     /// When a sample of an instance was delivered last.
@@ -95,7 +98,8 @@ impl State {
     /// # Ok::<(), dcps::Refusal>(())
     /// ```
     pub fn last_delivered_ts(&self, keyhash: &KeyHash) -> Result<Option<Time>, Refusal> {
-        let read = ffi::last_delivered_ts(&self.lent().pens, keyhash)?;
+        let (high, low) = halves(keyhash);
+        let read = ffi::last_delivered_ts(&self.lent().pens, high, low)?;
         Ok(read.present.then_some(read.time))
     }
 
@@ -119,7 +123,7 @@ impl State {
         gone: &[[u8; 16]],
         view_states: u32,
     ) -> Result<bool, Refusal> {
-        Ok(ffi::would_leave_writerless(&self.lent().pens, gone, view_states)?.yes)
+        Ok(ffi::would_leave_writerless(&self.lent().pens, gone.as_flattened(), view_states)?.yes)
     }
 
     /// The handles of those instances, in the order of their keys.
@@ -141,7 +145,8 @@ impl State {
         view_states: u32,
     ) -> Result<Vec<InstanceHandle>, Refusal> {
         let mut out = [0; OUT_BYTES];
-        let read = ffi::left_writerless(&self.lent().pens, gone, view_states, &mut out)?;
+        let read =
+            ffi::left_writerless(&self.lent().pens, gone.as_flattened(), view_states, &mut out)?;
         Ok(handles(&out, read.listed))
     }
 
@@ -161,7 +166,7 @@ impl State {
         &self,
         previous: InstanceHandle,
     ) -> Result<Option<InstanceHandle>, Refusal> {
-        Ok(ffi::next_handle_after(&self.lent().pens, previous)?.found())
+        Ok(ffi::next_handle_after(&self.lent().pens, previous.as_raw())?.found())
     }
 
     /// All handles, in the order of their keys.
@@ -190,7 +195,8 @@ impl State {
     #[must_use]
     pub fn holder_in_force<'a>(&'a self, keyhash: &KeyHash, offered: &'a [u8]) -> &'a [u8] {
         let pens = &self.lent().pens;
-        let stored = ffi::holder_in_force(pens, keyhash).ok().and_then(|read| read.stored);
+        let (high, low) = halves(keyhash);
+        let stored = ffi::holder_in_force(pens, high, low).ok().and_then(|read| read.stored);
         stored.map_or(offered, |(at, length)| &pens[at..at + length])
     }
 
@@ -205,7 +211,8 @@ impl State {
     /// # Ok::<(), dcps::Refusal>(())
     /// ```
     pub fn writer_lookup(&self, writer: &[u8; 16]) -> Result<Option<InstanceHandle>, Refusal> {
-        Ok(ffi::writer_lookup(&self.lent().pens, writer)?.found())
+        let (high, low) = halves(writer);
+        Ok(ffi::writer_lookup(&self.lent().pens, high, low)?.found())
     }
 
     /// The status, whose changes stay pending.

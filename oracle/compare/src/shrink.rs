@@ -1,8 +1,8 @@
 //! A failing list made small: fewer calls, an emptier start, plainer sheets.
 
 use lists::image::Lengths;
+use lists::start::count_records;
 use reading::State;
-use reading::state::{Class, count};
 
 use crate::case::{Case, FIELDS};
 use crate::list::List;
@@ -59,7 +59,7 @@ fn emptier_start(mut list: List, fails: &mut impl FnMut(&List) -> bool) -> List 
             if !remove(&mut candidate.start, at) {
                 break;
             }
-            settle(&mut candidate.start);
+            count_records(&mut candidate.start);
             let taken;
             (list, taken) = tried(list, candidate, fails);
             at += usize::from(!taken);
@@ -75,16 +75,6 @@ fn removed<T>(all: &mut Vec<T>, at: usize) -> bool {
         all.remove(at);
     }
     there
-}
-
-/// Lets the head agree with the records.
-fn settle(state: &mut State) {
-    let head = &mut state.head;
-    head.instances = state.instances.len() as u32;
-    head.writer_records = state.writers.len() as u32;
-    head.lost = state.lost.len() as u32;
-    head.alive = count(&state.writers, Class::Alive);
-    head.not_alive = count(&state.writers, Class::NotAlive);
 }
 
 fn plainer_calls(mut list: List, fails: &mut impl FnMut(&List) -> bool) -> List {

@@ -13,94 +13,65 @@ use crate::rng::Rng;
 /// Where the six times of an instance stand.
 const TIMES: [usize; 6] = [44, 52, 60, 68, 76, 84];
 
-/// The clauses; each has one way, or a few, to be broken.
-#[derive(Debug, Clone, Copy, PartialEq, Eq)]
-pub enum Clause {
-    InstanceCount,
-    WriterCount,
-    LostCount,
-    AliveCount,
-    NotAliveCount,
-    AliveChange,
-    NotAliveChange,
-    NextHandle,
-    KeysRise,
-    HandleFromOne,
-    HandleBelowNext,
-    HandlesDistinct,
-    InstanceKind,
-    AbsentTime(usize),
-    Nanoseconds(usize),
-    AbsentOwner,
-    AbsentHolder,
-    AbsentHolderLength,
-    HolderLength,
-    HolderTail,
-    SetSize,
-    SetRises,
-    SetTail,
-    DisposedGenerations,
-    NoWritersGenerations,
-    UnusedInstance,
-    GuidsRise,
-    WriterKind,
-    WriterLowBits,
-    WriterGap,
-    AbsentLease,
-    LeaseRange,
-    LastAssertionRange,
-    DepartedKind,
-    DepartedLease,
-    DepartedLastAssertion,
-    UnusedWriter,
-    UnusedLost,
+/// The clauses; each has one way, or a few, to be broken. Those of times are
+/// asked of each of the six.
+macro_rules! clauses {
+    ($($clause:ident)*) => {
+        #[derive(Debug, Clone, Copy, PartialEq, Eq)]
+        pub enum Clause {
+            $($clause,)*
+            AbsentTime(usize),
+            Nanoseconds(usize),
+        }
+
+        impl Clause {
+            pub fn all() -> Vec<Self> {
+                let mut all = vec![$(Self::$clause),*];
+                all.extend((0..TIMES.len()).map(Self::AbsentTime));
+                all.extend((0..TIMES.len()).map(Self::Nanoseconds));
+                all
+            }
+        }
+    };
 }
 
-impl Clause {
-    pub fn all() -> Vec<Self> {
-        use Clause::*;
-        let mut all = vec![
-            InstanceCount,
-            WriterCount,
-            LostCount,
-            AliveCount,
-            NotAliveCount,
-            AliveChange,
-            NotAliveChange,
-            NextHandle,
-            KeysRise,
-            HandleFromOne,
-            HandleBelowNext,
-            HandlesDistinct,
-            InstanceKind,
-            AbsentOwner,
-            AbsentHolder,
-            AbsentHolderLength,
-            HolderLength,
-            HolderTail,
-            SetSize,
-            SetRises,
-            SetTail,
-            DisposedGenerations,
-            NoWritersGenerations,
-            UnusedInstance,
-            GuidsRise,
-            WriterKind,
-            WriterLowBits,
-            WriterGap,
-            AbsentLease,
-            LeaseRange,
-            LastAssertionRange,
-            DepartedKind,
-            DepartedLease,
-            DepartedLastAssertion,
-            UnusedWriter,
-            UnusedLost,
-        ];
-        all.extend((0..TIMES.len()).map(AbsentTime));
-        all.extend((0..TIMES.len()).map(Nanoseconds));
-        all
-    }
+clauses! {
+    InstanceCount
+    WriterCount
+    LostCount
+    AliveCount
+    NotAliveCount
+    AliveChange
+    NotAliveChange
+    NextHandle
+    KeysRise
+    HandleFromOne
+    HandleBelowNext
+    HandlesDistinct
+    InstanceKind
+    AbsentOwner
+    AbsentHolder
+    AbsentHolderLength
+    HolderLength
+    HolderTail
+    SetSize
+    SetRises
+    SetTail
+    DisposedGenerations
+    NoWritersGenerations
+    UnusedInstance
+    GuidsRise
+    WriterKind
+    WriterLowBits
+    WriterGap
+    AbsentLease
+    LeaseRange
+    LastAssertionRange
+    DepartedKind
+    DepartedLease
+    DepartedLastAssertion
+    UnusedWriter
+    UnusedLost
 }
 
 /// Damages a step in one clause that the state has something to damage for.

@@ -151,13 +151,19 @@ fn number_instances(rng: &mut Rng, state: &mut State, start: Start) {
     }
 }
 
-fn settle_head(rng: &mut Rng, pools: &Pools, state: &mut State) {
+/// Lets the head's counts be those of the records.
+pub fn count_records(state: &mut State) {
     let head = &mut state.head;
     head.instances = state.instances.len() as u32;
     head.writer_records = state.writers.len() as u32;
     head.lost = state.lost.len() as u32;
     head.alive = count(&state.writers, Class::Alive);
     head.not_alive = count(&state.writers, Class::NotAlive);
+}
+
+fn settle_head(rng: &mut Rng, pools: &Pools, state: &mut State) {
+    count_records(state);
+    let head = &mut state.head;
     head.alive_change = (i64::from(head.alive) - rng.pick(&CHANGE_ENDS)) as i32;
     head.not_alive_change = (i64::from(head.not_alive) - rng.pick(&CHANGE_ENDS)) as i32;
     head.last_writer = rng.one_in(2).then(|| pools.guid(rng, false));
