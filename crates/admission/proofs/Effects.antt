@@ -15,8 +15,8 @@ use Rattle.model.specs.Instances.{takesOver, ownershipTried, admittedObserved, 
 use Rattle.model.specs.Sets.{setOf, insert}
 use Rattle.turns.proofs.Finds.{split}
 use Rattle.writer_set.specs.Places.{Sound}
-use Rattle.instance_state.specs.Effects.{Usable, Room}
-use Rattle.instance_state.proofs.Valid.{usable, started-valid}
+use Rattle.instance_fields.specs.Usable.{Usable, Room}
+use Rattle.instance_laws.proofs.Valid.{usable, started-valid}
 use Rattle.instance_tracker.specs.Turned.{withState}
 use Rattle.admission.specs.Admits.{Noted}
 

@@ -34,7 +34,7 @@ use Rattle.tables.specs.Found.{foundIn}
 use Rattle.turns.specs.Places.{Only}
 use Rattle.turns.proofs.Finds.{find-only, find-nowhere}
 use Rattle.turns.proofs.Keys.{missing-nowhere, missing-le}
-use Rattle.instance_state.specs.Effects.{Usable, Room}
+use Rattle.instance_fields.specs.Usable.{Usable, Room}
 use Rattle.instance_table.specs.Laid.{Laid}
 use Rattle.instance_table.specs.TableCalls.{Ready, stateWith}
 use Rattle.instance_tracker.specs.Turned.{Left, blank, withState}

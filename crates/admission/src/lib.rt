@@ -2,8 +2,8 @@
 // read once and written once. Outcomes: 1 out of order, 2 filtered, 3 a new instance at the limit, 4 a weaker writer, 0
 // admitted. Refused are 9, a new instance where every place is taken; 13, one where the next handle is 2^63; and 10, a new
 // writer where the instance has 16. Only outcome 0 writes.
-// Rests on answers, sample_time, instance_handle, instance_record, instance_state, instance_table, instance_tracker and
-// writer_set.
+// Rests on answers, sample_time, instance_handle, instance_record, instance_samples, instance_ownership, instance_state,
+// instance_table, instance_tracker and writer_set.
 //
 // Derives from instance_tracker.rs of ZeroDDS.
 // Copyright 2026 ZeroDDS Contributors. SPDX-License-Identifier: Apache-2.0. Changed: written anew in Rattle, with the
@@ -29,7 +29,7 @@ ghost use Rattle.model.specs.State.{instanceKey, instancesIn};
 ghost use Rattle.tables.specs.declared.Found.the-variants.{Missing};
 ghost use Rattle.tables.specs.Found.{foundIn};
 ghost use Rattle.turns.specs.Places.{Only};
-ghost use Rattle.instance_state.specs.Effects.{Usable, Room};
+ghost use Rattle.instance_fields.specs.Usable.{Usable, Room};
 ghost use Rattle.instance_table.specs.TableCalls.{Ready, stateWith};
 ghost use Rattle.instance_tracker.specs.Turned.{Left, blank};
 ghost use Rattle.admission.specs.Admits.{Admits, Known, Timely, Noted, limited};
@@ -121,8 +121,8 @@ fn noted(s: Sheet, x: Instance, z: InstanceState) -> Instance
 {
     let key = x.key;
     let handle = x.handle;
-    let observed = instance_state::admitted_observed(s, z);
-    let y = instance_state::admitted_noted(s, observed);
+    let observed = instance_samples::admitted_observed(s, z);
+    let y = instance_samples::admitted_noted(s, observed);
     Instance {
         key: key,
         handle: handle,
@@ -145,7 +145,7 @@ fn admit_at(
     ensures { λ r. ⌜ Admits places s (instancesIn count (now (pens .entry))) (next .0) r (now (pens .exit)) ⌝ }
 {
     let before = x.state;
-    let owned = instance_state::ownership_tried(s, before);
+    let owned = instance_ownership::ownership_tried(s, before);
     let y = noted(s, x, owned);
     instance_table::replace(pens, i, y);
     TableCall {
@@ -199,7 +199,7 @@ fn admit_timely(
 {
     let before = x.state;
     let full = crowded(s, x);
-    let stronger = instance_state::takes_over(s, before);
+    let stronger = instance_ownership::takes_over(s, before);
     if full {
         return TableCall {
             answer: stopped(10, 0),

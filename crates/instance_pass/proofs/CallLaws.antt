@@ -36,7 +36,7 @@ use Rattle.model.specs.WellFormed.{instanceOk}
 use Rattle.model.proofs.RowLaws.{both, length-read}
 use Rattle.turns.proofs.Finds.{split}
 use Rattle.turns.proofs.Sifts.{length-sift}
-use Rattle.instance_state.proofs.Valid.{usable}
+use Rattle.instance_laws.proofs.Valid.{usable}
 use Rattle.instance_table.proofs.LaidOut.{table-formed, table-laid}
 use Rattle.instance_pass.specs.declared.Passing.{Passing}
 use Rattle.instance_pass.specs.declared.Passing.the-variants.{Call, Loss}

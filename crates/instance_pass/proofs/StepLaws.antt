@@ -29,7 +29,7 @@ use Rattle.writer_set.specs.Places.{Sound}
 use Rattle.turns.proofs.Finds.{clash}
 use Rattle.instance_state.specs.declared.Effect.{Effect}
 use Rattle.instance_state.specs.Effects.{leftOf}
-use Rattle.instance_state.proofs.StepLaws.{without-sound}
+use Rattle.instance_lifecycle.proofs.StepLaws.{without-sound}
 use Rattle.instance_pass.specs.declared.Passing.{Passing}
 use Rattle.instance_pass.specs.declared.Passing.the-variants.{Call, Loss}
 use Rattle.instance_pass.specs.declared.Report.{Report}

@@ -21,7 +21,7 @@ use Rattle.model.specs.Call.{listIn}
 use Rattle.model.specs.InstanceCalls.{kept, handleBytes}
 use Rattle.model.specs.InstanceRecord.{bit, instanceBytes, instanceSize}
 use Rattle.model.specs.Tables.{isSome, pick, sift}
-use Rattle.instance_state.specs.Effects.{Usable}
+use Rattle.instance_fields.specs.Usable.{Usable}
 use Rattle.instance_table.specs.Laid.{Laid}
 use Rattle.instance_pass.specs.declared.Passing.{Passing}
 use Rattle.instance_pass.specs.declared.Step.{Step}

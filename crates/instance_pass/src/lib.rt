@@ -1,6 +1,7 @@
 // The calls on every instance as one pass over the lent table, and the loss of several writers as another: record by record,
 // what is left of an instance is written behind the instances kept, and the handles of those listed go to the front of Out.
-// Rests on octets, model, turns, answers, instance_record, instance_state and instance_table.
+// Rests on octets, model, turns, answers, instance_record, instance_fields, instance_lifecycle, instance_ownership,
+// instance_state and instance_table.
 //
 // Derives from instance_tracker.rs of ZeroDDS.
 // Copyright 2026 ZeroDDS Contributors. SPDX-License-Identifier: Apache-2.0. Changed: written anew in Rattle, with the
@@ -28,7 +29,7 @@ ghost use Rattle.model.specs.Joined.{leftWithoutAll, leftByOne, clearings};
 ghost use Rattle.model.specs.State.{instancesIn};
 ghost use Rattle.writer_set.specs.Places.{Sound};
 ghost use Rattle.instance_record.specs.Parts.{recordAt};
-ghost use Rattle.instance_state.specs.Effects.{Usable};
+ghost use Rattle.instance_fields.specs.Usable.{Usable};
 ghost use Rattle.instance_table.specs.TableCalls.{Ready, stateWith};
 ghost use Rattle.instance_pass.specs.EveryCalls.{answerAs, Left};
 ghost use Rattle.instance_pass.specs.Passes.{UsableIn, keptAt, withStep, Ahead, Turned, Passed};
@@ -110,7 +111,7 @@ fn is_listed(k: Report, s: Sheet, x: InstanceState) -> bool
     let g = s.guid;
     match k {
         Report::Nothing => false,
-        Report::Left => instance_state::left_by(g, x),
+        Report::Left => instance_lifecycle::left_by(g, x),
         Report::Owner => false,
         Report::Prefix => false,
         Report::Purge => false,
@@ -126,8 +127,8 @@ fn is_counted(k: Report, s: Sheet, x: InstanceState) -> bool
     match k {
         Report::Nothing => false,
         Report::Left => false,
-        Report::Owner => instance_state::owns(g, o),
-        Report::Prefix => instance_state::owns_prefix(g, o),
+        Report::Owner => instance_ownership::owns(g, o),
+        Report::Prefix => instance_ownership::owns_prefix(g, o),
         Report::Purge => instance_state::purged(s, x),
     }
 }
@@ -168,11 +169,11 @@ fn lose_one(g: Guid, at: MaybeTime, r: Step) -> Step
     ensures { λ t. ⌜ t ≡ lostOne g at r ⌝ }
 {
     let x = r.state;
-    let l = instance_state::left_by(g, x);
-    let y = instance_state::writer_dropped(g, at, x);
+    let l = instance_lifecycle::left_by(g, x);
+    let y = instance_lifecycle::writer_dropped(g, at, x);
     let o = y.owner;
-    let n = one(instance_state::owns(g, o));
-    let z = instance_state::owner_cleared(g, y);
+    let n = one(instance_ownership::owns(g, o));
+    let z = instance_ownership::owner_cleared(g, y);
     let listed = either(r.listed, l);
     Step {
         keep: true,
@@ -213,7 +214,7 @@ pub fn take_step(p: Passing, s: Sheet, gone: &[u8], x: InstanceState) -> Step
     let t = s.time_1;
     match p {
         Passing::Call(c) => call_step(c, s, x),
-        Passing::Loss => loss_step(gone, instance_state::if_present(t), x),
+        Passing::Loss => loss_step(gone, instance_fields::if_present(t), x),
     }
 }
 

@@ -1,5 +1,2 @@
--- The laws of one instance.
+-- The laws of the purge.
 pub mod StepLaws
-pub mod Keeps
-pub mod Valid
-pub mod Fitting

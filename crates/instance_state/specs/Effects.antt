@@ -1,32 +1,9 @@
--- What the effects on one instance ask, and what they leave of it.
---     UsableLife, Usable     generations within their bound, and a sound writer set
---     Room                   a place for the writer that a call adds
---     leftOf                 what a call leaves: an instance, or none where it purges it
-use Prim.Native.Nat.{_≤_}
+-- What the effects leave of an instance.
+--     leftOf                 an instance, or none where a call purges it
 use mathlib.Core.Bool.{cond}
 use mathlib.Core.Option.{Option, none, some}
-use lib.ListN.{length}
-use Rattle.model.specs.declared.Guid.{Guid}
 use Rattle.model.specs.declared.InstanceState.{InstanceState}
-use Rattle.model.specs.declared.Life.{Life}
-use Rattle.model.specs.Instances.{topGeneration, writersIn}
-use Rattle.model.specs.Sets.{setPlaces, insert}
-use Rattle.writer_set.specs.Places.{Sound}
 use Rattle.instance_state.specs.declared.Effect.{Effect}
-
--- generations within their bound
-pub record UsableLife (l : Life) : Type 0 where
-  pub disposed : l .«disposed_generations» ≤ topGeneration
-  pub noWriters : l .«no_writers_generations» ≤ topGeneration
-
--- and a sound writer set
-pub record Usable (x : InstanceState) : Type 0 where
-  pub life : UsableLife (x .life)
-  pub writers : Sound (x .writers)
-
--- the writer that is put in has a place
-abbrev pub Room : Guid → InstanceState → Type 0
-Room g x = length (insert g (writersIn x)) ≤ setPlaces
 
 -- the state, where the instance is kept
 abbrev pub leftOf : Effect → Option InstanceState

@@ -32,8 +32,9 @@ use Rattle.turns.proofs.Finds.{both, split, clash}
 use Rattle.writer_set.proofs.SetLaws.{insert-le, remove-le, sound-size}
 use Rattle.writer_set.proofs.PlaceLaws.{length-members}
 use Rattle.instance_state.specs.declared.Effect.{Effect}
-use Rattle.instance_state.specs.Effects.{Usable, Room, leftOf}
-use Rattle.instance_state.proofs.Keeps.{Closed, Asked, kept}
+use Rattle.instance_fields.specs.Usable.{Usable, Room}
+use Rattle.instance_state.specs.Effects.{leftOf}
+use Rattle.instance_laws.proofs.Keeps.{Closed, Asked, kept}
 use Rattle.instance_tracker.specs.Rules.{single}
 use Rattle.instance_tracker.specs.Turned.{withState, Acted}
 use Rattle.instance_tracker.proofs.Turns.{of-call}

@@ -47,8 +47,8 @@ use Rattle.turns.specs.Places.{placeOf, Only, Nowhere}
 use Rattle.turns.proofs.Finds.{all-at, any-only, place-at, noplace, clash}
 use Rattle.turns.proofs.Keys.{found-only, missing-nowhere, missing-le, only-handle}
 use Rattle.writer_set.proofs.SetLaws.{members-rise}
-use Rattle.instance_state.specs.Effects.{Usable, Room}
-use Rattle.instance_state.proofs.Valid.{usable, valid-parts, started-valid}
+use Rattle.instance_fields.specs.Usable.{Usable, Room}
+use Rattle.instance_laws.proofs.Valid.{usable, valid-parts, started-valid}
 use Rattle.instance_table.specs.Laid.{Laid}
 use Rattle.instance_table.proofs.LaidOut.{Formed, table-formed, table-laid}
 use Rattle.instance_table.proofs.Rows.{get-read}

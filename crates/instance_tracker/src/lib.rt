@@ -1,7 +1,7 @@
 // The calls that reach one instance, over the lent table: by key codes 1, 2, 8 and 9, which start an absent one, and 10, 11,
 // 14, 16 and 20; by handle codes 3 to 6, 12, 13 and 15. Refused are 9, a new instance where every place is taken; 13, one
 // where the next handle is 2^63; and 10, a new writer where an instance has 16. Nothing is then written.
-// Rests on answers, instance_handle, instance_record, instance_state, instance_table and writer_set.
+// Rests on answers, instance_handle, instance_record, instance_ownership, instance_state, instance_table and writer_set.
 //
 // Derives from instance_tracker.rs of ZeroDDS.
 // Copyright 2026 ZeroDDS Contributors. SPDX-License-Identifier: Apache-2.0. Changed: written anew in Rattle, with the
@@ -24,7 +24,7 @@ ghost use Rattle.model.specs.InstanceCalls.{crowds, samplesAnswer};
 ghost use Rattle.model.specs.Instances.{rule, startsBy, limitedBy, owns};
 ghost use Rattle.model.specs.State.{instancesIn};
 ghost use Rattle.model.specs.Times.{negative};
-ghost use Rattle.instance_state.specs.Effects.{Usable, Room};
+ghost use Rattle.instance_fields.specs.Usable.{Usable, Room};
 ghost use Rattle.instance_tracker.specs.Rules.{single, handled, saysOf, answerOf, atKey, atHandle, starting, ruleOf};
 ghost use Rattle.instance_table.specs.TableCalls.{Ready, left};
 ghost use Rattle.instance_tracker.specs.Turned.{Turned, Acted, Reached, Starts};
@@ -240,7 +240,7 @@ fn answered(c: InstanceCall, s: Sheet, x: Instance, y: Instance) -> Answer
         Says::Known => answers::saying(true),
         Says::Samples => samples_of(y),
         Says::Info => answers::informed(answers::info_of(after)),
-        Says::Accepted => answers::saying(instance_state::takes_over(s, before)),
+        Says::Accepted => answers::saying(instance_ownership::takes_over(s, before)),
         Says::Released => answers::saying(owned(s, before)),
     }
 }

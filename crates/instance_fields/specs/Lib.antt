@@ -1,0 +1,2 @@
+-- What the contracts of one instance cite beside model's Instances.
+pub mod Usable

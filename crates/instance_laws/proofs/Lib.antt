@@ -1,0 +1,4 @@
+-- The laws of one instance.
+pub mod Keeps
+pub mod Valid
+pub mod Fitting

@@ -1,0 +1,2 @@
+-- The laws of a writer's loss.
+pub mod StepLaws

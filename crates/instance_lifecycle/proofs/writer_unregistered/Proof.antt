@@ -1,0 +1,49 @@
+-- Code 5. Assumes nothing.
+use mathlib.Core.Path.{sym, ap, _∙_}
+use Rattle.model.specs.declared.InstanceState.{InstanceState}
+use Rattle.model.specs.Instances.{sampledAt, writerUnregistered}
+use Rattle.instance_lifecycle.proofs.StepLaws.{without-sound, without-left}
+use borrow.Author.Needs.{needs}
+use Rattle.instance_lifecycle.proofs.writer_unregistered.Statement.{statement}
+use Rattle.instance_lifecycle.proofs.writer_unregistered.Tie as tie
+
+without-requires : tie.Need-without-requires
+without-requires c κs = search needs
+
+is-writerless-requires : tie.Need-is-writerless-requires
+is-writerless-requires c κs = let s = c .before in without-sound (s .args .g) (s .args .x) (c .without .result) (c .without .ensures) (s .pre)
+
+writerless-requires : tie.Need-writerless-requires
+writerless-requires c κs = search needs
+
+sampled-at-requires : tie.Need-sampled-at-requires
+sampled-at-requires c κs = search needs
+
+returns : tie.Need-returns
+unfolding writerUnregistered
+returns c =
+    let s = c .before .before .before .before .before in
+    let t = sym (without-left (s .args .g) (s .args .x) (c .before .before .before .before .without .result) (c .before .before .before .before .without .ensures)) ∙ sym (c .before .before .before .is-writerless .ensures) ∙ c .before .before .if1 .taken in
+    rw (t, c .sampled-at .ensures, c .before .writerless .ensures, c .before .before .before .before .without .ensures)
+
+sampled-at-requires-2 : tie.Need-sampled-at-requires-2
+sampled-at-requires-2 c κs = search needs
+
+returns-2 : tie.Need-returns-2
+unfolding writerUnregistered
+returns-2 c =
+    let s = c .before .before .before .before in
+    let t = sym (without-left (s .args .g) (s .args .x) (c .before .before .before .without .result) (c .before .before .before .without .ensures)) ∙ sym (c .before .before .is-writerless .ensures) ∙ c .before .if1 .left in
+    rw t (c .sampled-at2 .ensures ∙ ap (λ (z : InstanceState). sampledAt (s .args .at) z) (c .before .before .before .without .ensures))
+
+pub writer-unregistered-spec : {M : Type 1} → statement M
+writer-unregistered-spec =
+    tie.close
+    (tie.spec
+    without-requires
+    is-writerless-requires
+    writerless-requires
+    sampled-at-requires
+    returns
+    sampled-at-requires-2
+    returns-2)

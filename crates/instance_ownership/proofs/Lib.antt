@@ -1,0 +1,2 @@
+-- The laws of a bid.
+pub mod StepLaws

@@ -1,0 +1,24 @@
+-- Code 16. Assumes nothing.
+use mathlib.Core.Path.{sym, _∙_}
+use Rattle.model.specs.Instances.{ownershipTried}
+use borrow.Author.Needs.{needs}
+use Rattle.instance_ownership.proofs.ownership_tried.Statement.{statement}
+use Rattle.instance_ownership.proofs.ownership_tried.Tie as tie
+
+takes-over-requires : tie.Need-takes-over-requires
+takes-over-requires c κs = search needs
+
+owned-from-requires : tie.Need-owned-from-requires
+owned-from-requires c κs = search needs
+
+returns : tie.Need-returns
+unfolding ownershipTried
+returns c = rw (sym (c .before .before .takes-over .ensures) ∙ c .before .if1 .taken) (c .owned-from .ensures)
+
+returns-2 : tie.Need-returns-2
+unfolding ownershipTried
+returns-2 c = rw (sym (c .before .takes-over .ensures) ∙ c .if1 .left)
+
+pub ownership-tried-spec : {M : Type 1} → statement M
+ownership-tried-spec =
+    tie.close (tie.spec takes-over-requires owned-from-requires returns returns-2)

@@ -1,0 +1,156 @@
+// Codes 16 to 20 on one instance by value: OWNERSHIP and OWNERSHIP_STRENGTH (DDS 1.4, 2.2.3.9, 2.2.3.10). Each function gives
+// what the definition of its name in model's Instances says. Rests on model, guid, numbers, sample_time and instance_fields.
+//
+// Derives from instance_tracker.rs of ZeroDDS.
+// Copyright 2026 ZeroDDS Contributors. SPDX-License-Identifier: Apache-2.0. Changed: written anew in Rattle; an instance is
+// a value that goes in and comes back.
+use instance_fields::always;
+use instance_fields::with_owner;
+use instance_fields::with_owner_at;
+use instance_fields::with_times;
+use model::Guid;
+use model::InstanceState;
+use model::MaybeOwner;
+use model::Sheet;
+ghost use mathlib.Core.Path.{_≡_};
+ghost use Rattle.model.specs.Instances.{withOwner, noOwner, owns, ownsPrefix, outbids, takesOver, ownedFrom, ownershipTried, strengthUpdated, ownerCleared, prefixCleared};
+
+// Whether o is the writer's ownership.
+pub fn owns(g: Guid, o: MaybeOwner) -> bool
+    ensures { λ r. ⌜ r ≡ owns g o ⌝ }
+{
+    let og = o.guid;
+    if o.present {
+        return guid::is_same(og, g);
+    }
+    false
+}
+
+// Whether o is the ownership of one of the participant's writers.
+pub fn owns_prefix(g: Guid, o: MaybeOwner) -> bool
+    ensures { λ r. ⌜ r ≡ ownsPrefix g o ⌝ }
+{
+    let og = o.guid;
+    if o.present {
+        return guid::same_prefix(og, g);
+    }
+    false
+}
+
+// No owner, the same, greater strength, or equal strength and lower GUID takes over.
+pub fn outbids(g: Guid, strength: u32, o: MaybeOwner) -> bool
+    ensures { λ r. ⌜ r ≡ outbids g strength o ⌝ }
+{
+    let og = o.guid;
+    if !o.present {
+        return true;
+    }
+    if guid::is_same(og, g) {
+        return true;
+    }
+    let old = numbers::raise(o.strength);
+    let new = numbers::raise(strength);
+    if old < new {
+        return true;
+    }
+    if old == new {
+        return guid::is_less(g, og);
+    }
+    false
+}
+
+// So does a missed deadline of the owner.
+pub fn takes_over(s: Sheet, x: InstanceState) -> bool
+    ensures { λ r. ⌜ r ≡ takesOver s x ⌝ }
+{
+    let g = s.guid;
+    let o = x.owner;
+    if outbids(g, s.second, o) {
+        return true;
+    }
+    let t = x.times;
+    let at = t.owner_at;
+    let now = s.time_2;
+    if s.deadline_present {
+        return sample_time::deadline_missed(at, now, s.b);
+    }
+    false
+}
+
+// The sheet's writer owns the instance, from time 2 on.
+fn owned_from(s: Sheet, x: InstanceState) -> InstanceState
+    ensures { λ r. ⌜ r ≡ ownedFrom s x ⌝ }
+{
+    let g = s.guid;
+    let t = x.times;
+    let now = s.time_2;
+    let o = MaybeOwner {
+        present: true,
+        guid: g,
+        strength: s.second,
+    };
+    let y = with_owner(o, x);
+    with_times(with_owner_at(always(now), t), y)
+}
+
+// A sample under exclusive ownership: its writer owns the instance where it takes over.
+pub fn ownership_tried(s: Sheet, x: InstanceState) -> InstanceState
+    ensures { λ r. ⌜ r ≡ ownershipTried s x ⌝ }
+{
+    if takes_over(s, x) {
+        return owned_from(s, x);
+    }
+    x
+}
+
+// The owner's strength changes.
+pub fn strength_updated(g: Guid, strength: u32, x: InstanceState) -> InstanceState
+    ensures { λ r. ⌜ r ≡ strengthUpdated g strength x ⌝ }
+{
+    let o = x.owner;
+    let og = o.guid;
+    if owns(g, o) {
+        let n = MaybeOwner {
+            present: true,
+            guid: og,
+            strength: strength,
+        };
+        return with_owner(n, x);
+    }
+    x
+}
+
+// The instance with no owner; the time of its last owner stays.
+fn unowned(x: InstanceState) -> InstanceState
+    ensures { λ r. ⌜ r ≡ withOwner noOwner x ⌝ }
+{
+    let g = guid::nil();
+    let o = MaybeOwner {
+        present: false,
+        guid: g,
+        strength: 0,
+    };
+    with_owner(o, x)
+}
+
+// The writer's ownership is cleared.
+pub fn owner_cleared(g: Guid, x: InstanceState) -> InstanceState
+    ensures { λ r. ⌜ r ≡ ownerCleared g x ⌝ }
+{
+    let o = x.owner;
+    if owns(g, o) {
+        return unowned(x);
+    }
+    x
+}
+
+// The ownership of the participant's writers is cleared.
+pub fn prefix_cleared(g: Guid, x: InstanceState) -> InstanceState
+    ensures { λ r. ⌜ r ≡ prefixCleared g x ⌝ }
+{
+    let o = x.owner;
+    if owns_prefix(g, o) {
+        return unowned(x);
+    }
+    x
+}
