@@ -87,31 +87,6 @@ fn passes_filter(s: Sheet, x: Instance) -> bool
     sample_time::filter_admits(last, t, s.a)
 }
 
-// The writer is new to an instance that has 16.
-fn crowded(s: Sheet, x: Instance) -> bool
-    requires { ⌜ Usable (x .state) ⌝ }
-    ensures { λ r. ⌜ r ≡ crowds s (some x) ⌝ }
-{
-    let g = s.guid;
-    let y = x.state;
-    let w = y.writers;
-    if writer_set::holds(w, g) {
-        return false;
-    }
-    16 <= w.len
-}
-
-// A new instance is one too many for the sheet's limit; a negative limit is none.
-fn at_limit(s: Sheet, count: u32) -> bool
-    ensures { λ r. ⌜ r ≡ limited s count ⌝ }
-{
-    let first = s.first;
-    if 2147483648 <= first {
-        return false;
-    }
-    first <= count
-}
-
 // ---- the sample is admitted
 
 // Codes 9 and 10 on an instance whose state is z: its key and its handle stay.
@@ -198,7 +173,7 @@ fn admit_timely(
     ensures { λ r. ⌜ Admits places s (instancesIn count (now (pens .entry))) (next .0) r (now (pens .exit)) ⌝ }
 {
     let before = x.state;
-    let full = crowded(s, x);
+    let full = instance_tracker::crowds(s, x);
     let stronger = instance_ownership::takes_over(s, before);
     if full {
         return TableCall {
@@ -264,7 +239,7 @@ fn admit_new(
 {
     let used = count as usize;
     let counter = next.0;
-    if at_limit(s, count) {
+    if instance_tracker::at_limit(s.first, count) {
         return TableCall {
             answer: stopped(0, 3),
             count: count,

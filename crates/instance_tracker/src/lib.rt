@@ -171,17 +171,38 @@ fn says_of(c: InstanceCall) -> Says
 
 // ---- limit and crowd
 
-// A negative limit is none.
-fn at_limit(c: InstanceCall, first: u32, count: u32) -> bool
-    ensures { λ r. ⌜ r ≡ (limitedBy (rule c .reach) && (not (negative first) && leb first count)) ⌝ }
+// So many instances meet the limit; a negative limit is none.
+pub fn at_limit(limit: u32, count: u32) -> bool
+    ensures { λ r. ⌜ r ≡ (not (negative limit) && leb limit count) ⌝ }
+{
+    if 2147483648 <= limit {
+        return false;
+    }
+    limit <= count
+}
+
+// The call has a limit, which so many instances meet.
+fn limited(c: InstanceCall, limit: u32, count: u32) -> bool
+    ensures { λ r. ⌜ r ≡ (limitedBy (rule c .reach) && (not (negative limit) && leb limit count)) ⌝ }
 {
     if !is_limited(c) {
         return false;
     }
-    if 2147483648 <= first {
+    at_limit(limit, count)
+}
+
+// The writer is new to an instance that has 16.
+pub fn crowds(s: Sheet, x: Instance) -> bool
+    requires { ⌜ Usable (x .state) ⌝ }
+    ensures { λ r. ⌜ r ≡ crowds s (some x) ⌝ }
+{
+    let g = s.guid;
+    let y = x.state;
+    let w = y.writers;
+    if writer_set::holds(w, g) {
         return false;
     }
-    first <= count
+    16 <= w.len
 }
 
 // The call adds a writer to an instance that has 16 others.
@@ -189,16 +210,10 @@ fn crowded(c: InstanceCall, s: Sheet, x: Instance) -> bool
     requires { ⌜ Usable (x .state) ⌝ }
     ensures { λ r. ⌜ r ≡ (rule c .addsWriter && crowds s (some x)) ⌝ }
 {
-    let g = s.guid;
-    let y = x.state;
-    let w = y.writers;
     if !adds_writer(c) {
         return false;
     }
-    if writer_set::holds(w, g) {
-        return false;
-    }
-    16 <= w.len
+    crowds(s, x)
 }
 
 // ---- the answer
@@ -372,7 +387,7 @@ fn begin(
     requires { ⌜ Ready places count (next .0) (now pens) × Starts c s (instancesIn count (now pens)) i ⌝ }
     ensures { λ r. ⌜ Turned places c s (instancesIn count (now (pens .entry))) (next .0) r (now (pens .exit)) ⌝ }
 {
-    if at_limit(c, s.first, count) {
+    if limited(c, s.first, count) {
         return stopped(0, count, next);
     }
     if places <= count as usize {

@@ -6,8 +6,8 @@ use borrow.Author.Needs.{needs}
 use Rattle.instance_tracker.proofs.begin.Statement.{statement}
 use Rattle.instance_tracker.proofs.begin.Tie as tie
 
-at-limit-requires : tie.Need-at-limit-requires
-at-limit-requires c κs = search needs
+limited-requires : tie.Need-limited-requires
+limited-requires c κs = search needs
 
 stopped-requires : tie.Need-stopped-requires
 stopped-requires c κs = search needs
@@ -17,7 +17,7 @@ returns c =
     let k = c .before .before in
     let a = k .before .before in
     rw (c .stopped .ensures)
-    (limited-left (a .args .next) (a .pre .0) (a .pre .1) (λ n. omega (arith, k .before .slice-known .given n)) (sym (k .at-limit .ensures) ∙ c .before .if1 .taken))
+    (limited-left (a .args .next) (a .pre .0) (a .pre .1) (λ n. omega (arith, k .before .slice-known .given n)) (sym (k .limited .ensures) ∙ c .before .if1 .taken))
 
 stopped-requires-2 : tie.Need-stopped-requires-2
 stopped-requires-2 c κs = search needs
@@ -27,7 +27,7 @@ returns-2 c =
     let k = c .before .before .before in
     let a = k .before .before in
     rw (c .stopped2 .ensures)
-    (full-left (a .args .next) (a .pre .0) (a .pre .1) (sym (k .at-limit .ensures) ∙ c .before .before .if1 .left) (λ n. omega (arith, k .before .slice-known .given n))
+    (full-left (a .args .next) (a .pre .0) (a .pre .1) (sym (k .limited .ensures) ∙ c .before .before .if1 .left) (λ n. omega (arith, k .before .slice-known .given n))
     (c .before .if2 .taken))
 
 stopped-requires-3 : tie.Need-stopped-requires-3
@@ -39,14 +39,14 @@ returns-3 c =
     let k = m .before .before in
     let a = k .before .before in
     rw (c .stopped3 .ensures)
-    (spent-left (a .args .next) (a .pre .0) (a .pre .1) (sym (k .at-limit .ensures) ∙ m .before .if1 .left) (m .if2 .left) (λ n. omega (arith, k .before .slice-known .given n))
+    (spent-left (a .args .next) (a .pre .0) (a .pre .1) (sym (k .limited .ensures) ∙ m .before .if1 .left) (m .if2 .left) (λ n. omega (arith, k .before .slice-known .given n))
     (c .before .if3 .taken))
 
 start-requires : tie.Need-start-requires
 start-requires c κs =
     let m = c .before .before .before in
     let k = m .before .before in
-    let a = k .before .before in (a .pre .0, a .pre .1, m .if2 .left, c .before .if3 .left, sym (k .at-limit .ensures) ∙ m .before .if1 .left)
+    let a = k .before .before in (a .pre .0, a .pre .1, m .if2 .left, c .before .if3 .left, sym (k .limited .ensures) ∙ m .before .if1 .left)
 
 same-length : tie.Need-same-length
 same-length c = search needs
@@ -58,7 +58,7 @@ pub begin-spec : {M : Type 1} → statement M
 begin-spec =
     tie.close
     (tie.spec
-    at-limit-requires
+    limited-requires
     stopped-requires
     returns
     stopped-requires-2

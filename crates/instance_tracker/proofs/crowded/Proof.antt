@@ -1,7 +1,6 @@
--- The writer is new, and 16 are there. Assumes nothing.
-use Rattle.instance_tracker.proofs.Acting.{crowds-full}
-use borrow.Author.Tests.{not-true, not-false}
+-- The call adds a writer, and its set is full. Assumes nothing.
 use mathlib.Core.Path.{sym, _∙_}
+use borrow.Author.Tests.{not-true, not-false}
 use borrow.Author.Needs.{needs}
 use Rattle.instance_tracker.proofs.crowded.Statement.{statement}
 use Rattle.instance_tracker.proofs.crowded.Tie as tie
@@ -12,21 +11,11 @@ adds-writer-requires c κs = search needs
 returns : tie.Need-returns
 returns c = rw (sym (c .before .adds-writer .ensures) ∙ not-true _ (c .if1 .taken))
 
-holds-requires : tie.Need-holds-requires
-holds-requires c κs = search needs
+crowds-requires : tie.Need-crowds-requires
+crowds-requires c κs = search needs
 
 returns-2 : tie.Need-returns-2
-returns-2 c =
-    let k = c .before .before in
-    rw (sym (k .before .adds-writer .ensures) ∙ not-false _ (k .if1 .left), sym (c .before .holds .ensures) ∙ c .if2 .taken)
-
-returns-3 : tie.Need-returns-3
-returns-3 c =
-    let h = c .before .before in
-    let k = h .before in
-    let a = k .before .before .before .before .before in
-    rw (sym (k .before .adds-writer .ensures) ∙ not-false _ (k .if1 .left))
-    (sym (crowds-full (a .args .s) (a .args .x) (a .pre) (sym (h .holds .ensures) ∙ c .before .if2 .left)))
+returns-2 c = rw (sym (c .before .before .adds-writer .ensures) ∙ not-false _ (c .before .if1 .left)) (c .crowds .ensures)
 
 pub crowded-spec : {M : Type 1} → statement M
-crowded-spec = tie.close (tie.spec adds-writer-requires returns holds-requires returns-2 returns-3)
+crowded-spec = tie.close (tie.spec adds-writer-requires returns crowds-requires returns-2)
