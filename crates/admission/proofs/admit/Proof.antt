@@ -16,13 +16,20 @@ enum-known-f : tie.Need-enum-known-f
 enum-known-f c = search needs
 
 admit-known-requires : tie.Need-admit-known-requires
-admit-known-requires c κs = let a = c .before .before .before .before .before .before .before .before in (a .pre, found-only instanceKey _ blank (ready-rises (a .pre)) (num (a .args .s .key)) _ (sym (c .before .before .before .before .find-key .ensures) ∙ c .before .before .f .given .1))
+admit-known-requires c κs =
+    let a = c .before .before .before .before .before .before .before .before in (
+      a .pre,
+      found-only instanceKey _ blank (ready-rises (a .pre)) (num (a .args .s .key)) _
+          (sym (c .before .before .before .before .find-key .ensures) ∙ c .before .before .f .given .1),
+    )
 
 enum-known-f-2 : tie.Need-enum-known-f-2
 enum-known-f-2 c = search needs
 
 admit-new-requires : tie.Need-admit-new-requires
-admit-new-requires c κs = let a = c .before .before .before .before .before .before .before .before in (a .pre, sym (c .before .before .before .before .find-key .ensures) ∙ c .before .before .f2 .given .1)
+admit-new-requires c κs =
+    let a = c .before .before .before .before .before .before .before .before in
+    (a .pre, sym (c .before .before .before .before .find-key .ensures) ∙ c .before .before .f2 .given .1)
 
 same-length : tie.Need-same-length
 same-length c = search needs

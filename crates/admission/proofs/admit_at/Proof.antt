@@ -11,10 +11,16 @@ ownership-tried-requires : tie.Need-ownership-tried-requires
 ownership-tried-requires c κs = search needs
 
 noted-requires : tie.Need-noted-requires
-noted-requires c κs = let a = c .before .before .before in owned-asked (a .args .s) (a .args .x .state) (c .ownership-tried .result) (c .ownership-tried .ensures) (known-usable (a .pre .0) (a .args .s) (a .args .i) (a .args .x) (a .pre .1)) (known-room (a .pre .0) (a .args .s) (a .args .i) (a .args .x) (a .pre .1) (a .pre .3))
+noted-requires c κs =
+    let a = c .before .before .before in
+    owned-asked (a .args .s) (a .args .x .state) (c .ownership-tried .result) (c .ownership-tried .ensures)
+    (known-usable (a .pre .0) (a .args .s) (a .args .i) (a .args .x) (a .pre .1))
+    (known-room (a .pre .0) (a .args .s) (a .args .i) (a .args .x) (a .pre .1) (a .pre .3))
 
 replace-requires : tie.Need-replace-requires
-replace-requires c κs = let a = c .before .before .before .before .before in (known-place (a .pre .0) (a .args .s) (a .args .i) (a .pre .1 .only), c .before .noted .ensures .few)
+replace-requires c κs =
+    let a = c .before .before .before .before .before in
+    (known-place (a .pre .0) (a .args .s) (a .args .i) (a .pre .1 .only), c .before .noted .ensures .few)
 
 admitted-answer-requires : tie.Need-admitted-answer-requires
 admitted-answer-requires c κs = search needs
@@ -23,7 +29,15 @@ same-length : tie.Need-same-length
 same-length c = search needs
 
 returns : tie.Need-returns
-returns c = let a = c .before .before .before .before .before .before .before .before .before in admitted-left (a .pre .0) (a .args .s) (λ n. omega (arith, c .before .before .before .before .before .before .before .before .slice-known .given n)) (a .args .i) (a .args .x) (a .pre .1) (c .admitted-answer .result) (a .args .next) refl (a .pre .2) (a .pre .3) (c .before .before .before .before .before .before .ownership-tried .result) (c .before .before .before .before .before .noted .result) (c .before .before .before .replace .last .0) (a .pre .4) (c .before .before .before .before .before .before .ownership-tried .ensures) (c .before .before .before .before .before .noted .ensures) (c .admitted-answer .ensures) (c .before .before .before .replace .ensures)
+returns c =
+    let k = c .before .before .before in
+    let l = k .before .before in
+    let m = l .before in
+    let p = m .before .before in
+    let a = p .before in
+    admitted-left (a .pre .0) (a .args .s) (λ n. omega (arith, p .slice-known .given n)) (a .args .i) (a .args .x) (a .pre .1)
+    (c .admitted-answer .result) (a .args .next) refl (a .pre .2) (a .pre .3) (m .ownership-tried .result) (l .noted .result) (k .replace .last .0)
+    (a .pre .4) (m .ownership-tried .ensures) (l .noted .ensures) (c .admitted-answer .ensures) (k .replace .ensures)
 
 pub admit-at-spec : {M : Type 1} → statement M
 admit-at-spec =

@@ -23,7 +23,13 @@ same-length : tie.Need-same-length
 same-length c = search needs
 
 returns : tie.Need-returns
-returns c = let a = c .before .before .before .before .before .before .before in order-left (a .pre .0) (a .args .s) (λ n. omega (arith, c .before .before .before .before .before .before .slice-known .given n)) (a .args .i) (c .before .before .before .before .instance-at .result) (known-read (a .pre .0) (a .args .s) (a .args .i) (c .before .before .before .before .instance-at .result) (a .pre .1) (c .before .before .before .before .instance-at .ensures)) (c .stopped .result) (a .args .next) refl (sym (c .before .before .before .in-order .ensures) ∙ not-true _ (c .before .if1 .taken)) (c .stopped .ensures .1 refl)
+returns c =
+    let k = c .before .before .before .before in
+    let l = k .before .before in
+    let a = l .before in
+    order-left (a .pre .0) (a .args .s) (λ n. omega (arith, l .slice-known .given n)) (a .args .i) (k .instance-at .result)
+    (known-read (a .pre .0) (a .args .s) (a .args .i) (k .instance-at .result) (a .pre .1) (k .instance-at .ensures)) (c .stopped .result)
+    (a .args .next) refl (sym (c .before .before .before .in-order .ensures) ∙ not-true _ (c .before .if1 .taken)) (c .stopped .ensures .1 refl)
 
 stopped-requires-2 : tie.Need-stopped-requires-2
 stopped-requires-2 c κs = search needs
@@ -32,10 +38,23 @@ same-length-2 : tie.Need-same-length-2
 same-length-2 c = search needs
 
 returns-2 : tie.Need-returns-2
-returns-2 c = let a = c .before .before .before .before .before .before .before .before in filter-left (a .pre .0) (a .args .s) (λ n. omega (arith, c .before .before .before .before .before .before .before .slice-known .given n)) (a .args .i) (c .before .before .before .before .before .instance-at .result) (known-read (a .pre .0) (a .args .s) (a .args .i) (c .before .before .before .before .before .instance-at .result) (a .pre .1) (c .before .before .before .before .before .instance-at .ensures)) (c .stopped2 .result) (a .args .next) refl (sym (c .before .before .before .before .in-order .ensures) ∙ not-false _ (c .before .before .if1 .left)) (sym (c .before .before .before .passes-filter .ensures) ∙ not-true _ (c .before .if2 .taken)) (c .stopped2 .ensures .1 refl)
+returns-2 c =
+    let k = c .before .before .before .before .before in
+    let l = k .before .before in
+    let a = l .before in
+    filter-left (a .pre .0) (a .args .s) (λ n. omega (arith, l .slice-known .given n)) (a .args .i) (k .instance-at .result)
+    (known-read (a .pre .0) (a .args .s) (a .args .i) (k .instance-at .result) (a .pre .1) (k .instance-at .ensures)) (c .stopped2 .result)
+    (a .args .next) refl (sym (c .before .before .before .before .in-order .ensures) ∙ not-false _ (c .before .before .if1 .left))
+    (sym (c .before .before .before .passes-filter .ensures) ∙ not-true _ (c .before .if2 .taken)) (c .stopped2 .ensures .1 refl)
 
 admit-timely-requires : tie.Need-admit-timely-requires
-admit-timely-requires c κs = let a = c .before .before .before .before .before .before .before .before in (a .pre .0, (known-read (a .pre .0) (a .args .s) (a .args .i) (c .before .before .before .before .before .instance-at .result) (a .pre .1) (c .before .before .before .before .before .instance-at .ensures)), record { order = sym (c .before .before .before .before .in-order .ensures) ∙ not-false _ (c .before .before .if1 .left); filter = sym (c .before .before .before .passes-filter .ensures) ∙ not-false _ (c .before .if2 .left) })
+admit-timely-requires c κs =
+    let k = c .before .before .before .before .before in
+    let a = k .before .before .before in (
+      a .pre .0,
+      (known-read (a .pre .0) (a .args .s) (a .args .i) (k .instance-at .result) (a .pre .1) (k .instance-at .ensures)),
+      record { order = sym (c .before .before .before .before .in-order .ensures) ∙ not-false _ (c .before .before .if1 .left); filter = sym (c .before .before .before .passes-filter .ensures) ∙ not-false _ (c .before .if2 .left) },
+    )
 
 same-length-3 : tie.Need-same-length-3
 same-length-3 c = search needs

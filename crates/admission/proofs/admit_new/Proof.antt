@@ -13,22 +13,41 @@ stopped-requires : tie.Need-stopped-requires
 stopped-requires c κs = search needs
 
 returns : tie.Need-returns
-returns c = let a = c .before .before .before .before in limited-left (a .pre .0) (a .args .s) (λ n. omega (arith, c .before .before .before .slice-known .given n)) (a .args .i) (a .pre .1) (c .stopped .result) (a .args .next) (sym (c .before .before .at-limit .ensures) ∙ c .before .if1 .taken) (c .stopped .ensures .1 refl) refl
+returns c =
+    let a = c .before .before .before .before in
+    limited-left (a .pre .0) (a .args .s) (λ n. omega (arith, c .before .before .before .slice-known .given n)) (a .args .i) (a .pre .1)
+    (c .stopped .result) (a .args .next) (sym (c .before .before .at-limit .ensures) ∙ c .before .if1 .taken) (c .stopped .ensures .1 refl) refl
 
 stopped-requires-2 : tie.Need-stopped-requires-2
 stopped-requires-2 c κs = search needs
 
 returns-2 : tie.Need-returns-2
-returns-2 c = let a = c .before .before .before .before .before in full-left (a .pre .0) (a .args .s) (λ n. omega (arith, c .before .before .before .before .slice-known .given n)) (a .args .i) (a .pre .1) (c .stopped2 .result) (a .args .next) (sym (c .before .before .before .at-limit .ensures) ∙ c .before .before .if1 .left) (c .before .if2 .taken) (c .stopped2 .ensures .0 refl) refl
+returns-2 c =
+    let a = c .before .before .before .before .before in
+    full-left (a .pre .0) (a .args .s) (λ n. omega (arith, c .before .before .before .before .slice-known .given n)) (a .args .i) (a .pre .1)
+    (c .stopped2 .result) (a .args .next) (sym (c .before .before .before .at-limit .ensures) ∙ c .before .before .if1 .left) (c .before .if2 .taken)
+    (c .stopped2 .ensures .0 refl) refl
 
 stopped-requires-3 : tie.Need-stopped-requires-3
 stopped-requires-3 c κs = search needs
 
 returns-3 : tie.Need-returns-3
-returns-3 c = let a = c .before .before .before .before .before .before in spent-left (a .pre .0) (a .args .s) (λ n. omega (arith, c .before .before .before .before .before .slice-known .given n)) (a .args .i) (a .pre .1) (c .stopped3 .result) (a .args .next) (sym (c .before .before .before .before .at-limit .ensures) ∙ c .before .before .before .if1 .left) (c .before .before .if2 .left) (c .before .if3 .taken) (c .stopped3 .ensures .0 refl) refl
+returns-3 c =
+    let k = c .before .before .before .before .before in
+    let a = k .before in
+    spent-left (a .pre .0) (a .args .s) (λ n. omega (arith, k .slice-known .given n)) (a .args .i) (a .pre .1) (c .stopped3 .result) (a .args .next)
+    (sym (c .before .before .before .before .at-limit .ensures) ∙ c .before .before .before .if1 .left) (c .before .before .if2 .left)
+    (c .before .if3 .taken) (c .stopped3 .ensures .0 refl) refl
 
 admit-first-requires : tie.Need-admit-first-requires
-admit-first-requires c κs = let a = c .before .before .before .before .before .before in (a .pre .0, a .pre .1, sym (c .before .before .before .before .at-limit .ensures) ∙ c .before .before .before .if1 .left, c .before .before .if2 .left, c .before .if3 .left)
+admit-first-requires c κs =
+    let a = c .before .before .before .before .before .before in (
+      a .pre .0,
+      a .pre .1,
+      sym (c .before .before .before .before .at-limit .ensures) ∙ c .before .before .before .if1 .left,
+      c .before .before .if2 .left,
+      c .before .if3 .left,
+    )
 
 same-length : tie.Need-same-length
 same-length c = search needs

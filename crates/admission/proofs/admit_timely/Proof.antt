@@ -17,16 +17,32 @@ stopped-requires : tie.Need-stopped-requires
 stopped-requires c κs = search needs
 
 returns : tie.Need-returns
-returns c = let a = c .before .before .before .before .before .before in crowded-left (a .pre .0) (a .args .s) (λ n. omega (arith, c .before .before .before .before .before .slice-known .given n)) (a .args .i) (a .args .x) (a .pre .1) (c .stopped .result) (a .args .next) refl (a .pre .2) (sym (c .before .before .before .crowds .ensures) ∙ c .before .if1 .taken) (c .stopped .ensures .0 refl)
+returns c =
+    let k = c .before .before .before .before .before in
+    let a = k .before in
+    crowded-left (a .pre .0) (a .args .s) (λ n. omega (arith, k .slice-known .given n)) (a .args .i) (a .args .x) (a .pre .1) (c .stopped .result)
+    (a .args .next) refl (a .pre .2) (sym (c .before .before .before .crowds .ensures) ∙ c .before .if1 .taken) (c .stopped .ensures .0 refl)
 
 stopped-requires-2 : tie.Need-stopped-requires-2
 stopped-requires-2 c κs = search needs
 
 returns-2 : tie.Need-returns-2
-returns-2 c = let a = c .before .before .before .before .before .before .before in weaker-left (a .pre .0) (a .args .s) (λ n. omega (arith, c .before .before .before .before .before .before .slice-known .given n)) (a .args .i) (a .args .x) (a .pre .1) (c .stopped2 .result) (a .args .next) refl (a .pre .2) (sym (c .before .before .before .before .crowds .ensures) ∙ c .before .before .if1 .left) (sym (c .before .before .before .takes-over .ensures) ∙ not-true _ (c .before .if2 .taken)) (c .stopped2 .ensures .1 refl)
+returns-2 c =
+    let k = c .before .before .before .before .before .before in
+    let a = k .before in
+    weaker-left (a .pre .0) (a .args .s) (λ n. omega (arith, k .slice-known .given n)) (a .args .i) (a .args .x) (a .pre .1) (c .stopped2 .result)
+    (a .args .next) refl (a .pre .2) (sym (c .before .before .before .before .crowds .ensures) ∙ c .before .before .if1 .left)
+    (sym (c .before .before .before .takes-over .ensures) ∙ not-true _ (c .before .if2 .taken)) (c .stopped2 .ensures .1 refl)
 
 admit-at-requires : tie.Need-admit-at-requires
-admit-at-requires c κs = let a = c .before .before .before .before .before .before .before in (a .pre .0, a .pre .1, a .pre .2, sym (c .before .before .before .before .crowds .ensures) ∙ c .before .before .if1 .left, sym (c .before .before .before .takes-over .ensures) ∙ not-false _ (c .before .if2 .left))
+admit-at-requires c κs =
+    let a = c .before .before .before .before .before .before .before in (
+      a .pre .0,
+      a .pre .1,
+      a .pre .2,
+      sym (c .before .before .before .before .crowds .ensures) ∙ c .before .before .if1 .left,
+      sym (c .before .before .before .takes-over .ensures) ∙ not-false _ (c .before .if2 .left),
+    )
 
 same-length : tie.Need-same-length
 same-length c = search needs

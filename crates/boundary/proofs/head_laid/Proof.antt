@@ -18,19 +18,30 @@ returns-2 : tie.Need-returns-2
 returns-2 c = laid-spare (c .before .before .before .before .before .args .b .now) (c .before .before .get-u162 .ensures) (λ e. omega arith)
 
 returns-3 : tie.Need-returns-3
-returns-3 c = laid-present (c .before .before .before .before .before .before .args .b .now) (c .before .before .before .before .get-u16 .ensures) (c .before .before .before .get-u162 .ensures) (omega arith) (omega arith)
+returns-3 c =
+    let a = c .before .before .before .before .before .before in
+    laid-present (a .args .b .now) (c .before .before .before .before .get-u16 .ensures) (c .before .before .before .get-u162 .ensures) (omega arith)
+    (omega arith)
 
 get-u64-requires : tie.Need-get-u64-requires
 get-u64-requires c κs = search needs
 
 returns-4 : tie.Need-returns-4
-returns-4 c = laid-high (c .before .before .before .before .before .before .before .before .args .b .now) (c .before .before .before .before .before .before .get-u16 .ensures) (c .before .get-u64 .ensures) (λ e. omega arith) (λ e. omega arith)
+returns-4 c =
+    let k = c .before .before .before .before .before .before in
+    let a = k .before .before in
+    laid-high (a .args .b .now) (k .get-u16 .ensures) (c .before .get-u64 .ensures) (λ e. omega arith) (λ e. omega arith)
 
 get-u64-requires-2 : tie.Need-get-u64-requires-2
 get-u64-requires-2 c κs = search needs
 
 returns-5 : tie.Need-returns-5
-returns-5 c = laid-low (c .before .before .before .before .before .before .before .before .before .args .b .now) (c .before .before .before .before .before .before .before .get-u16 .ensures) (c .before .before .before .before .before .before .get-u162 .ensures) (c .before .before .get-u64 .ensures) (c .get-u642 .ensures) (omega arith) (omega arith) (λ e. omega arith) (omega arith)
+returns-5 c =
+    let k = c .before .before .before .before .before .before in
+    let l = k .before in
+    let a = l .before .before in
+    laid-low (a .args .b .now) (l .get-u16 .ensures) (k .get-u162 .ensures) (c .before .before .get-u64 .ensures) (c .get-u642 .ensures) (omega arith)
+    (omega arith) (λ e. omega arith) (omega arith)
 
 pub head-laid-spec : {M : Type 1} → statement M
 head-laid-spec =

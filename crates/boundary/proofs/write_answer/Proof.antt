@@ -24,20 +24,15 @@ same-length c = search needs
 
 returns : tie.Need-returns
 returns c =
-    answer-put
-    (c .before .before .before .before .before .before .before .before .before .before .before .before .before .before .before .before .before .before .before .before .before .before .args .a)
-    (c .before .before .before .before .before .before .before .before .before .before .before .before .before .before .before .before .before .before .before .before .before .before .args .b .now)
-    (c .before .before .before .before .before .before .before .before .before .before .before .before .before .before .before .before .before .before .write-bits .last .0)
-    (c .before .before .before .before .before .before .before .before .before .before .before .before .before .before .write-kind .last .0)
-    (c .before .before .before .before .before .before .before .before .before .before .write-counts .last .0)
-    (c .before .before .before .before .before .before .write-status .last .0)
-    (c .before .before .write-due .last .0)
-    (c .before .before .before .before .before .before .before .before .before .before .before .before .before .before .before .before .before .before .before .before .before .before .pre)
-    (c .before .before .before .before .before .before .before .before .before .before .before .before .before .before .before .before .before .before .write-bits .ensures)
-    (c .before .before .before .before .before .before .before .before .before .before .before .before .before .before .write-kind .ensures)
-    (c .before .before .before .before .before .before .before .before .before .before .write-counts .ensures)
-    (c .before .before .before .before .before .before .write-status .ensures)
-    (c .before .before .write-due .ensures)
+    let k = c .before .before in
+    let l = k .before .before .before .before in
+    let m = l .before .before .before .before in
+    let n = m .before .before .before .before in
+    let p = n .before .before .before .before in
+    let a = p .before .before .before .before in
+    answer-put (a .args .a) (a .args .b .now) (p .write-bits .last .0) (n .write-kind .last .0) (m .write-counts .last .0) (l .write-status .last .0)
+    (k .write-due .last .0) (a .pre) (p .write-bits .ensures) (n .write-kind .ensures) (m .write-counts .ensures) (l .write-status .ensures)
+    (k .write-due .ensures)
 
 pub write-answer-spec : {M : Type 1} → statement M
 write-answer-spec =

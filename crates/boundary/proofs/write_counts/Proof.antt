@@ -23,13 +23,11 @@ same-length c = search needs
 
 returns : tie.Need-returns
 returns c =
-    rw (
-      c .before .before .put-u325 .ensures,
-      c .before .before .before .before .before .before .put-u324 .ensures,
-      c .before .before .before .before .before .before .before .before .before .before .put-u323 .ensures,
-      c .before .before .before .before .before .before .before .before .before .before .before .before .before .before .put-u322 .ensures,
-      c .before .before .before .before .before .before .before .before .before .before .before .before .before .before .before .before .before .before .put-u32 .ensures,
-    )
+    let k = c .before .before .before .before .before .before in
+    let l = k .before .before .before .before in
+    let m = l .before .before .before .before in
+    let n = m .before .before .before .before in
+    rw (c .before .before .put-u325 .ensures, k .put-u324 .ensures, l .put-u323 .ensures, m .put-u322 .ensures, n .put-u32 .ensures)
 
 pub write-counts-spec : {M : Type 1} → statement M
 write-counts-spec =

@@ -32,16 +32,15 @@ same-length c = search needs
 
 returns : tie.Need-returns
 returns c =
-    rw (
-      c .before .before .put-u64 .ensures,
-      c .before .before .before .before .before .before .put-u84 .ensures,
-      c .before .before .before .before .before .before .before .before .before .before .put-u83 .ensures,
-      c .before .before .before .before .before .before .before .before .before .before .before .bit-of2 .ensures,
-      c .before .before .before .before .before .before .before .before .before .before .before .before .before .before .before .put-u82 .ensures,
-      c .before .before .before .before .before .before .before .before .before .before .before .before .before .before .before .before .kind-number .ensures,
-      c .before .before .before .before .before .before .before .before .before .before .before .before .before .before .before .before .before .before .before .before .put-u8 .ensures,
-      c .before .before .before .before .before .before .before .before .before .before .before .before .before .before .before .before .before .before .before .before .before .bit-of .ensures,
-    )
+    let k = c .before .before .before .before .before .before in
+    let l = k .before .before .before .before in
+    let m = l .before in
+    let n = m .before .before .before .before in
+    let p = n .before in
+    let q = p .before .before .before .before in
+    let u = q .before in
+    rw
+    (c .before .before .put-u64 .ensures, k .put-u84 .ensures, l .put-u83 .ensures, m .bit-of2 .ensures, n .put-u82 .ensures, p .kind-number .ensures, q .put-u8 .ensures, u .bit-of .ensures)
 
 pub write-kind-spec : {M : Type 1} → statement M
 write-kind-spec =

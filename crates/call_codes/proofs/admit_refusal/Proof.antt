@@ -18,12 +18,18 @@ returns c = λ st. sheet-4 (joined Admit) (c .before .before .before .before .ar
 returns-2 : tie.Need-returns-2
 unfolding all
 returns-2 c =
-    λ st. sheet-6 (joined Admit) (c .before .before .before .before .before .before .before .args .s) st (sym (c .before .before .before .before .both-ok .ensures) ∙ not-false _ (c .before .before .before .if1 .left)) refl (lt-leb _ 144 (c .if2 .taken))
+    let a = c .before .before .before .before .before .before .before in
+    λ st. sheet-6 (joined Admit) (a .args .s) st
+    (sym (c .before .before .before .before .both-ok .ensures) ∙ not-false _ (c .before .before .before .if1 .left)) refl
+    (lt-leb _ 144 (c .if2 .taken))
 
 returns-3 : tie.Need-returns-3
 unfolding all
 returns-3 c =
-    λ st. sheet-none (joined Admit) (c .before .before .before .before .before .before .before .args .s) st (sym (c .before .before .before .before .both-ok .ensures) ∙ not-false _ (c .before .before .before .if1 .left)) refl (le-leb _ 144 (c .if2 .left)) refl refl
+    let a = c .before .before .before .before .before .before .before in
+    λ st. sheet-none (joined Admit) (a .args .s) st
+    (sym (c .before .before .before .before .both-ok .ensures) ∙ not-false _ (c .before .before .before .if1 .left)) refl
+    (le-leb _ 144 (c .if2 .left)) refl refl
 
 pub admit-refusal-spec : {M : Type 1} → statement M
 admit-refusal-spec = tie.close (tie.spec both-ok-requires returns returns-2 returns-3)

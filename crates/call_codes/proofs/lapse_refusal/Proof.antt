@@ -19,11 +19,16 @@ clock-ok-requires c κs = search needs
 
 returns-2 : tie.Need-returns-2
 returns-2 c =
-    λ st. sheet-5 (joined Lapse) (c .before .before .before .before .before .args .s) st (sym (c .before .before .before .optional-ok .ensures) ∙ not-false _ (c .before .before .if1 .left)) (sym (c .before .clock-ok .ensures) ∙ not-true _ (c .if2 .taken))
+    let a = c .before .before .before .before .before in
+    λ st. sheet-5 (joined Lapse) (a .args .s) st (sym (c .before .before .before .optional-ok .ensures) ∙ not-false _ (c .before .before .if1 .left))
+    (sym (c .before .clock-ok .ensures) ∙ not-true _ (c .if2 .taken))
 
 returns-3 : tie.Need-returns-3
 returns-3 c =
-    λ st. sheet-none (joined Lapse) (c .before .before .before .before .before .args .s) st (sym (c .before .before .before .optional-ok .ensures) ∙ not-false _ (c .before .before .if1 .left)) (sym (c .before .clock-ok .ensures) ∙ not-false _ (c .if2 .left)) refl refl refl
+    let a = c .before .before .before .before .before in
+    λ st. sheet-none (joined Lapse) (a .args .s) st
+    (sym (c .before .before .before .optional-ok .ensures) ∙ not-false _ (c .before .before .if1 .left))
+    (sym (c .before .clock-ok .ensures) ∙ not-false _ (c .if2 .left)) refl refl refl
 
 pub lapse-refusal-spec : {M : Type 1} → statement M
 lapse-refusal-spec =

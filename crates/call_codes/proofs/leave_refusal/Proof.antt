@@ -13,12 +13,17 @@ optional-ok-requires : tie.Need-optional-ok-requires
 optional-ok-requires c κs = search needs
 
 returns : tie.Need-returns
-returns c = λ st. (sheet-4 (joined Part) (c .before .before .before .args .s) st (sym (c .before .optional-ok .ensures) ∙ not-true _ (c .if1 .taken)), sheet-4 (joined Depart) (c .before .before .before .args .s) st (sym (c .before .optional-ok .ensures) ∙ not-true _ (c .if1 .taken)))
+returns c =
+    let a = c .before .before .before in
+    λ st.
+    (sheet-4 (joined Part) (a .args .s) st (sym (c .before .optional-ok .ensures) ∙ not-true _ (c .if1 .taken)), sheet-4 (joined Depart) (a .args .s) st (sym (c .before .optional-ok .ensures) ∙ not-true _ (c .if1 .taken)))
 
 returns-2 : tie.Need-returns-2
 unfolding all
 returns-2 c =
-    λ st. (sheet-none (joined Part) (c .before .before .before .args .s) st (sym (c .before .optional-ok .ensures) ∙ not-false _ (c .if1 .left)) refl refl refl refl, sheet-none (joined Depart) (c .before .before .before .args .s) st (sym (c .before .optional-ok .ensures) ∙ not-false _ (c .if1 .left)) refl refl refl refl)
+    let a = c .before .before .before in
+    λ st.
+    (sheet-none (joined Part) (a .args .s) st (sym (c .before .optional-ok .ensures) ∙ not-false _ (c .if1 .left)) refl refl refl refl, sheet-none (joined Depart) (a .args .s) st (sym (c .before .optional-ok .ensures) ∙ not-false _ (c .if1 .left)) refl refl refl refl)
 
 pub leave-refusal-spec : {M : Type 1} → statement M
 leave-refusal-spec = tie.close (tie.spec optional-ok-requires returns returns-2)

@@ -43,8 +43,11 @@ returns-9 : tie.Need-returns-9
 unfolding callOfCode amongst calls
 returns-9 c =
     let v : ℕ = c .before .args .code in
-    let h : 40 ≤ v = past 39 v (past 38 v (past 37 v (past 36 v (past 35 v (past 34 v (past 33 v (past 32 v (omega arith) (c .match .rest .0 .0 .0 .0 .0 .0 .0 .1)) (c .match .rest .0 .0 .0 .0 .0 .0 .1)) (c .match .rest .0 .0 .0 .0 .0 .1)) (c .match .rest .0 .0 .0 .0 .1)) (c .match .rest .0 .0 .0 .1)) (c .match .rest .0 .0 .1)) (c .match .rest .0 .1)) (c .match .rest .1) in
-    let e : v ≡ 40 = omega arith in rw e
+    let h : 40 ≤ v = past 39 v
+    (past 38 v (past 37 v (past 36 v (past 35 v (past 34 v (past 33 v (past 32 v (omega arith) (c .match .rest .0 .0 .0 .0 .0 .0 .0 .1)) (c .match .rest .0 .0 .0 .0 .0 .0 .1)) (c .match .rest .0 .0 .0 .0 .0 .1)) (c .match .rest .0 .0 .0 .0 .1)) (c .match .rest .0 .0 .0 .1)) (c .match .rest .0 .0 .1)) (c .match .rest .0 .1))
+    (c .match .rest .1) in
+    let e : v ≡ 40 = omega arith in
+    rw e
 
 pub tracker-call-spec : {M : Type 1} → statement M
 tracker-call-spec =

@@ -15,7 +15,8 @@ nanoseconds-ok-requires-2 c κs = search needs
 
 returns : tie.Need-returns
 returns c =
-    all-first nanosecondsOk (c .before .before .before .args .t) (c .before .before .before .args .u ∷ []) _ (sym (c .before .before .nanoseconds-ok .ensures) ∙ c .before .if1 .taken)
+    let a = c .before .before .before in
+    all-first nanosecondsOk (a .args .t) (a .args .u ∷ []) _ (sym (c .before .before .nanoseconds-ok .ensures) ∙ c .before .if1 .taken)
     (c .nanoseconds-ok2 .ensures)
 
 returns-2 : tie.Need-returns-2

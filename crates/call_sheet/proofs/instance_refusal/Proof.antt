@@ -17,11 +17,15 @@ holder-fits-requires c κs = search needs
 
 returns-2 : tie.Need-returns-2
 returns-2 c =
-    λ st. refuses-6 (c .before .before .before .before .args .c) (c .before .before .before .before .args .s) st (sym (c .before .before .before .times-ok .ensures) ∙ not-false _ (c .before .before .if1 .left)) (sym (c .before .holder-fits .ensures) ∙ not-true _ (c .if2 .taken))
+    let a = c .before .before .before .before in
+    λ st. refuses-6 (a .args .c) (a .args .s) st (sym (c .before .before .before .times-ok .ensures) ∙ not-false _ (c .before .before .if1 .left))
+    (sym (c .before .holder-fits .ensures) ∙ not-true _ (c .if2 .taken))
 
 returns-3 : tie.Need-returns-3
 returns-3 c =
-    λ st. refuses-none (c .before .before .before .before .args .c) (c .before .before .before .before .args .s) st (sym (c .before .before .before .times-ok .ensures) ∙ not-false _ (c .before .before .if1 .left)) (sym (c .before .holder-fits .ensures) ∙ not-false _ (c .if2 .left))
+    let a = c .before .before .before .before in
+    λ st. refuses-none (a .args .c) (a .args .s) st (sym (c .before .before .before .times-ok .ensures) ∙ not-false _ (c .before .before .if1 .left))
+    (sym (c .before .holder-fits .ensures) ∙ not-false _ (c .if2 .left))
 
 pub instance-refusal-spec : {M : Type 1} → statement M
 instance-refusal-spec =

@@ -19,8 +19,9 @@ clock-ok-requires-2 c κs = search needs
 
 returns-2 : tie.Need-returns-2
 returns-2 c =
+    let a = c .before .before .before .before in
     rw (c .before .if2 .taken)
-    (all-first clockOk (c .before .before .before .before .args .s .a) (c .before .before .before .before .args .s .b ∷ []) _ (sym (c .before .before .before .clock-ok .ensures) ∙ not-false _ (c .before .before .if1 .left)) (c .clock-ok2 .ensures))
+    (all-first clockOk (a .args .s .a) (a .args .s .b ∷ []) _ (sym (c .before .before .before .clock-ok .ensures) ∙ not-false _ (c .before .before .if1 .left)) (c .clock-ok2 .ensures))
 
 returns-3 : tie.Need-returns-3
 returns-3 c =

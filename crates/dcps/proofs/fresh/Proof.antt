@@ -31,19 +31,22 @@ clear-requires : tie.Need-clear-requires
 clear-requires c κs =
     let r = c .before in
     let a = r .before .before .before .before .before .before .args in
-    omega (arith, rooms (length (a .pens .now)) (length (a .writers .now)) (length (a .lost .now)) (sym (r .before .room-ok .ensures) ∙ not-false _ (r .if1 .left)) .pens)
+    omega
+    (arith, rooms (length (a .pens .now)) (length (a .writers .now)) (length (a .lost .now)) (sym (r .before .room-ok .ensures) ∙ not-false _ (r .if1 .left)) .pens)
 
 clear-requires-2 : tie.Need-clear-requires-2
 clear-requires-2 c κs =
     let r = c .before .before .before .before .before in
     let a = r .before .before .before .before .before .before .args in
-    omega (arith, rooms (length (a .pens .now)) (length (a .writers .now)) (length (a .lost .now)) (sym (r .before .room-ok .ensures) ∙ not-false _ (r .if1 .left)) .writers)
+    omega
+    (arith, rooms (length (a .pens .now)) (length (a .writers .now)) (length (a .lost .now)) (sym (r .before .room-ok .ensures) ∙ not-false _ (r .if1 .left)) .writers)
 
 clear-requires-3 : tie.Need-clear-requires-3
 clear-requires-3 c κs =
     let r = c .before .before .before .before .before .before .before .before .before in
     let a = r .before .before .before .before .before .before .args in
-    omega (arith, rooms (length (a .pens .now)) (length (a .writers .now)) (length (a .lost .now)) (sym (r .before .room-ok .ensures) ∙ not-false _ (r .if1 .left)) .lost)
+    omega
+    (arith, rooms (length (a .pens .now)) (length (a .writers .now)) (length (a .lost .now)) (sym (r .before .room-ok .ensures) ∙ not-false _ (r .if1 .left)) .lost)
 
 refused-requires-2 : tie.Need-refused-requires-2
 refused-requires-2 c κs = search needs

@@ -7,7 +7,8 @@ use Rattle.dcps_c.proofs.dcps_call.Tie as tie
 returns : tie.Need-returns
 returns c =
     let a = c .before .before .before .before .before .before .before .before in
-    short-answer (a .args .head .now) (a .args .sheet .now) (a .args .pens .now) (a .args .writers .now) (a .args .lost .now) (a .args .out .now) (a .args .answer .now) (c .if1 .taken)
+    short-answer (a .args .head .now) (a .args .sheet .now) (a .args .pens .now) (a .args .writers .now) (a .args .lost .now) (a .args .out .now)
+    (a .args .answer .now) (c .if1 .taken)
 
 refuse-requires : tie.Need-refuse-requires
 refuse-requires c κs = search needs
@@ -19,8 +20,8 @@ returns-2 : tie.Need-returns-2
 returns-2 c =
     let a = c .before .before .before .before .before .before .before .before .before .before .before .before .before in
     let r = c .before .before in
-    short-head (a .args .head .now) (a .args .sheet .now) (a .args .pens .now) (a .args .writers .now) (a .args .lost .now) (a .args .out .now) (a .args .answer .now) _ _
-    (r .before .before .before .if1 .left) (r .before .before .if2 .taken) (r .refuse .ensures .0) (r .refuse .ensures .1)
+    short-head (a .args .head .now) (a .args .sheet .now) (a .args .pens .now) (a .args .writers .now) (a .args .lost .now) (a .args .out .now)
+    (a .args .answer .now) _ _ (r .before .before .before .if1 .left) (r .before .before .if2 .taken) (r .refuse .ensures .0) (r .refuse .ensures .1)
 
 lent-head-requires : tie.Need-lent-head-requires
 lent-head-requires c κs = search needs
@@ -55,9 +56,10 @@ returns-3 c =
     let k = s .before .before .before .before .before .before .before .before .before .before .before in
     let h = k .before .before .before .before .before in
     let a = h .before .before .before .before .before .before .before .before .before .before .before in
-    made (a .args .head .now) (a .args .sheet .now) (a .args .pens .now) (a .args .writers .now) (a .args .lost .now) (a .args .out .now) (a .args .answer .now) (h .lent-head .result) (k .call .result) (s .settle .result) _ _ _ _ _ _
-    (h .before .before .before .if1 .left) (h .before .before .if2 .left) (h .lent-head .ensures) (k .call .ensures)
-    (s .settle .ensures .0) (s .settle .ensures .1 .0) (s .settle .ensures .1 .1)
+    made (a .args .head .now) (a .args .sheet .now) (a .args .pens .now) (a .args .writers .now) (a .args .lost .now) (a .args .out .now)
+    (a .args .answer .now) (h .lent-head .result) (k .call .result) (s .settle .result) _ _ _ _ _ _ (h .before .before .before .if1 .left)
+    (h .before .before .if2 .left) (h .lent-head .ensures) (k .call .ensures) (s .settle .ensures .0) (s .settle .ensures .1 .0)
+    (s .settle .ensures .1 .1)
 
 pub dcps-call-spec : {M : Type 1} → statement M
 dcps-call-spec =

@@ -17,7 +17,9 @@ same-length : tie.Need-same-length
 same-length c = search needs
 
 returns : tie.Need-returns
-returns c = let t = c .before .before in handled _ _ (t .tell .ensures) (t .before .handle-answer .ensures) (t .before .before .before .handle-at-position .ensures)
+returns c =
+    let t = c .before .before in
+    handled _ _ (t .tell .ensures) (t .before .handle-answer .ensures) (t .before .before .before .handle-at-position .ensures)
 
 pub dcps-handle-at-position-spec : {M : Type 1} → statement M
 dcps-handle-at-position-spec =

@@ -17,7 +17,9 @@ same-length : tie.Need-same-length
 same-length c = search needs
 
 returns : tie.Need-returns
-returns c = let t = c .before .before in decided _ _ (t .tell .ensures) (t .before .decision-answer .ensures) (t .before .before .before .would-leave-writerless .ensures)
+returns c =
+    let t = c .before .before in
+    decided _ _ (t .tell .ensures) (t .before .decision-answer .ensures) (t .before .before .before .would-leave-writerless .ensures)
 
 pub dcps-would-leave-writerless-spec : {M : Type 1} → statement M
 dcps-would-leave-writerless-spec =

@@ -16,11 +16,17 @@ returns c = let a = c .before .before .before .args in sym (lt-ltb (num (a .a)) 
 
 returns-2 : tie.Need-returns-2
 unfolding num
-returns-2 c = let a = c .before .before .before .before .before .before .args in sym (le-ltb (num (a .a)) (num (a .b)) (le-of-lt (digit-lt (2 ^ 64) (a .a .lo) (search needs) (omega arith))))
+returns-2 c =
+    let k = c .before .before .before .before .before .before in
+    let a = k .args in
+    sym (le-ltb (num (a .a)) (num (a .b)) (le-of-lt (digit-lt (2 ^ 64) (a .a .lo) (search needs) (omega arith))))
 
 returns-3 : tie.Need-returns-3
 unfolding num
-returns-3 c = let a = c .before .before .before .before .before .before .before .before .args in sym (ltb-low (2 ^ 64) (a .a .hi) (a .b .hi) (a .a .lo) (a .b .lo) (omega arith))
+returns-3 c =
+    let k = c .before .before .before .before .before .before .before .before in
+    let a = k .args in
+    sym (ltb-low (2 ^ 64) (a .a .hi) (a .b .hi) (a .a .lo) (a .b .lo) (omega arith))
 
 pub is-less-spec : {M : Type 1} → statement M
 is-less-spec = tie.close (tie.spec returns returns-2 returns-3)

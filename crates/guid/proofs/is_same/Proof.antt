@@ -10,7 +10,9 @@ use Rattle.guid.proofs.is_same.Tie as tie
 
 returns : tie.Need-returns
 unfolding num
-returns c = let a = c .before .before .before .args in sym (eqb-high (2 ^ 64) (a .a .hi) (a .b .hi) (a .a .lo) (a .b .lo) (search needs) (search needs) (c .if1 .taken))
+returns c =
+    let a = c .before .before .before .args in
+    sym (eqb-high (2 ^ 64) (a .a .hi) (a .b .hi) (a .a .lo) (a .b .lo) (search needs) (search needs) (c .if1 .taken))
 
 returns-2 : tie.Need-returns-2
 unfolding num

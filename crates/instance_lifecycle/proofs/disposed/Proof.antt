@@ -24,7 +24,10 @@ sampled-at-requires c κs = search needs
 
 returns : tie.Need-returns
 unfolding disposed
-returns c = rw (c .sampled-at .ensures, c .before .with-times .ensures, c .before .before .with-disposed-at .ensures, c .before .before .before .given-time .ensures, c .before .before .before .before .with-life .ensures, c .before .before .before .before .before .with-kind .ensures)
+returns c =
+    let k = c .before .before .before .before .before in
+    rw
+    (c .sampled-at .ensures, c .before .with-times .ensures, c .before .before .with-disposed-at .ensures, c .before .before .before .given-time .ensures, c .before .before .before .before .with-life .ensures, k .with-kind .ensures)
 
 pub disposed-spec : {M : Type 1} → statement M
 disposed-spec =

@@ -18,7 +18,9 @@ with-life-requires c κs = search needs
 
 returns : tie.Need-returns
 unfolding ensured
-returns c = rw (c .with-life .ensures, c .before .with-writer-count .ensures, c .before .before .revived-new .ensures, c .before .before .before .at-least-one .ensures)
+returns c =
+    rw
+    (c .with-life .ensures, c .before .with-writer-count .ensures, c .before .before .revived-new .ensures, c .before .before .before .at-least-one .ensures)
 
 pub ensured-spec : {M : Type 1} → statement M
 ensured-spec =

@@ -13,7 +13,9 @@ without-requires : tie.Need-without-requires
 without-requires c κs = search needs
 
 is-writerless-requires : tie.Need-is-writerless-requires
-is-writerless-requires c κs = let s = c .before .before .before .before in without-sound (s .args .g) (s .args .x) (c .without .result) (c .without .ensures) (s .pre)
+is-writerless-requires c κs =
+    let s = c .before .before .before .before in
+    without-sound (s .args .g) (s .args .x) (c .without .result) (c .without .ensures) (s .pre)
 
 returns : tie.Need-returns
 unfolding leftBy

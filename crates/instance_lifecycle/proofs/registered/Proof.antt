@@ -30,7 +30,12 @@ sampled-at-requires c κs = search needs
 
 returns : tie.Need-returns
 unfolding registered
-returns c = rw (c .sampled-at .ensures, c .before .if-present .ensures, c .before .before .with-holder .ensures, c .before .before .before .stored .ensures, c .before .before .before .before .with-life .ensures, c .before .before .before .before .before .with-writer-count .ensures, c .before .before .before .before .before .before .revived .ensures, c .before .before .before .before .before .before .before .saturating-add-u32 .ensures)
+returns c =
+    let k = c .before .before .before .before .before in
+    let l = k .before in
+    let m = l .before in
+    rw
+    (c .sampled-at .ensures, c .before .if-present .ensures, c .before .before .with-holder .ensures, c .before .before .before .stored .ensures, c .before .before .before .before .with-life .ensures, k .with-writer-count .ensures, l .revived .ensures, m .saturating-add-u32 .ensures)
 
 pub registered-spec : {M : Type 1} → statement M
 registered-spec =

@@ -19,7 +19,9 @@ sampled-at-requires c κs = search needs
 
 returns : tie.Need-returns
 unfolding unregistered
-returns c = rw (sym (c .before .before .before .runs-out .ensures) ∙ c .before .before .if1 .taken, c .sampled-at .ensures, c .before .writerless .ensures, c .before .before .before .before .counted-down .ensures)
+returns c =
+    rw
+    (sym (c .before .before .before .runs-out .ensures) ∙ c .before .before .if1 .taken, c .sampled-at .ensures, c .before .writerless .ensures, c .before .before .before .before .counted-down .ensures)
 
 sampled-at-requires-2 : tie.Need-sampled-at-requires-2
 sampled-at-requires-2 c κs = search needs

@@ -19,7 +19,9 @@ sampled-at-requires c κs = search needs
 
 returns : tie.Need-returns
 unfolding writerDropped
-returns c = rw (sym (c .before .before .before .before .left-by .ensures) ∙ c .before .before .before .if1 .taken, c .sampled-at .ensures, c .before .writerless .ensures, c .before .before .without .ensures)
+returns c =
+    rw
+    (sym (c .before .before .before .before .left-by .ensures) ∙ c .before .before .before .if1 .taken, c .sampled-at .ensures, c .before .writerless .ensures, c .before .before .without .ensures)
 
 holds-requires : tie.Need-holds-requires
 holds-requires c κs = search needs
@@ -29,7 +31,10 @@ without-requires-2 c κs = search needs
 
 returns-2 : tie.Need-returns-2
 unfolding writerDropped
-returns-2 c = rw (sym (c .before .before .before .before .left-by .ensures) ∙ c .before .before .before .if1 .left, sym (c .before .before .holds .ensures) ∙ c .before .if2 .taken) (c .without2 .ensures)
+returns-2 c =
+    rw
+    (sym (c .before .before .before .before .left-by .ensures) ∙ c .before .before .before .if1 .left, sym (c .before .before .holds .ensures) ∙ c .before .if2 .taken)
+    (c .without2 .ensures)
 
 returns-3 : tie.Need-returns-3
 unfolding writerDropped

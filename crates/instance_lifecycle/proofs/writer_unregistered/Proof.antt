@@ -22,9 +22,11 @@ sampled-at-requires c κs = search needs
 returns : tie.Need-returns
 unfolding writerUnregistered
 returns c =
-    let s = c .before .before .before .before .before in
-    let t = sym (without-left (s .args .g) (s .args .x) (c .before .before .before .before .without .result) (c .before .before .before .before .without .ensures)) ∙ sym (c .before .before .before .is-writerless .ensures) ∙ c .before .before .if1 .taken in
-    rw (t, c .sampled-at .ensures, c .before .writerless .ensures, c .before .before .before .before .without .ensures)
+    let k = c .before .before .before .before in
+    let s = k .before in
+    let t = sym (without-left (s .args .g) (s .args .x) (k .without .result) (k .without .ensures)) ∙ sym
+    (c .before .before .before .is-writerless .ensures) ∙ c .before .before .if1 .taken in
+    rw (t, c .sampled-at .ensures, c .before .writerless .ensures, k .without .ensures)
 
 sampled-at-requires-2 : tie.Need-sampled-at-requires-2
 sampled-at-requires-2 c κs = search needs
@@ -32,9 +34,11 @@ sampled-at-requires-2 c κs = search needs
 returns-2 : tie.Need-returns-2
 unfolding writerUnregistered
 returns-2 c =
+    let k = c .before .before .before in
     let s = c .before .before .before .before in
-    let t = sym (without-left (s .args .g) (s .args .x) (c .before .before .before .without .result) (c .before .before .before .without .ensures)) ∙ sym (c .before .before .is-writerless .ensures) ∙ c .before .if1 .left in
-    rw t (c .sampled-at2 .ensures ∙ ap (λ (z : InstanceState). sampledAt (s .args .at) z) (c .before .before .before .without .ensures))
+    let t = sym (without-left (s .args .g) (s .args .x) (k .without .result) (k .without .ensures)) ∙ sym (c .before .before .is-writerless .ensures)
+    ∙ c .before .if1 .left in
+    rw t (c .sampled-at2 .ensures ∙ ap (λ (z : InstanceState). sampledAt (s .args .at) z) (k .without .ensures))
 
 pub writer-unregistered-spec : {M : Type 1} → statement M
 writer-unregistered-spec =

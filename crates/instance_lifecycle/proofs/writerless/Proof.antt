@@ -19,7 +19,9 @@ with-times-requires : tie.Need-with-times-requires
 with-times-requires c κs = search needs
 
 returns : tie.Need-returns
-returns c = rw (c .with-times .ensures, c .before .with-no-writers-at .ensures, c .before .before .given-time .ensures, c .before .before .before .with-life .ensures, c .before .before .before .before .with-kind .ensures)
+returns c =
+    rw
+    (c .with-times .ensures, c .before .with-no-writers-at .ensures, c .before .before .given-time .ensures, c .before .before .before .with-life .ensures, c .before .before .before .before .with-kind .ensures)
 
 pub writerless-spec : {M : Type 1} → statement M
 writerless-spec =

@@ -17,7 +17,10 @@ deadline-missed-requires c κs = search needs
 
 returns-2 : tie.Need-returns-2
 unfolding takesOver
-returns-2 c = rw (sym (c .before .before .before .before .before .before .outbids .ensures) ∙ c .before .before .before .before .before .if1 .left, c .before .if2 .taken) (c .deadline-missed .ensures)
+returns-2 c =
+    let k = c .before .before .before .before .before in
+    let l = k .before in
+    rw (sym (l .outbids .ensures) ∙ k .if1 .left, c .before .if2 .taken) (c .deadline-missed .ensures)
 
 returns-3 : tie.Need-returns-3
 unfolding takesOver

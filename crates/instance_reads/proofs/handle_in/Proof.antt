@@ -17,7 +17,8 @@ handle-at-requires c κs =
 
 returns-2 : tie.Need-returns-2
 returns-2 c =
-    handle-here _ _ (c .before .before .before .before .args .position) (omega (arith, c .before .before .used .ensures, c .before .if1 .left)) _ (c .handle-at .ensures)
+    handle-here _ _ (c .before .before .before .before .args .position) (omega (arith, c .before .before .used .ensures, c .before .if1 .left)) _
+    (c .handle-at .ensures)
 
 pub handle-in-spec : {M : Type 1} → statement M
 handle-in-spec = tie.close (tie.spec used-requires returns handle-at-requires returns-2)

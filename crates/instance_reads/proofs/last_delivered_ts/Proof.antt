@@ -28,7 +28,8 @@ of-bits-requires c κs = search needs
 returns-3 : tie.Need-returns-3
 returns-3 c =
     let h = c .before .before .before .before in
-    delivered-is _ _ _ _ (h .before .table-refusal .ensures) _ (c .before .before .before .times-of .ensures) (h .if1 .left) (not-false _ (c .before .if2 .left)) _ (toZ-ofZ w32 (c .of-bits .result) (record { sfits = c .of-bits .ok }) ∙ c .of-bits .ensures)
+    delivered-is _ _ _ _ (h .before .table-refusal .ensures) _ (c .before .before .before .times-of .ensures) (h .if1 .left)
+    (not-false _ (c .before .if2 .left)) _ (toZ-ofZ w32 (c .of-bits .result) (record { sfits = c .of-bits .ok }) ∙ c .of-bits .ensures)
 
 pub last-delivered-ts-spec : {M : Type 1} → statement M
 last-delivered-ts-spec =

@@ -26,9 +26,10 @@ list-all-left-requires c κs =
 
 cast-t12 : tie.Need-cast-t12
 cast-t12 c =
+    let a = c .before .before .before .before .before .before .before .before .before .before in
     let h = c .before .before .before .before in
     let r = list-free _ _ _ (sym (h .before .list-refusal .ensures) ∙ h .if2 .left) in
-    omega (arith, listed-few (c .before .before .list-all-left .ensures), count-table 128 (c .before .before .before .before .before .before .before .before .before .before .args .pens .now), whole _ _ r .few)
+    omega (arith, listed-few (c .before .before .list-all-left .ensures), count-table 128 (a .args .pens .now), whole _ _ r .few)
 
 same-length : tie.Need-same-length
 same-length c = search needs
@@ -36,7 +37,8 @@ same-length c = search needs
 returns-3 : tie.Need-returns-3
 returns-3 c =
     let h = c .before .before .before .before in
-    left-listed _ _ _ _ _ (left-number _ _ _ _ (h .before .before .if1 .left) _ (h .before .list-refusal .ensures)) _ (h .if2 .left) _ _ (c .before .before .list-all-left .ensures)
+    left-listed _ _ _ _ _ (left-number _ _ _ _ (h .before .before .if1 .left) _ (h .before .list-refusal .ensures)) _ (h .if2 .left) _ _
+    (c .before .before .list-all-left .ensures)
 
 pub left-writerless-spec : {M : Type 1} → statement M
 left-writerless-spec =

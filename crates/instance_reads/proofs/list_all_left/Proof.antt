@@ -30,8 +30,9 @@ loop-holds c = let s = c .before .before .before .before in
 
 list-left-requires : tie.Need-list-left-requires Inv-loop μ-loop
 list-left-requires c κs =
-    let s = c .before .before .before .before .before .before .before in
-    let i = c .before .before .loop .i in
+    let k = c .before .before in
+    let s = k .before .before .before .before .before in
+    let i = k .loop .i in
     let u = c .before .before .before .used .ensures in
     let n = count-table (s .args .places) (s .args .pens .now) in
     let w = whole _ _ (s .pre .0) .few in
@@ -39,7 +40,7 @@ list-left-requires c κs =
       room-at _ _ (s .pre .0) i h,
       valid-at _ _ (s .pre .0) i h,
       s .pre .1,
-      listed-room (tableOf (s .args .places) (s .args .pens .now)) i (c .before .before .loop .inv .1) (omega arith) (s .args .places) (omega arith) (s .pre .2),
+      listed-room (tableOf (s .args .places) (s .args .pens .now)) i (k .loop .inv .1) (omega arith) (s .args .places) (omega arith) (s .pre .2),
     )
 
 add-i : tie.Need-add-i Inv-loop μ-loop
@@ -50,9 +51,11 @@ loop-less c = omega arith
 
 loop-again : tie.Need-loop-again Inv-loop μ-loop
 loop-again c =
-    let s = c .before .before .before .before .before .before .before .before .before .before in
-    let l = c .before .before .before .before .before .loop in
-    let u = c .before .before .before .before .before .before .used .ensures in
+    let k = c .before .before .before .before .before in
+    let m = k .before in
+    let s = m .before .before .before .before in
+    let l = k .loop in
+    let u = m .used .ensures in
     let xs = tableOf (s .args .places) (s .args .pens .now) in
     let n = count-table (s .args .places) (s .args .pens .now) in
     let w = whole _ _ (s .pre .0) .few in
@@ -60,7 +63,8 @@ loop-again c =
     let h : l .i < usedIn (s .args .places) (s .args .pens .now) = omega (arith, u) in
     let p = c .before .before .list-left .ensures in (
       omega arith,
-      listed-turn xs (l .i) (l .inv .1) (omega arith) (omega arith) (instanceOf []) _ (sym (at-place (s .args .places) (s .args .pens .now) (l .i) (instanceOf []) h)) _ _ (p .0) (p .1),
+      listed-turn xs (l .i) (l .inv .1) (omega arith) (omega arith) (instanceOf []) _
+          (sym (at-place (s .args .places) (s .args .pens .now) (l .i) (instanceOf []) h)) _ _ (p .0) (p .1),
     )
 
 same-length : tie.Need-same-length Inv-loop μ-loop

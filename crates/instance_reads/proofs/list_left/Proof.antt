@@ -56,11 +56,12 @@ same-length c = search needs
 
 returns-2 : tie.Need-returns-2
 returns-2 c =
-    let s = c .before .before .before .before .before .before .before .before .before .before .before in
+    let k = c .before .before .before .before .before in
+    let l = k .before in
+    let s = l .before .before .before .before .before in
     let p = leftWith (guidsIn (s .args .m) (s .args .gone .now)) (s .args .view-states) in
-    list-add _ _ _ _ _ (part-told p _ (s .args .i) _ (c .before .before .before .before .before .before .left-with .ensures) ∙ not-false _ (c .before .before .before .before .before .if1 .left))
-    (c .before .before .put-u64 .ensures
-    ∙ ap (λ (h : InstanceHandle). put 8 (s .args .out .now) (s .args .k * 8) (h .0)) (c .before .before .before .before .handle-at .ensures))
+    list-add _ _ _ _ _ (part-told p _ (s .args .i) _ (l .left-with .ensures) ∙ not-false _ (k .if1 .left))
+    (c .before .before .put-u64 .ensures ∙ ap (λ (h : InstanceHandle). put 8 (s .args .out .now) (s .args .k * 8) (h .0)) (c .before .before .before .before .handle-at .ensures))
 
 pub list-left-spec : {M : Type 1} → statement M
 list-left-spec =

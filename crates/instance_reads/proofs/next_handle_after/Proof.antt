@@ -17,7 +17,9 @@ handle-in-requires : tie.Need-handle-in-requires
 handle-in-requires c κs = search needs
 
 returns-2 : tie.Need-returns-2
-returns-2 c = next-first _ _ _ (c .before .before .before .table-refusal .ensures) (c .before .before .if1 .left) _ _ (c .before .if2 .taken) (c .handle-in .ensures)
+returns-2 c =
+    next-first _ _ _ (c .before .before .before .table-refusal .ensures) (c .before .before .if1 .left) _ _ (c .before .if2 .taken)
+    (c .handle-in .ensures)
 
 used-requires : tie.Need-used-requires
 used-requires c κs = whole _ _ (sym (c .before .before .table-refusal .ensures) ∙ c .before .if1 .left) .size
@@ -30,7 +32,8 @@ find-handle-requires c κs =
 add-handle-in : tie.Need-add-handle-in
 add-handle-in c =
     let h = c .before .before .before in
-    omega (arith, whole _ _ (sym (h .before .table-refusal .ensures) ∙ h .if1 .left) .few, c .before .used .ensures, place-few _ _ _ _ (c .find-handle .ensures))
+    omega
+    (arith, whole _ _ (sym (h .before .table-refusal .ensures) ∙ h .if1 .left) .few, c .before .used .ensures, place-few _ _ _ _ (c .find-handle .ensures))
 
 handle-in-requires-2 : tie.Need-handle-in-requires-2
 handle-in-requires-2 c κs = search needs
@@ -38,7 +41,8 @@ handle-in-requires-2 c κs = search needs
 returns-3 : tie.Need-returns-3
 returns-3 c =
     let h = c .before .before .before in
-    next-after _ _ _ (h .before .before .table-refusal .ensures) (h .before .if1 .left) _ _ (h .if2 .left) _ _ (c .before .before .used .ensures) (c .before .find-handle .ensures) (c .handle-in2 .ensures)
+    next-after _ _ _ (h .before .before .table-refusal .ensures) (h .before .if1 .left) _ _ (h .if2 .left) _ _ (c .before .before .used .ensures)
+    (c .before .find-handle .ensures) (c .handle-in2 .ensures)
 
 pub next-handle-after-spec : {M : Type 1} → statement M
 next-handle-after-spec =

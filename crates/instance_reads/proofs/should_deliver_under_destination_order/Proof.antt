@@ -27,7 +27,8 @@ order-admits-requires c κs = search needs
 returns-3 : tie.Need-returns-3
 returns-3 c =
     let h = c .before .before .before .before .before in
-    order-is _ _ _ _ _ (h .before .time-refusal .ensures) _ (c .before .before .before .times-of .ensures) _ (c .before .bits-of-time .ensures) _ _ (h .if1 .left) (not-false _ (c .before .before .before .before .if2 .left)) (c .order-admits .ensures)
+    order-is _ _ _ _ _ (h .before .time-refusal .ensures) _ (c .before .before .before .times-of .ensures) _ (c .before .bits-of-time .ensures) _ _
+    (h .if1 .left) (not-false _ (c .before .before .before .before .if2 .left)) (c .order-admits .ensures)
 
 pub should-deliver-under-destination-order-spec : {M : Type 1} → statement M
 should-deliver-under-destination-order-spec =

@@ -23,7 +23,8 @@ filter-admits-requires c κs = search needs
 returns-2 : tie.Need-returns-2
 returns-2 c =
     let h = c .before .before .before .before in
-    filter-is _ _ _ _ _ (h .before .time-refusal .ensures) _ (c .before .before .before .times-of .ensures) _ (c .before .bits-of-time .ensures) _ _ (h .if1 .left) (c .filter-admits .ensures)
+    filter-is _ _ _ _ _ (h .before .time-refusal .ensures) _ (c .before .before .before .times-of .ensures) _ (c .before .bits-of-time .ensures) _ _
+    (h .if1 .left) (c .filter-admits .ensures)
 
 pub should-deliver-under-time-based-filter-spec : {M : Type 1} → statement M
 should-deliver-under-time-based-filter-spec =

@@ -26,9 +26,11 @@ no-time-requires c κs = search needs
 
 returns : tie.Need-returns
 returns c =
+    let k = c .before .before in
     let i = c .before .before .before .before in
     let l = i .before .before in
-    times-here _ (c .before .before .instance-at .result) (found-here _ _ (l .before .before .pre) _ _ _ (l .locate .ensures) (i .i .given .1) ∙ ap some (sym (c .before .before .instance-at .ensures)))
+    times-here _ (k .instance-at .result)
+    (found-here _ _ (l .before .before .pre) _ _ _ (l .locate .ensures) (i .i .given .1) ∙ ap some (sym (k .instance-at .ensures)))
 
 returns-2 : tie.Need-returns-2
 returns-2 c =

@@ -21,7 +21,9 @@ with-times-requires c κs = search needs
 
 returns : tie.Need-returns
 unfolding admittedNoted
-returns c = rw (c .with-times .ensures, c .before .with-delivery .ensures, c .before .before .always2 .ensures, c .before .before .before .always .ensures, c .before .before .before .before .writer-noted .ensures)
+returns c =
+    rw
+    (c .with-times .ensures, c .before .with-delivery .ensures, c .before .before .always2 .ensures, c .before .before .before .always .ensures, c .before .before .before .before .writer-noted .ensures)
 
 pub admitted-noted-spec : {M : Type 1} → statement M
 admitted-noted-spec =

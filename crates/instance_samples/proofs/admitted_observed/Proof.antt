@@ -30,7 +30,12 @@ counted-requires c κs = search needs
 
 returns : tie.Need-returns
 unfolding admittedObserved
-returns c = rw (c .counted .ensures, c .before .sampled-at .ensures, c .before .before .always .ensures, c .before .before .before .with-holder .ensures, c .before .before .before .before .given-holder .ensures, c .before .before .before .before .before .stored .ensures, c .before .before .before .before .before .before .with-life .ensures, c .before .before .before .before .before .before .before .revived-new .ensures)
+returns c =
+    let k = c .before .before .before .before .before in
+    let l = k .before in
+    let m = l .before in
+    rw
+    (c .counted .ensures, c .before .sampled-at .ensures, c .before .before .always .ensures, c .before .before .before .with-holder .ensures, c .before .before .before .before .given-holder .ensures, k .stored .ensures, l .with-life .ensures, m .revived-new .ensures)
 
 pub admitted-observed-spec : {M : Type 1} → statement M
 admitted-observed-spec =

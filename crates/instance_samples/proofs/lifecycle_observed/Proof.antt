@@ -21,7 +21,9 @@ counted-requires c κs = search needs
 
 returns : tie.Need-returns
 unfolding lifecycleObserved
-returns c = rw (c .counted .ensures, c .before .sampled-at .ensures, c .before .before .if-present .ensures, c .before .before .before .with-holder .ensures, c .before .before .before .before .given-holder .ensures)
+returns c =
+    rw
+    (c .counted .ensures, c .before .sampled-at .ensures, c .before .before .if-present .ensures, c .before .before .before .with-holder .ensures, c .before .before .before .before .given-holder .ensures)
 
 pub lifecycle-observed-spec : {M : Type 1} → statement M
 lifecycle-observed-spec =

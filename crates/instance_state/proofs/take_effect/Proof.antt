@@ -217,19 +217,27 @@ returns-2 : tie.Need-returns-2
 returns-2 c = rw (c .before .before .enum-told2 .given .1) (c .kept2 .ensures ∙ ap some (c .before .ensured .ensures))
 
 returns-3 : tie.Need-returns-3
-returns-3 c = rw (c .before .before .before .enum-told3 .given .1, ← c .before .before .if-present .ensures) (c .kept3 .ensures ∙ ap some (c .before .disposed .ensures))
+returns-3 c =
+    rw (c .before .before .before .enum-told3 .given .1, ← c .before .before .if-present .ensures)
+    (c .kept3 .ensures ∙ ap some (c .before .disposed .ensures))
 
 returns-4 : tie.Need-returns-4
-returns-4 c = rw (c .before .before .before .enum-told4 .given .1, ← c .before .before .if-present2 .ensures) (c .kept4 .ensures ∙ ap some (c .before .unregistered .ensures))
+returns-4 c =
+    rw (c .before .before .before .enum-told4 .given .1, ← c .before .before .if-present2 .ensures)
+    (c .kept4 .ensures ∙ ap some (c .before .unregistered .ensures))
 
 returns-5 : tie.Need-returns-5
-returns-5 c = rw (c .before .before .before .enum-told5 .given .1, ← c .before .before .if-present3 .ensures) (c .kept5 .ensures ∙ ap some (c .before .writer-unregistered .ensures))
+returns-5 c =
+    rw (c .before .before .before .enum-told5 .given .1, ← c .before .before .if-present3 .ensures)
+    (c .kept5 .ensures ∙ ap some (c .before .writer-unregistered .ensures))
 
 returns-6 : tie.Need-returns-6
 returns-6 c = rw (c .before .before .enum-told6 .given .1) (c .kept6 .ensures ∙ ap some (c .before .writer-noted .ensures))
 
 returns-7 : tie.Need-returns-7
-returns-7 c = rw (c .before .before .before .enum-told7 .given .1, ← c .before .before .if-present4 .ensures) (c .kept7 .ensures ∙ ap some (c .before .writer-dropped .ensures))
+returns-7 c =
+    rw (c .before .before .before .enum-told7 .given .1, ← c .before .before .if-present4 .ensures)
+    (c .kept7 .ensures ∙ ap some (c .before .writer-dropped .ensures))
 
 returns-8 : tie.Need-returns-8
 returns-8 c = rw (c .before .before .enum-told8 .given .1) (c .kept8 .ensures ∙ ap some (c .before .lifecycle-observed .ensures))
@@ -241,10 +249,14 @@ returns-10 : tie.Need-returns-10
 returns-10 c = rw (c .before .before .enum-told10 .given .1) (c .kept10 .ensures ∙ ap some (c .before .admitted-noted .ensures))
 
 returns-11 : tie.Need-returns-11
-returns-11 c = rw (c .before .before .before .enum-told11 .given .1, ← c .before .before .always .ensures) (c .kept11 .ensures ∙ ap some (c .before .delivery-recorded .ensures))
+returns-11 c =
+    rw (c .before .before .before .enum-told11 .given .1, ← c .before .before .always .ensures)
+    (c .kept11 .ensures ∙ ap some (c .before .delivery-recorded .ensures))
 
 returns-12 : tie.Need-returns-12
-returns-12 c = rw (c .before .before .before .enum-told12 .given .1, ← c .before .before .drained .ensures) (c .kept12 .ensures ∙ ap some (c .before .viewed .ensures))
+returns-12 c =
+    rw (c .before .before .before .enum-told12 .given .1, ← c .before .before .drained .ensures)
+    (c .kept12 .ensures ∙ ap some (c .before .viewed .ensures))
 
 returns-13 : tie.Need-returns-13
 returns-13 c = rw (c .before .before .enum-told13 .given .1) (c .kept13 .ensures ∙ ap some (c .before .viewed2 .ensures))

@@ -16,10 +16,12 @@ same-length c = search needs
 
 returns : tie.Need-returns
 returns c =
-    let s = c .before .before .before .before .before .before .before .before .before in
-    let g = c .before .before .before .before .before .before .open-gap in
+    let k = c .before .before .before .before .before .before in
+    let s = k .before .before .before in
+    let g = k .open-gap in
     let p = c .before .before .put-instance in
-    inserted (s .args .t .now) (g .last .0) (p .last .0) (s .args .count) (s .args .at) (s .args .x) (g .ensures) (p .ensures) (search needs) (omega arith) (s .pre .0)
+    inserted (s .args .t .now) (g .last .0) (p .last .0) (s .args .count) (s .args .at) (s .args .x) (g .ensures) (p .ensures) (search needs)
+    (omega arith) (s .pre .0)
 
 pub insert-spec : {M : Type 1} → statement M
 insert-spec = tie.close (tie.spec open-gap-requires put-instance-requires same-length returns)

@@ -72,13 +72,19 @@ returns-4 : tie.Need-returns-4
 returns-4 c = rw (sym (c .before .before .before .says-of .ensures) ∙ c .before .enum-told4 .given .1) (c .samples-of .ensures)
 
 returns-5 : tie.Need-returns-5
-returns-5 c = rw (sym (c .before .before .before .before .says-of .ensures) ∙ c .before .before .enum-told5 .given .1) (c .informed .ensures ∙ ap informed (c .before .info-of .ensures))
+returns-5 c =
+    rw (sym (c .before .before .before .before .says-of .ensures) ∙ c .before .before .enum-told5 .given .1)
+    (c .informed .ensures ∙ ap informed (c .before .info-of .ensures))
 
 returns-6 : tie.Need-returns-6
-returns-6 c = rw (sym (c .before .before .before .before .says-of .ensures) ∙ c .before .before .enum-told6 .given .1) (c .saying2 .ensures ∙ ap saying (c .before .takes-over .ensures))
+returns-6 c =
+    rw (sym (c .before .before .before .before .says-of .ensures) ∙ c .before .before .enum-told6 .given .1)
+    (c .saying2 .ensures ∙ ap saying (c .before .takes-over .ensures))
 
 returns-7 : tie.Need-returns-7
-returns-7 c = rw (sym (c .before .before .before .before .says-of .ensures) ∙ c .before .before .enum-told7 .given .1) (c .saying3 .ensures ∙ ap saying (c .before .owned .ensures))
+returns-7 c =
+    rw (sym (c .before .before .before .before .says-of .ensures) ∙ c .before .before .enum-told7 .given .1)
+    (c .saying3 .ensures ∙ ap saying (c .before .owned .ensures))
 
 pub answered-spec : {M : Type 1} → statement M
 answered-spec =

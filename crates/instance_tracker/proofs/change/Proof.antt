@@ -38,7 +38,9 @@ acted-requires c κs =
     )
 
 replace-requires : tie.Need-replace-requires
-replace-requires c κs = let a = c .before .before .before .before .before .before .before in (reached-place (a .args .next) (a .pre .0) (a .pre .1), c .before .acted .ensures .few)
+replace-requires c κs =
+    let a = c .before .before .before .before .before .before .before in
+    (reached-place (a .args .next) (a .pre .0) (a .pre .1), c .before .acted .ensures .few)
 
 answered-requires : tie.Need-answered-requires
 answered-requires c κs = search needs

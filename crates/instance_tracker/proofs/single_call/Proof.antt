@@ -17,7 +17,9 @@ returns : tie.Need-returns
 returns c = c .before .before .by-handle .ensures
 
 by-key-requires : tie.Need-by-key-requires
-by-key-requires c κs = let a = c .before .before .before .before in (a .pre .0, a .pre .1, sym (c .before .before .reaches-by-handle .ensures) ∙ c .before .if1 .left)
+by-key-requires c κs =
+    let a = c .before .before .before .before in
+    (a .pre .0, a .pre .1, sym (c .before .before .reaches-by-handle .ensures) ∙ c .before .if1 .left)
 
 same-length-2 : tie.Need-same-length-2
 same-length-2 c = search needs

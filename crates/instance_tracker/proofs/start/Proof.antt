@@ -15,7 +15,9 @@ started-requires : tie.Need-started-requires
 started-requires c κs = search needs
 
 acted-requires : tie.Need-acted-requires
-acted-requires c κs = let a = c .before .before .before .before .before in starts-asked (a .args .next) (a .pre .0) (a .pre .1) (c .before .before .allocate-step .result .handle .0) (c .started .ensures)
+acted-requires c κs =
+    let a = c .before .before .before .before .before in
+    starts-asked (a .args .next) (a .pre .0) (a .pre .1) (c .before .before .allocate-step .result .handle .0) (c .started .ensures)
 
 insert-requires : tie.Need-insert-requires
 insert-requires c κs =

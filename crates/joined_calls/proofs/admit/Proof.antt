@@ -15,8 +15,9 @@ refused-requires c κs = search needs
 
 returns : tie.Need-returns
 returns c =
+    let k = c .before .before in
     let a = c .before .before .before .before .args in
-    λ writers lost out e. sheet-refused Admit (a .s) (a .head) (c .before .before .admit-refusal .result) (c .refused .result) (c .before .before .admit-refusal .ensures)
+    λ writers lost out e. sheet-refused Admit (a .s) (a .head) (k .admit-refusal .result) (c .refused .result) (k .admit-refusal .ensures)
     (c .before .if1 .taken) (c .refused .ensures) (a .places) (a .pens .now) writers lost out
 
 admit-requires : tie.Need-admit-requires

@@ -16,9 +16,11 @@ refused-requires c κs = search needs
 
 returns : tie.Need-returns
 returns c =
-    let a = c .before .before .before .before .before .before .args in
-    λ places lost e. sheet-refused Depart (a .s) (a .head) (c .before .before .leave-refusal .result) (c .refused .result)
-    (λ st. c .before .before .leave-refusal .ensures st .1) (c .before .if1 .taken) (c .refused .ensures) places (a .pens .now) (a .writers .now) lost (a .out .now)
+    let k = c .before .before in
+    let l = k .before .before .before .before in
+    let a = l .args in
+    λ places lost e. sheet-refused Depart (a .s) (a .head) (k .leave-refusal .result) (c .refused .result) (λ st. k .leave-refusal .ensures st .1)
+    (c .before .if1 .taken) (c .refused .ensures) places (a .pens .now) (a .writers .now) lost (a .out .now)
 
 lost-with-participant-requires : tie.Need-lost-with-participant-requires
 lost-with-participant-requires c κs = search needs
@@ -28,7 +30,8 @@ lose-writer-requires c κs =
     let called = c .before .before .before .before in
     let start = called .before .before .before .before .before .before .before in
     let a = start .args in
-    kept-losable LostWithParticipant (a .s) (a .head) (a .pens .now) (a .writers .now) (a .out .now) (called .lost-with-participant .result) (called .lost-with-participant .last .1 .1 .0) (called .lost-with-participant .ensures) (start .pre .1)
+    kept-losable LostWithParticipant (a .s) (a .head) (a .pens .now) (a .writers .now) (a .out .now) (called .lost-with-participant .result)
+    (called .lost-with-participant .last .1 .1 .0) (called .lost-with-participant .ensures) (start .pre .1)
 
 same-length : tie.Need-same-length
 same-length c = search needs
@@ -45,9 +48,10 @@ returns-2 c =
     let called = lost .before .before .before .before .before in
     let test = called .before .before in
     let a = test .before .before .before .before .before .args in
-    leave-left Depart (a .s) (a .head) (a .pens .now) (a .writers .now) (a .out .now) LostWithParticipant (λ places st. refl) (λ st. refl) (λ gone lost. refl)
-    (λ st. sym (test .if1 .left) ∙ test .before .leave-refusal .ensures st .1) (called .lost-with-participant .result) (lost .lose-writer .result) (lost .lose-writer .last .1 .1 .0)
-    (called .lost-with-participant .last .1 .1 .0) (lost .lose-writer .last .1 .1 .1 .0) (called .lost-with-participant .ensures) (lost .lose-writer .ensures)
+    leave-left Depart (a .s) (a .head) (a .pens .now) (a .writers .now) (a .out .now) LostWithParticipant (λ places st. refl) (λ st. refl)
+    (λ gone lost. refl) (λ st. sym (test .if1 .left) ∙ test .before .leave-refusal .ensures st .1) (called .lost-with-participant .result)
+    (lost .lose-writer .result) (lost .lose-writer .last .1 .1 .0) (called .lost-with-participant .last .1 .1 .0)
+    (lost .lose-writer .last .1 .1 .1 .0) (called .lost-with-participant .ensures) (lost .lose-writer .ensures)
 
 pub depart-spec : {M : Type 1} → statement M
 depart-spec =

@@ -22,8 +22,12 @@ lapse-requires : tie.Need-lapse-requires
 lapse-requires c κs =
     let start = c .before .before .before .before .before .before .before .before .before .before in
     let a = start .args in
-    let l = lentOf (a .head) (a .pens .now) (a .writers .now) (a .lost .now) (a .out .now) in
-    (entered-held (a .places) l (start .pre .1), entered-losable (a .places) l (start .pre .1) (start .pre .0), start .pre .1 .lost, parts (a .places) l (start .pre .1) .lost)
+    let l = lentOf (a .head) (a .pens .now) (a .writers .now) (a .lost .now) (a .out .now) in (
+      entered-held (a .places) l (start .pre .1),
+      entered-losable (a .places) l (start .pre .1) (start .pre .0),
+      start .pre .1 .lost,
+      parts (a .places) l (start .pre .1) .lost,
+    )
 
 enum-told-3 : tie.Need-enum-told-3
 enum-told-3 c = search needs

@@ -33,8 +33,8 @@ returns-2 c =
     let r = c .before .before .before .before .before .before .before in
     let test = r .before .before .before in
     let a = test .before .before .before .before .before .before .args in
-    lapse-stays (a .s) (a .head) (a .pens .now) (a .writers .now) (a .lost .now) (a .out .now) (r .expire .result) (r .expire .last .1 .1 .0) (r .expire .last .1 .1 .1 .0)
-    (r .expire .ensures) (λ st. sym (test .if1 .left) ∙ test .before .lapse-refusal .ensures st) (c .if2 .taken)
+    lapse-stays (a .s) (a .head) (a .pens .now) (a .writers .now) (a .lost .now) (a .out .now) (r .expire .result) (r .expire .last .1 .1 .0)
+    (r .expire .last .1 .1 .1 .0) (r .expire .ensures) (λ st. sym (test .if1 .left) ∙ test .before .lapse-refusal .ensures st) (c .if2 .taken)
 
 lose-expired-requires : tie.Need-lose-expired-requires
 lose-expired-requires c κs =
@@ -42,8 +42,14 @@ lose-expired-requires c κs =
     let start = r .before .before .before .before .before .before .before .before .before in
     let a = start .args in
     let e = r .expire in
-    let n = lapse-counts (a .s) (a .head) (a .pens .now) (a .writers .now) (a .lost .now) (a .out .now) (e .result) (e .last .1 .1 .0) (e .last .1 .1 .1 .0) (e .ensures) (c .before .before .before .if2 .left) in
-    (lapse-losable (a .s) (a .head) (a .pens .now) (a .writers .now) (a .lost .now) (a .out .now) (e .result) (e .last .1 .1 .0) (e .last .1 .1 .1 .0) (e .ensures) (start .pre .1), search needs, n .0, n .1)
+    let n = lapse-counts (a .s) (a .head) (a .pens .now) (a .writers .now) (a .lost .now) (a .out .now) (e .result) (e .last .1 .1 .0)
+    (e .last .1 .1 .1 .0) (e .ensures) (c .before .before .before .if2 .left) in (
+      lapse-losable (a .s) (a .head) (a .pens .now) (a .writers .now) (a .lost .now) (a .out .now) (e .result) (e .last .1 .1 .0)
+          (e .last .1 .1 .1 .0) (e .ensures) (start .pre .1),
+      search needs,
+      n .0,
+      n .1,
+    )
 
 same-length-3 : tie.Need-same-length-3
 same-length-3 c = search needs
@@ -65,8 +71,9 @@ returns-3 c =
     let a = test .before .before .before .before .before .before .args in
     let e = r .expire in
     let l = lost .lose-expired in
-    lapse-left (a .s) (a .head) (a .pens .now) (a .writers .now) (a .lost .now) (a .out .now) (e .result) (e .last .1 .1 .0) (e .last .1 .1 .1 .0) (e .ensures)
-    (λ st. sym (test .if1 .left) ∙ test .before .lapse-refusal .ensures st) (lost .before .before .before .before .if2 .left) (l .result) (l .last .1 .1 .0) (l .last .1 .1 .1 .1 .0) (l .ensures)
+    lapse-left (a .s) (a .head) (a .pens .now) (a .writers .now) (a .lost .now) (a .out .now) (e .result) (e .last .1 .1 .0) (e .last .1 .1 .1 .0)
+    (e .ensures) (λ st. sym (test .if1 .left) ∙ test .before .lapse-refusal .ensures st) (lost .before .before .before .before .if2 .left) (l .result)
+    (l .last .1 .1 .0) (l .last .1 .1 .1 .1 .0) (l .ensures)
 
 pub lapse-spec : {M : Type 1} → statement M
 lapse-spec =

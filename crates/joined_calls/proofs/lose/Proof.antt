@@ -20,7 +20,8 @@ cast-with-list c =
     let start = passed .before .before .before .before .before .before .before .before .before in
     let a = start .args in
     let p = passed .pass in
-    let w = loss-few (a .s) (a .gone .now) (a .called .head .«instance_count») (a .pens .now) (a .out .now) (p .last .0) (p .last .1 .0) (p .result) (p .ensures) (start .pre .1) (start .pre .0) in
+    let w = loss-few (a .s) (a .gone .now) (a .called .head .«instance_count») (a .pens .now) (a .out .now) (p .last .0) (p .last .1 .0) (p .result)
+    (p .ensures) (start .pre .1) (start .pre .0) in
     omega (arith, w .counted)
 
 cast-with-list-2 : tie.Need-cast-with-list-2
@@ -29,7 +30,8 @@ cast-with-list-2 c =
     let start = passed .before .before .before .before .before .before .before .before .before in
     let a = start .args in
     let p = passed .pass in
-    let w = loss-few (a .s) (a .gone .now) (a .called .head .«instance_count») (a .pens .now) (a .out .now) (p .last .0) (p .last .1 .0) (p .result) (p .ensures) (start .pre .1) (start .pre .0) in
+    let w = loss-few (a .s) (a .gone .now) (a .called .head .«instance_count») (a .pens .now) (a .out .now) (p .last .0) (p .last .1 .0) (p .result)
+    (p .ensures) (start .pre .1) (start .pre .0) in
     omega (arith, w .listed)
 
 with-list-requires : tie.Need-with-list-requires
@@ -46,8 +48,8 @@ returns c =
     let passed = c .before .before .before .before .before .before .before in
     let a = passed .before .before .before .before .before .before .before .before .before .args in
     let p = passed .pass in
-    loss-passed (a .s) (a .gone .now) (a .called .head .«instance_count») (a .pens .now) (a .out .now) (p .last .0) (p .last .1 .0) (p .result) (p .ensures) (a .called)
-    (c .with-list .result) (c .with-list .ensures)
+    loss-passed (a .s) (a .gone .now) (a .called .head .«instance_count») (a .pens .now) (a .out .now) (p .last .0) (p .last .1 .0) (p .result)
+    (p .ensures) (a .called) (c .with-list .result) (c .with-list .ensures)
 
 pub lose-spec : {M : Type 1} → statement M
 lose-spec =

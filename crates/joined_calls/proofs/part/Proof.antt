@@ -16,9 +16,11 @@ refused-requires c κs = search needs
 
 returns : tie.Need-returns
 returns c =
-    let a = c .before .before .before .before .before .before .args in
-    λ places lost e. sheet-refused Part (a .s) (a .head) (c .before .before .leave-refusal .result) (c .refused .result)
-    (λ st. c .before .before .leave-refusal .ensures st .0) (c .before .if1 .taken) (c .refused .ensures) places (a .pens .now) (a .writers .now) lost (a .out .now)
+    let k = c .before .before in
+    let l = k .before .before .before .before in
+    let a = l .args in
+    λ places lost e. sheet-refused Part (a .s) (a .head) (k .leave-refusal .result) (c .refused .result) (λ st. k .leave-refusal .ensures st .0)
+    (c .before .if1 .taken) (c .refused .ensures) places (a .pens .now) (a .writers .now) lost (a .out .now)
 
 unmatched-requires : tie.Need-unmatched-requires
 unmatched-requires c κs = search needs
@@ -28,7 +30,8 @@ lose-writer-requires c κs =
     let called = c .before .before .before .before in
     let start = called .before .before .before .before .before .before .before in
     let a = start .args in
-    kept-losable Unmatched (a .s) (a .head) (a .pens .now) (a .writers .now) (a .out .now) (called .unmatched .result) (called .unmatched .last .1 .1 .0) (called .unmatched .ensures) (start .pre .1)
+    kept-losable Unmatched (a .s) (a .head) (a .pens .now) (a .writers .now) (a .out .now) (called .unmatched .result)
+    (called .unmatched .last .1 .1 .0) (called .unmatched .ensures) (start .pre .1)
 
 same-length : tie.Need-same-length
 same-length c = search needs
@@ -46,8 +49,9 @@ returns-2 c =
     let test = called .before .before in
     let a = test .before .before .before .before .before .args in
     leave-left Part (a .s) (a .head) (a .pens .now) (a .writers .now) (a .out .now) Unmatched (λ places st. refl) (λ st. refl) (λ gone lost. refl)
-    (λ st. sym (test .if1 .left) ∙ test .before .leave-refusal .ensures st .0) (called .unmatched .result) (lost .lose-writer .result) (lost .lose-writer .last .1 .1 .0)
-    (called .unmatched .last .1 .1 .0) (lost .lose-writer .last .1 .1 .1 .0) (called .unmatched .ensures) (lost .lose-writer .ensures)
+    (λ st. sym (test .if1 .left) ∙ test .before .leave-refusal .ensures st .0) (called .unmatched .result) (lost .lose-writer .result)
+    (lost .lose-writer .last .1 .1 .0) (called .unmatched .last .1 .1 .0) (lost .lose-writer .last .1 .1 .1 .0) (called .unmatched .ensures)
+    (lost .lose-writer .ensures)
 
 pub part-spec : {M : Type 1} → statement M
 part-spec =

@@ -19,10 +19,15 @@ read c =
     (difference-fits (c .before .args .count) (c .before .args .change) (c .before .fits .count .fits) (c .before .fits .change))
 
 change-of-requires : tie.Need-change-of-requires
-change-of-requires c κs = fits-as (ap (λ (z : ℤ). pos (c .before .args .after) -ℤ z) (read c)) (change-fits (c .before .args .after) _ (c .before .pre .0) (c .before .pre .1))
+change-of-requires c κs =
+    fits-as (ap (λ (z : ℤ). pos (c .before .args .after) -ℤ z) (read c))
+    (change-fits (c .before .args .after) _ (c .before .pre .0) (c .before .pre .1))
 
 returns : tie.Need-returns
-returns c = back ((c .change-of .ensures) ∙ ap (λ (z : ℤ). pos (c .before .before .args .after) -ℤ z) (read (c .before))) (change-fits (c .before .before .args .after) _ (c .before .before .pre .0) (c .before .before .pre .1))
+returns c =
+    let a = c .before .before in
+    back ((c .change-of .ensures) ∙ ap (λ (z : ℤ). pos (a .args .after) -ℤ z) (read (c .before)))
+    (change-fits (a .args .after) _ (a .pre .0) (a .pre .1))
 
 pub change-after-spec : {M : Type 1} → statement M
 change-after-spec = tie.close (tie.spec acknowledged-requires change-of-requires returns)

@@ -21,19 +21,28 @@ counts-not-alive-requires : tie.Need-counts-not-alive-requires
 counts-not-alive-requires c κs = search needs
 
 sub-shifted-2 : tie.Need-sub-shifted-2
-sub-shifted-2 c = omega (arith, (c .before .before .before .before .before .before .before .pre .1) (sym (c .before .before .counts-not-alive .ensures) ∙ (c .before .if2 .taken)))
+sub-shifted-2 c =
+    let a = c .before .before .before .before .before .before .before in
+    omega (arith, (a .pre .1) (sym (c .before .before .counts-not-alive .ensures) ∙ (c .before .if2 .taken)))
 
 shifted-requires-2 : tie.Need-shifted-requires-2
 shifted-requires-2 c κs = search needs
 
 returns-2 : tie.Need-returns-2
-returns-2 c = rw (← (c .before .before .before .before .before .counts-alive .ensures), (c .before .before .before .before .if1 .left), ← (c .before .before .before .counts-not-alive .ensures), (c .before .before .if2 .taken)) (c .shifted2 .ensures)
+returns-2 c =
+    let k = c .before .before .before .before .before in
+    rw
+    (← (k .counts-alive .ensures), (c .before .before .before .before .if1 .left), ← (c .before .before .before .counts-not-alive .ensures), (c .before .before .if2 .taken))
+    (c .shifted2 .ensures)
 
 still-requires : tie.Need-still-requires
 still-requires c κs = search needs
 
 returns-3 : tie.Need-returns-3
-returns-3 c = rw (← (c .before .before .before .before .counts-alive .ensures), (c .before .before .before .if1 .left), ← (c .before .before .counts-not-alive .ensures), (c .before .if2 .left)) (c .still .ensures)
+returns-3 c =
+    rw
+    (← (c .before .before .before .before .counts-alive .ensures), (c .before .before .before .if1 .left), ← (c .before .before .counts-not-alive .ensures), (c .before .if2 .left))
+    (c .still .ensures)
 
 pub gone-spec : {M : Type 1} → statement M
 gone-spec =

@@ -13,10 +13,16 @@ cast-count : tie.Need-cast-count
 cast-count c = search needs
 
 expiring-requires : tie.Need-expiring-requires
-expiring-requires c κs = (good (c .before .before .before .before .args .head) (c .before .before .before .before .args .writers .now) (λ j. (c .before .before .before .slice-known .given) j .fits) (c .before .before .before .before .pre .0)) .ready .sound
+expiring-requires c κs =
+    let a = c .before .before .before .before in
+    (good (a .args .head) (a .args .writers .now) (λ j. (c .before .before .before .slice-known .given) j .fits) (a .pre .0)) .ready .sound
 
 add-if1 : tie.Need-add-if1
-add-if1 c = omega (arith, (c .before .expiring .ensures), pick-le (expires (c .before .before .before .before .before .before .args .sheet .a)) (writersIn (c .before .before .before .before .before .before .args .head .«writer_count») (c .before .before .before .before .before .before .args .writers .now)), (good (c .before .before .before .before .before .before .args .head) (c .before .before .before .before .before .before .args .writers .now) (λ j. (c .before .before .before .before .before .slice-known .given) j .fits) (c .before .before .before .before .before .before .pre .0)) .size, (good (c .before .before .before .before .before .before .args .head) (c .before .before .before .before .before .before .args .writers .now) (λ j. (c .before .before .before .before .before .slice-known .given) j .fits) (c .before .before .before .before .before .before .pre .0)) .ready .sound .few, lost-few (c .before .before .before .before .before .before .args .head .«lost_count») (c .before .before .before .before .before .before .args .lost .now) (c .before .before .before .before .before .before .pre .2))
+add-if1 c =
+    let k = c .before .before .before .before .before in
+    let a = k .before in
+    omega
+    (arith, (c .before .expiring .ensures), pick-le (expires (a .args .sheet .a)) (writersIn (a .args .head .«writer_count») (a .args .writers .now)), (good (a .args .head) (a .args .writers .now) (λ j. (k .slice-known .given) j .fits) (a .pre .0)) .size, (good (a .args .head) (a .args .writers .now) (λ j. (k .slice-known .given) j .fits) (a .pre .0)) .ready .sound .few, lost-few (a .args .head .«lost_count») (a .args .lost .now) (a .pre .2))
 
 refused-requires : tie.Need-refused-requires
 refused-requires c κs = search needs
@@ -25,7 +31,14 @@ same-length : tie.Need-same-length
 same-length c = search needs
 
 returns : tie.Need-returns
-returns c = expire-full (c .before .before .before .before .before .before .before .before .args .sheet) (c .before .before .before .before .before .before .before .before .args .head) (c .before .before .before .before .before .before .before .before .args .writers .now) (c .before .before .before .before .before .before .before .before .args .lost .now) (λ j. (c .before .before .before .before .before .before .before .slice-known .given) j .fits) (c .before .before .before .before .before .before .before .before .pre .0) (λ j. (c .before .before .before .before .before .before .slice-known2 .given) j .fits) (c .before .before .before .before .before .before .before .before .pre .1) (c .before .before .before .before .before .before .before .before .pre .2) (c .before .before .before .expiring .result) (c .before .before .before .expiring .ensures) (c .before .if1 .taken) (c .refused .result) (c .refused .ensures .0) (c .refused .ensures .1)
+returns c =
+    let k = c .before .before .before in
+    let l = k .before .before .before in
+    let m = l .before in
+    let a = m .before in
+    expire-full (a .args .sheet) (a .args .head) (a .args .writers .now) (a .args .lost .now) (λ j. (m .slice-known .given) j .fits) (a .pre .0)
+    (λ j. (l .slice-known2 .given) j .fits) (a .pre .1) (a .pre .2) (k .expiring .result) (k .expiring .ensures) (c .before .if1 .taken)
+    (c .refused .result) (c .refused .ensures .0) (c .refused .ensures .1)
 
 expire-within-requires : tie.Need-expire-within-requires
 expire-within-requires c κs = search needs

@@ -26,14 +26,20 @@ sum : (c : tie.After-of-bits) →
     toZ w64 (ofZ w64 (c .before .acknowledged .result)) +ℤ toZ w32 (ofZ w32 (c .of-bits .result))
     ≡ (pos (c .before .before .args .count) -ℤ c .before .before .args .change) +ℤ toZ w32 (c .before .before .args .part)
 sum c =
-    ap (λ (z : ℤ). z +ℤ toZ w32 (ofZ w32 (c .of-bits .result))) (count-read (c .before))
-    ∙ ap (λ (z : ℤ). (pos (c .before .before .args .count) -ℤ c .before .before .args .change) +ℤ z) (back (c .of-bits .ensures) (sfits-toZ (c .before .before .fits .part)))
+    let a = c .before .before in
+    ap (λ (z : ℤ). z +ℤ toZ w32 (ofZ w32 (c .of-bits .result))) (count-read (c .before)) ∙ ap
+    (λ (z : ℤ). (pos (a .args .count) -ℤ a .args .change) +ℤ z) (back (c .of-bits .ensures) (sfits-toZ (a .fits .part)))
 
 add-i64-requires : tie.Need-add-i64-requires
-add-i64-requires c κs = fits-as (sum c) (after-fits (c .before .before .args .count) (c .before .before .args .change) (c .before .before .args .part) (c .before .before .fits .change) (c .before .before .fits .part) (c .before .before .pre))
+add-i64-requires c κs =
+    let a = c .before .before in
+    fits-as (sum c) (after-fits (a .args .count) (a .args .change) (a .args .part) (a .fits .change) (a .fits .part) (a .pre))
 
 returns : tie.Need-returns
-returns c = back ((c .add-i64 .ensures) ∙ sum (c .before)) (after-fits (c .before .before .before .args .count) (c .before .before .before .args .change) (c .before .before .before .args .part) (c .before .before .before .fits .change) (c .before .before .before .fits .part) (c .before .before .before .pre))
+returns c =
+    let a = c .before .before .before in
+    back ((c .add-i64 .ensures) ∙ sum (c .before))
+    (after-fits (a .args .count) (a .args .change) (a .args .part) (a .fits .change) (a .fits .part) (a .pre))
 
 pub acknowledged-after-spec : {M : Type 1} → statement M
 acknowledged-after-spec =

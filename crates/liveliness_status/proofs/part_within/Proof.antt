@@ -13,7 +13,10 @@ within-bound-requires : tie.Need-within-bound-requires
 within-bound-requires c κs = search needs
 
 returns : tie.Need-returns
-returns c = (c .within-bound .ensures) ∙ ap within (after-read (c .before .before .args .count) (c .before .before .args .change) (c .before .before .args .part) (c .before .before .fits .change) (c .before .before .fits .part) (c .before .before .pre) (c .before .acknowledged-after .result) (c .before .acknowledged-after .ensures))
+returns c =
+    let a = c .before .before in
+    (c .within-bound .ensures) ∙ ap within
+    (after-read (a .args .count) (a .args .change) (a .args .part) (a .fits .change) (a .fits .part) (a .pre) (c .before .acknowledged-after .result) (c .before .acknowledged-after .ensures))
 
 pub part-within-spec : {M : Type 1} → statement M
 part-within-spec = tie.close (tie.spec acknowledged-after-requires within-bound-requires returns)

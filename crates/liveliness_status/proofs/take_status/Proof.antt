@@ -22,9 +22,12 @@ with-changes-requires c κs = search needs
 
 returns : tie.Need-returns
 returns c =
-    let h = (c .before .before .before .before .args .head) in
-    let a : (c .before .answer .result) ≡ reporting (headStatus h) = (c .before .answer .ensures) ∙ rw ((c .before .before .before .no-due .ensures), (c .before .before .head-status .ensures)) in
-    status-kept (c .before .before .before .before .args .sheet) h (omega (arith, (c .before .before .before .before .good))) record { answer = (c .before .answer .result); head = (c .with-changes .result) } a (c .with-changes .ensures)
+    let k = c .before .before .before .before in
+    let h = (k .args .head) in
+    let a : (c .before .answer .result) ≡ reporting (headStatus h) = (c .before .answer .ensures) ∙ rw
+    ((c .before .before .before .no-due .ensures), (c .before .before .head-status .ensures)) in
+    status-kept (k .args .sheet) h (omega (arith, (k .good))) record { answer = (c .before .answer .result); head = (c .with-changes .result) } a
+    (c .with-changes .ensures)
 
 pub take-status-spec : {M : Type 1} → statement M
 take-status-spec =

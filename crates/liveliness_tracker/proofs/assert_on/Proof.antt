@@ -14,13 +14,21 @@ pass-requires : tie.Need-pass-requires
 pass-requires c κs = search needs
 
 called-requires : tie.Need-called-requires
-called-requires c κs = room-pass (c .before .before .before .before .before .args .head) (c .before .before .before .before .before .args .count) (c .before .before .before .before .before .args .writers .now) (c .before .before .before .before .before .pre) (Assert (c .before .before .before .before .before .args .a)) (c .before .before .before .before .before .args .head .«last_writer») (c .before .before .pass .result) (writersIn (c .before .before .before .before .before .args .count) (c .before .before .before .before .before .args .writers .now)) (rw (length-read writerOf 40 (c .before .before .before .before .before .args .count) (c .before .before .before .before .before .args .writers .now)) (c .before .before .before .before .before .pre .sound .few)) (c .before .before .pass .ensures .1)
+called-requires c κs =
+    let k = c .before .before in
+    let a = k .before .before .before in
+    room-pass (a .args .head) (a .args .count) (a .args .writers .now) (a .pre) (Assert (a .args .a)) (a .args .head .«last_writer») (k .pass .result)
+    (writersIn (a .args .count) (a .args .writers .now)) (rw (length-read writerOf 40 (a .args .count) (a .args .writers .now)) (a .pre .sound .few))
+    (k .pass .ensures .1)
 
 same-length : tie.Need-same-length
 same-length c = search needs
 
 returns : tie.Need-returns
-returns c = ((c .before .before .before .pass .ensures .0), (c .called .ensures) ∙ ap (calledBy (c .before .before .before .before .before .before .args .head) (c .before .before .before .before .before .before .args .count)) (c .before .before .before .pass .ensures .1))
+returns c =
+    let k = c .before .before .before in
+    let a = k .before .before .before in
+    ((k .pass .ensures .0), (c .called .ensures) ∙ ap (calledBy (a .args .head) (a .args .count)) (k .pass .ensures .1))
 
 pub assert-on-spec : {M : Type 1} → statement M
 assert-on-spec = tie.close (tie.spec pass-requires called-requires same-length returns)

@@ -15,30 +15,55 @@ use Rattle.liveliness_tracker.proofs.departed_at.Tie as tie
 
 writer-at-requires : tie.Need-writer-at-requires
 writer-at-requires c κs =
-    let g = good (c .before .before .args .head) (c .before .before .args .writers .now) (λ j. (c .before .slice-known .given) j .fits) (c .before .before .pre .0) in
-    omega (arith, g .ready .sound .room, (c .before .before .pre .1))
+    let a = c .before .before in
+    let g = good (a .args .head) (a .args .writers .now) (λ j. (c .before .slice-known .given) j .fits) (a .pre .0) in
+    omega (arith, g .ready .sound .room, (a .pre .1))
 
 departed-requires : tie.Need-departed-requires
 departed-requires c κs = search needs
 
 put-writer-requires : tie.Need-put-writer-requires
 put-writer-requires c κs =
-    let g = good (c .before .before .before .before .before .before .args .head) (c .before .before .before .before .before .before .args .writers .now) (λ j. (c .before .before .before .before .before .slice-known .given) j .fits) (c .before .before .before .before .before .before .pre .0) in
-    omega (arith, g .ready .sound .room, (c .before .before .before .before .before .before .pre .1))
+    let k = c .before .before .before .before .before in
+    let a = k .before in
+    let g = good (a .args .head) (a .args .writers .now) (λ j. (k .slice-known .given) j .fits) (a .pre .0) in
+    omega (arith, g .ready .sound .room, (a .pre .1))
 
 departs-requires : tie.Need-departs-requires
-departs-requires c κs = (alive-there (c .before .before .before .before .before .before .before .before .before .args .head) (c .before .before .before .before .before .before .before .before .before .args .writers .now) (good (c .before .before .before .before .before .before .before .before .before .args .head) (c .before .before .before .before .before .before .before .before .before .args .writers .now) (λ j. (c .before .before .before .before .before .before .before .before .slice-known .given) j .fits) (c .before .before .before .before .before .before .before .before .before .pre .0)) (c .before .before .before .before .before .before .before .before .before .args .i) (c .before .before .before .before .before .before .writer-at .result) (c .before .before .before .before .before .before .before .before .before .pre .1) (c .before .before .before .before .before .before .writer-at .ensures), (good (c .before .before .before .before .before .before .before .before .before .args .head) (c .before .before .before .before .before .before .before .before .before .args .writers .now) (λ j. (c .before .before .before .before .before .before .before .before .slice-known .given) j .fits) (c .before .before .before .before .before .before .before .before .before .pre .0)) .ready .notAlive)
+departs-requires c κs =
+    let k = c .before .before .before .before .before .before in
+    let l = k .before .before in
+    let a = l .before in (
+      alive-there (a .args .head) (a .args .writers .now)
+          (good (a .args .head) (a .args .writers .now) (λ j. (l .slice-known .given) j .fits) (a .pre .0)) (a .args .i) (k .writer-at .result)
+          (a .pre .1) (k .writer-at .ensures),
+      (good (a .args .head) (a .args .writers .now) (λ j. (l .slice-known .given) j .fits) (a .pre .0)) .ready .notAlive,
+    )
 
 called-requires : tie.Need-called-requires
 called-requires c κs =
-    let g = good (c .before .before .before .before .before .before .before .before .before .before .args .head) (c .before .before .before .before .before .before .before .before .before .before .args .writers .now) (λ j. (c .before .before .before .before .before .before .before .before .before .slice-known .given) j .fits) (c .before .before .before .before .before .before .before .before .before .before .pre .0) in
-    room-departs (c .before .before .before .before .before .before .before .before .before .before .args .head) (c .before .before .before .before .before .before .before .before .before .before .args .head .«writer_count») (c .before .before .before .before .before .before .before .before .before .before .args .writers .now) (g .ready) (c .departs .result) (c .before .before .before .before .before .before .before .writer-at .result) (alive-there (c .before .before .before .before .before .before .before .before .before .before .args .head) (c .before .before .before .before .before .before .before .before .before .before .args .writers .now) (good (c .before .before .before .before .before .before .before .before .before .before .args .head) (c .before .before .before .before .before .before .before .before .before .before .args .writers .now) (λ j. (c .before .before .before .before .before .before .before .before .before .slice-known .given) j .fits) (c .before .before .before .before .before .before .before .before .before .before .pre .0)) (c .before .before .before .before .before .before .before .before .before .before .args .i) (c .before .before .before .before .before .before .before .writer-at .result) (c .before .before .before .before .before .before .before .before .before .before .pre .1) (c .before .before .before .before .before .before .before .writer-at .ensures)) (both-few (c .before .before .before .before .before .before .before .before .before .before .args .head) (c .before .before .before .before .before .before .before .before .before .before .args .writers .now) g) (c .departs .ensures)
+    let k = c .before .before .before .before .before .before .before in
+    let l = k .before .before in
+    let a = l .before in
+    let g = good (a .args .head) (a .args .writers .now) (λ j. (l .slice-known .given) j .fits) (a .pre .0) in
+    room-departs (a .args .head) (a .args .head .«writer_count») (a .args .writers .now) (g .ready) (c .departs .result) (k .writer-at .result)
+    (alive-there (a .args .head) (a .args .writers .now) (good (a .args .head) (a .args .writers .now) (λ j. (l .slice-known .given) j .fits) (a .pre .0)) (a .args .i) (k .writer-at .result) (a .pre .1) (k .writer-at .ensures))
+    (both-few (a .args .head) (a .args .writers .now) g) (c .departs .ensures)
 
 same-length : tie.Need-same-length
 same-length c = search needs
 
 returns : tie.Need-returns
-returns c = ((c .before .before .before .before .put-writer .ensures) ∙ ap (λ (z : Writer). patch (c .before .before .before .before .before .before .before .before .before .before .before .args .writers .now) ((c .before .before .before .before .before .before .before .before .before .before .before .args .i) * 40) 40 (writerBytes z)) ((c .before .before .before .before .before .departed .ensures) ∙ ap (λ (z : Writer). departed (z .guid)) (c .before .before .before .before .before .before .before .before .writer-at .ensures)), (c .called .ensures) ∙ ap (calledBy (c .before .before .before .before .before .before .before .before .before .before .before .args .head) (c .before .before .before .before .before .before .before .before .before .before .before .args .head .«writer_count»)) ((c .before .departs .ensures) ∙ ap (departsTally (c .before .before .before .before .before .before .before .before .before .before .before .args .head)) (c .before .before .before .before .before .before .before .before .writer-at .ensures)))
+returns c =
+    let k = c .before .before .before .before .before in
+    let l = k .before .before .before in
+    let a = l .before .before .before in (
+      (c .before .before .before .before .put-writer .ensures) ∙ ap
+          (λ (z : Writer). patch (a .args .writers .now) ((a .args .i) * 40) 40 (writerBytes z))
+          ((k .departed .ensures) ∙ ap (λ (z : Writer). departed (z .guid)) (l .writer-at .ensures)),
+      (c .called .ensures) ∙ ap (calledBy (a .args .head) (a .args .head .«writer_count»))
+          ((c .before .departs .ensures) ∙ ap (departsTally (a .args .head)) (l .writer-at .ensures)),
+    )
 
 pub departed-at-spec : {M : Type 1} → statement M
 departed-at-spec =

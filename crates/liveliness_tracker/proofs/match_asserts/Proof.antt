@@ -24,19 +24,31 @@ same-length c = search needs
 
 returns : tie.Need-returns
 returns c =
-    let b : automatic (c .before .before .before .before .before .before .before .before .before .args .sheet) ≡ true = sym ((c .before .before .before .before .before .is-automatic .ensures) ∙ ap isAutomatic (c .before .before .before .before .before .before .kind-numbered .ensures)) ∙ (c .before .before .before .before .if1 .taken) in
-    asserting (automatic (c .before .before .before .before .before .before .before .before .before .args .sheet)) _ _ _ (c .before .before .assert-on .result) (c .before .before .before .before .before .before .before .before .before .args .head) (c .before .before .before .before .before .before .before .before .before .args .count) _ _ b (c .before .before .assert-on .ensures .0) (c .before .before .assert-on .ensures .1)
+    let k = c .before .before in
+    let l = k .before .before .before in
+    let m = l .before in
+    let a = m .before .before .before in
+    let b : automatic (a .args .sheet) ≡ true = sym ((l .is-automatic .ensures) ∙ ap isAutomatic (m .kind-numbered .ensures)) ∙
+    (c .before .before .before .before .if1 .taken) in
+    asserting (automatic (a .args .sheet)) _ _ _ (k .assert-on .result) (a .args .head) (a .args .count) _ _ b (k .assert-on .ensures .0)
+    (k .assert-on .ensures .1)
 
 still-requires : tie.Need-still-requires
 still-requires c κs = search needs
 
 called-requires : tie.Need-called-requires
-called-requires c κs = room-still (c .before .before .before .before .before .before .args .head) (c .before .before .before .before .before .before .args .count) (c .before .before .before .before .before .before .args .writers .now) (c .before .before .before .before .before .before .pre) (c .still .result) (c .still .ensures)
+called-requires c κs =
+    let a = c .before .before .before .before .before .before in
+    room-still (a .args .head) (a .args .count) (a .args .writers .now) (a .pre) (c .still .result) (c .still .ensures)
 
 returns-2 : tie.Need-returns-2
 returns-2 c =
-    let b : automatic (c .before .before .before .before .before .before .before .args .sheet) ≡ false = sym ((c .before .before .before .is-automatic .ensures) ∙ ap isAutomatic (c .before .before .before .before .kind-numbered .ensures)) ∙ (c .before .before .if1 .left) in
-    not-asserting (automatic (c .before .before .before .before .before .before .before .args .sheet)) _ _ _ (c .called .result) (c .before .before .before .before .before .before .before .args .head) (c .before .before .before .before .before .before .before .args .count) _ _ b refl ((c .called .ensures) ∙ ap (calledBy (c .before .before .before .before .before .before .before .args .head) (c .before .before .before .before .before .before .before .args .count)) (c .before .still .ensures))
+    let a = c .before .before .before .before .before .before .before in
+    let b : automatic (a .args .sheet) ≡ false = sym
+    ((c .before .before .before .is-automatic .ensures) ∙ ap isAutomatic (c .before .before .before .before .kind-numbered .ensures)) ∙
+    (c .before .before .if1 .left) in
+    not-asserting (automatic (a .args .sheet)) _ _ _ (c .called .result) (a .args .head) (a .args .count) _ _ b refl
+    ((c .called .ensures) ∙ ap (calledBy (a .args .head) (a .args .count)) (c .before .still .ensures))
 
 pub match-asserts-spec : {M : Type 1} → statement M
 match-asserts-spec =

@@ -19,40 +19,67 @@ refused-requires c κs = search needs
 
 returns : tie.Need-returns
 returns c =
-    let fits : FitsGuid (c .before .before .before .args .sheet .guid) = record { high = omega (arith, (c .before .before .before .good .0)); low = omega (arith, (c .before .before .before .good .0)) } in
-    first-full (c .before .before .before .args .sheet) (c .before .before .before .args .head) (c .before .before .before .args .writers .now) (λ j. (c .before .before .slice-known .given) j .fits) (c .before .before .before .pre .0) (c .before .before .before .args .i) (c .before .before .before .pre .2) fits (c .before .before .before .pre .1) (c .before .if1 .taken) (c .refused .result) (c .refused .ensures .0) (c .refused .ensures .1)
+    let a = c .before .before .before in
+    let fits : FitsGuid (a .args .sheet .guid) = record { high = omega (arith, (a .good .0)); low = omega (arith, (a .good .0)) } in
+    first-full (a .args .sheet) (a .args .head) (a .args .writers .now) (λ j. (c .before .before .slice-known .given) j .fits) (a .pre .0)
+    (a .args .i) (a .pre .2) fits (a .pre .1) (c .before .if1 .taken) (c .refused .result) (c .refused .ensures .0) (c .refused .ensures .1)
 
 cast-open-gap : tie.Need-cast-open-gap
 cast-open-gap c = search needs
 
 open-gap-requires : tie.Need-open-gap-requires
 open-gap-requires c κs =
-    let fits : FitsGuid (c .before .before .before .args .sheet .guid) = record { high = omega (arith, (c .before .before .before .good .0)); low = omega (arith, (c .before .before .before .good .0)) } in
-    (first-within (c .before .before .before .args .sheet) (c .before .before .before .args .head) (c .before .before .before .args .writers .now) (λ j. (c .before .before .slice-known .given) j .fits) (c .before .before .before .pre .0) (c .before .before .before .args .i) (c .before .before .before .pre .2) fits (c .before .before .before .pre .1), omega (arith, (c .before .before .before .pre .0 .long), (c .before .if1 .left)))
+    let a = c .before .before .before in
+    let fits : FitsGuid (a .args .sheet .guid) = record { high = omega (arith, (a .good .0)); low = omega (arith, (a .good .0)) } in (
+      first-within (a .args .sheet) (a .args .head) (a .args .writers .now) (λ j. (c .before .before .slice-known .given) j .fits) (a .pre .0)
+          (a .args .i) (a .pre .2) fits (a .pre .1),
+      omega (arith, (a .pre .0 .long), (c .before .if1 .left)),
+    )
 
 first-matched-requires : tie.Need-first-matched-requires
 first-matched-requires c κs = search needs
 
 put-writer-requires : tie.Need-put-writer-requires
 put-writer-requires c κs =
-    let fits : FitsGuid (c .before .before .before .before .before .before .before .before .args .sheet .guid) = record { high = omega (arith, (c .before .before .before .before .before .before .before .before .good .0)); low = omega (arith, (c .before .before .before .before .before .before .before .before .good .0)) } in
-    omega (arith, (c .before .before .before .before .before .before .before .before .pre .0 .long), (c .before .before .before .before .before .before .if1 .left), first-within (c .before .before .before .before .before .before .before .before .args .sheet) (c .before .before .before .before .before .before .before .before .args .head) (c .before .before .before .before .before .before .before .before .args .writers .now) (λ j. (c .before .before .before .before .before .before .before .slice-known .given) j .fits) (c .before .before .before .before .before .before .before .before .pre .0) (c .before .before .before .before .before .before .before .before .args .i) (c .before .before .before .before .before .before .before .before .pre .2) fits (c .before .before .before .before .before .before .before .before .pre .1), (c .before .before .before .before .open-gap .kept .0))
+    let k = c .before .before .before .before .before .before in
+    let l = k .before in
+    let a = l .before in
+    let fits : FitsGuid (a .args .sheet .guid) = record { high = omega (arith, (a .good .0)); low = omega (arith, (a .good .0)) } in
+    omega
+    (arith, (a .pre .0 .long), (k .if1 .left), first-within (a .args .sheet) (a .args .head) (a .args .writers .now) (λ j. (l .slice-known .given) j .fits) (a .pre .0) (a .args .i) (a .pre .2) fits (a .pre .1), (c .before .before .before .before .open-gap .kept .0))
 
 add-match-asserts : tie.Need-add-match-asserts
 add-match-asserts c = search needs
 
 match-asserts-requires : tie.Need-match-asserts-requires
 match-asserts-requires c κs =
-    let fits : FitsGuid (c .before .before .before .before .before .before .before .before .before .before .before .before .args .sheet .guid) = record { high = omega (arith, (c .before .before .before .before .before .before .before .before .before .before .before .before .good .0)); low = omega (arith, (c .before .before .before .before .before .before .before .before .before .before .before .before .good .0)) } in
-    first-ready (c .before .before .before .before .before .before .before .before .before .before .before .before .args .sheet) (c .before .before .before .before .before .before .before .before .before .before .before .before .args .head) (c .before .before .before .before .before .before .before .before .before .before .before .before .args .writers .now) (λ j. (c .before .before .before .before .before .before .before .before .before .before .before .slice-known .given) j .fits) (c .before .before .before .before .before .before .before .before .before .before .before .before .pre .0) (c .before .before .before .before .before .before .before .before .before .before .before .before .args .i) (c .before .before .before .before .before .before .before .before .before .before .before .before .pre .2) fits (c .before .before .before .before .before .before .before .before .before .before .before .before .pre .1) (c .before .before .before .before .before .before .before .before .before .before .if1 .left) (c .before .before .before .put-writer .last .0) ((c .before .before .before .put-writer .ensures) ∙ ap (λ (z : Writer). patch (c .before .before .before .before .before .before .before .before .open-gap .last .0) ((c .before .before .before .before .before .before .before .before .before .before .before .before .args .i) * 40) 40 (writerBytes z)) (c .before .before .before .before .first-matched .ensures) ∙ ap (λ (z : List ℕ). patch z ((c .before .before .before .before .before .before .before .before .before .before .before .before .args .i) * 40) 40 (writerBytes (matchedWriter (c .before .before .before .before .before .before .before .before .before .before .before .before .args .sheet) none))) (c .before .before .before .before .before .before .before .before .open-gap .ensures))
+    let k = c .before .before .before in
+    let l = k .before .before .before .before .before in
+    let m = l .before .before in
+    let n = m .before in
+    let a = n .before in
+    let fits : FitsGuid (a .args .sheet .guid) = record { high = omega (arith, (a .good .0)); low = omega (arith, (a .good .0)) } in
+    first-ready (a .args .sheet) (a .args .head) (a .args .writers .now) (λ j. (n .slice-known .given) j .fits) (a .pre .0) (a .args .i) (a .pre .2)
+    fits (a .pre .1) (m .if1 .left) (k .put-writer .last .0)
+    ((k .put-writer .ensures) ∙ ap (λ (z : Writer). patch (l .open-gap .last .0) ((a .args .i) * 40) 40 (writerBytes z)) (c .before .before .before .before .first-matched .ensures) ∙ ap (λ (z : List ℕ). patch z ((a .args .i) * 40) 40 (writerBytes (matchedWriter (a .args .sheet) none))) (l .open-gap .ensures))
 
 same-length : tie.Need-same-length
 same-length c = search needs
 
 returns-2 : tie.Need-returns-2
 returns-2 c =
-    let fits : FitsGuid (c .before .before .before .before .before .before .before .before .before .before .before .before .before .before .before .args .sheet .guid) = record { high = omega (arith, (c .before .before .before .before .before .before .before .before .before .before .before .before .before .before .before .good .0)); low = omega (arith, (c .before .before .before .before .before .before .before .before .before .before .before .before .before .before .before .good .0)) } in
-    first-after (c .before .before .before .before .before .before .before .before .before .before .before .before .before .before .before .args .sheet) (c .before .before .before .before .before .before .before .before .before .before .before .before .before .before .before .args .head) (c .before .before .before .before .before .before .before .before .before .before .before .before .before .before .before .args .writers .now) (λ j. (c .before .before .before .before .before .before .before .before .before .before .before .before .before .before .slice-known .given) j .fits) (c .before .before .before .before .before .before .before .before .before .before .before .before .before .before .before .pre .0) (c .before .before .before .before .before .before .before .before .before .before .before .before .before .before .before .args .i) (c .before .before .before .before .before .before .before .before .before .before .before .before .before .before .before .pre .2) fits (c .before .before .before .before .before .before .before .before .before .before .before .before .before .before .before .pre .1) (c .before .before .before .before .before .before .before .before .before .before .before .before .before .if1 .left) (c .before .before .before .before .before .before .put-writer .last .0) ((c .before .before .before .before .before .before .put-writer .ensures) ∙ ap (λ (z : Writer). patch (c .before .before .before .before .before .before .before .before .before .before .before .open-gap .last .0) ((c .before .before .before .before .before .before .before .before .before .before .before .before .before .before .before .args .i) * 40) 40 (writerBytes z)) (c .before .before .before .before .before .before .before .first-matched .ensures) ∙ ap (λ (z : List ℕ). patch z ((c .before .before .before .before .before .before .before .before .before .before .before .before .before .before .before .args .i) * 40) 40 (writerBytes (matchedWriter (c .before .before .before .before .before .before .before .before .before .before .before .before .before .before .before .args .sheet) none))) (c .before .before .before .before .before .before .before .before .before .before .before .open-gap .ensures)) (c .before .before .match-asserts .result) (c .before .before .match-asserts .last .1 .1 .0) (c .before .before .match-asserts .ensures .0) (c .before .before .match-asserts .ensures .1)
+    let k = c .before .before in
+    let l = k .before .before .before .before in
+    let m = l .before in
+    let n = m .before .before .before .before in
+    let p = n .before .before in
+    let q = p .before in
+    let a = q .before in
+    let fits : FitsGuid (a .args .sheet .guid) = record { high = omega (arith, (a .good .0)); low = omega (arith, (a .good .0)) } in
+    first-after (a .args .sheet) (a .args .head) (a .args .writers .now) (λ j. (q .slice-known .given) j .fits) (a .pre .0) (a .args .i) (a .pre .2)
+    fits (a .pre .1) (p .if1 .left) (l .put-writer .last .0)
+    ((l .put-writer .ensures) ∙ ap (λ (z : Writer). patch (n .open-gap .last .0) ((a .args .i) * 40) 40 (writerBytes z)) (m .first-matched .ensures) ∙ ap (λ (z : List ℕ). patch z ((a .args .i) * 40) 40 (writerBytes (matchedWriter (a .args .sheet) none))) (n .open-gap .ensures))
+    (k .match-asserts .result) (k .match-asserts .last .1 .1 .0) (k .match-asserts .ensures .0) (k .match-asserts .ensures .1)
 
 pub match-first-spec : {M : Type 1} → statement M
 match-first-spec =

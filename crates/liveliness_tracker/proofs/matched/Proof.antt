@@ -12,20 +12,25 @@ cast-count c = search needs
 
 find-requires : tie.Need-find-requires
 find-requires c κs =
-    let g = good (c .before .before .before .before .args .head) (c .before .before .before .before .args .writers .now) (λ j. (c .before .before .before .slice-known .given) j .fits) (c .before .before .before .before .pre .0) in
-    (omega arith, g .ready .sound .room, find-rises (c .before .before .before .before .args .head) (c .before .before .before .before .args .writers .now) g)
+    let a = c .before .before .before .before in
+    let g = good (a .args .head) (a .args .writers .now) (λ j. (c .before .before .before .slice-known .given) j .fits) (a .pre .0) in
+    (omega arith, g .ready .sound .room, find-rises (a .args .head) (a .args .writers .now) g)
 
 enum-known-i : tie.Need-enum-known-i
 enum-known-i c = search needs
 
 match-again-requires : tie.Need-match-again-requires
-match-again-requires c κs = ((c .before .before .before .before .before .before .before .before .before .pre .0), (c .before .before .before .before .before .before .before .before .before .pre .1), sym (c .before .before .before .before .find .ensures) ∙ (c .before .before .i .given .1))
+match-again-requires c κs =
+    let a = c .before .before .before .before .before .before .before .before .before in
+    ((a .pre .0), (a .pre .1), sym (c .before .before .before .before .find .ensures) ∙ (c .before .before .i .given .1))
 
 enum-known-i-2 : tie.Need-enum-known-i-2
 enum-known-i-2 c = search needs
 
 match-first-requires : tie.Need-match-first-requires
-match-first-requires c κs = ((c .before .before .before .before .before .before .before .before .before .pre .0), (c .before .before .before .before .before .before .before .before .before .pre .1), sym (c .before .before .before .before .find .ensures) ∙ (c .before .before .i2 .given .1))
+match-first-requires c κs =
+    let a = c .before .before .before .before .before .before .before .before .before in
+    ((a .pre .0), (a .pre .1), sym (c .before .before .before .before .find .ensures) ∙ (c .before .before .i2 .given .1))
 
 same-length : tie.Need-same-length
 same-length c = search needs

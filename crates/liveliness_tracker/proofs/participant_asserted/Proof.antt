@@ -6,13 +6,20 @@ use Rattle.liveliness_tracker.proofs.participant_asserted.Statement.{st
 use Rattle.liveliness_tracker.proofs.participant_asserted.Tie as tie
 
 assert-on-requires : tie.Need-assert-on-requires
-assert-on-requires c κs = (good (c .before .before .before .args .head) (c .before .before .before .args .writers .now) (λ j. (c .before .before .slice-known .given) j .fits) (c .before .before .before .pre)) .ready
+assert-on-requires c κs =
+    let a = c .before .before .before in
+    (good (a .args .head) (a .args .writers .now) (λ j. (c .before .before .slice-known .given) j .fits) (a .pre)) .ready
 
 same-length : tie.Need-same-length
 same-length c = search needs
 
 returns : tie.Need-returns
-returns c = participant-asserts (c .before .before .before .before .before .before .args .sheet) (c .before .before .before .before .before .before .args .head) (c .before .before .before .before .before .before .args .writers .now) (λ j. (c .before .before .before .before .before .slice-known .given) j .fits) (c .before .before .before .before .before .before .pre) (c .before .before .assert-on .result) (c .before .before .assert-on .last .1 .0) (c .before .before .assert-on .ensures .0) (c .before .before .assert-on .ensures .1)
+returns c =
+    let k = c .before .before in
+    let l = k .before .before .before in
+    let a = l .before in
+    participant-asserts (a .args .sheet) (a .args .head) (a .args .writers .now) (λ j. (l .slice-known .given) j .fits) (a .pre)
+    (k .assert-on .result) (k .assert-on .last .1 .0) (k .assert-on .ensures .0) (k .assert-on .ensures .1)
 
 pub participant-asserted-spec : {M : Type 1} → statement M
 participant-asserted-spec = tie.close (tie.spec assert-on-requires same-length returns)

@@ -11,31 +11,55 @@ use Rattle.liveliness_tracker.proofs.removed.Tie as tie
 
 writer-at-requires : tie.Need-writer-at-requires
 writer-at-requires c κs =
-    let g = good (c .before .before .args .head) (c .before .before .args .writers .now) (λ j. (c .before .slice-known .given) j .fits) (c .before .before .pre .0) in
-    omega (arith, g .ready .sound .room, (c .before .before .pre .1))
+    let a = c .before .before in
+    let g = good (a .args .head) (a .args .writers .now) (λ j. (c .before .slice-known .given) j .fits) (a .pre .0) in
+    omega (arith, g .ready .sound .room, (a .pre .1))
 
 cast-close-gap : tie.Need-cast-close-gap
 cast-close-gap c = search needs
 
 close-gap-requires : tie.Need-close-gap-requires
 close-gap-requires c κs =
-    let g = good (c .before .before .before .before .args .head) (c .before .before .before .before .args .writers .now) (λ j. (c .before .before .before .slice-known .given) j .fits) (c .before .before .before .before .pre .0) in
-    ((c .before .before .before .before .pre .1), g .ready .sound .room)
+    let a = c .before .before .before .before in
+    let g = good (a .args .head) (a .args .writers .now) (λ j. (c .before .before .before .slice-known .given) j .fits) (a .pre .0) in
+    ((a .pre .1), g .ready .sound .room)
 
 gone-requires : tie.Need-gone-requires
-gone-requires c κs = (alive-there (c .before .before .before .before .before .before .before .args .head) (c .before .before .before .before .before .before .before .args .writers .now) (good (c .before .before .before .before .before .before .before .args .head) (c .before .before .before .before .before .before .before .args .writers .now) (λ j. (c .before .before .before .before .before .before .slice-known .given) j .fits) (c .before .before .before .before .before .before .before .pre .0)) (c .before .before .before .before .before .before .before .args .i) (c .before .before .before .before .writer-at .result) (c .before .before .before .before .before .before .before .pre .1) (c .before .before .before .before .writer-at .ensures), not-alive-there (c .before .before .before .before .before .before .before .args .head) (c .before .before .before .before .before .before .before .args .writers .now) (good (c .before .before .before .before .before .before .before .args .head) (c .before .before .before .before .before .before .before .args .writers .now) (λ j. (c .before .before .before .before .before .before .slice-known .given) j .fits) (c .before .before .before .before .before .before .before .pre .0)) (c .before .before .before .before .before .before .before .args .i) (c .before .before .before .before .writer-at .result) (c .before .before .before .before .before .before .before .pre .1) (c .before .before .before .before .writer-at .ensures))
+gone-requires c κs =
+    let k = c .before .before .before .before in
+    let l = k .before .before in
+    let a = l .before in (
+      alive-there (a .args .head) (a .args .writers .now)
+          (good (a .args .head) (a .args .writers .now) (λ j. (l .slice-known .given) j .fits) (a .pre .0)) (a .args .i) (k .writer-at .result)
+          (a .pre .1) (k .writer-at .ensures),
+      not-alive-there (a .args .head) (a .args .writers .now)
+          (good (a .args .head) (a .args .writers .now) (λ j. (l .slice-known .given) j .fits) (a .pre .0)) (a .args .i) (k .writer-at .result)
+          (a .pre .1) (k .writer-at .ensures),
+    )
 
 sub-called : tie.Need-sub-called
 sub-called c = search needs
 
 called-requires : tie.Need-called-requires
-called-requires c κs = room-gone (c .before .before .before .before .before .before .before .before .args .head) (c .before .before .before .before .before .before .before .before .args .head .«writer_count») (c .before .before .before .before .before .before .before .before .args .writers .now) ((good (c .before .before .before .before .before .before .before .before .args .head) (c .before .before .before .before .before .before .before .before .args .writers .now) (λ j. (c .before .before .before .before .before .before .before .slice-known .given) j .fits) (c .before .before .before .before .before .before .before .before .pre .0)) .ready) (c .gone .result) (c .before .before .before .before .before .writer-at .result) (c .gone .ensures)
+called-requires c κs =
+    let k = c .before .before .before .before .before in
+    let l = k .before .before in
+    let a = l .before in
+    room-gone (a .args .head) (a .args .head .«writer_count») (a .args .writers .now)
+    ((good (a .args .head) (a .args .writers .now) (λ j. (l .slice-known .given) j .fits) (a .pre .0)) .ready) (c .gone .result)
+    (k .writer-at .result) (c .gone .ensures)
 
 same-length : tie.Need-same-length
 same-length c = search needs
 
 returns : tie.Need-returns
-returns c = ((c .before .before .before .before .close-gap .ensures), (c .called .ensures) ∙ ap (calledBy (c .before .before .before .before .before .before .before .before .before .args .head) ((c .before .before .before .before .before .before .before .before .before .args .head .«writer_count») - 1)) ((c .before .gone .ensures) ∙ ap (goneTally (c .before .before .before .before .before .before .before .before .before .args .head)) (c .before .before .before .before .before .before .writer-at .ensures)))
+returns c =
+    let k = c .before .before .before .before .before .before in
+    let a = k .before .before .before in (
+      c .before .before .before .before .close-gap .ensures,
+      (c .called .ensures) ∙ ap (calledBy (a .args .head) ((a .args .head .«writer_count») - 1))
+          ((c .before .gone .ensures) ∙ ap (goneTally (a .args .head)) (k .writer-at .ensures)),
+    )
 
 pub removed-spec : {M : Type 1} → statement M
 removed-spec =

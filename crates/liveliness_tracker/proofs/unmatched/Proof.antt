@@ -14,20 +14,27 @@ cast-count c = search needs
 
 find-requires : tie.Need-find-requires
 find-requires c κs =
-    let g = good (c .before .before .before .before .args .head) (c .before .before .before .before .args .writers .now) (λ j. (c .before .before .before .slice-known .given) j .fits) (c .before .before .before .before .pre) in
-    (omega arith, g .ready .sound .room, find-rises (c .before .before .before .before .args .head) (c .before .before .before .before .args .writers .now) g)
+    let a = c .before .before .before .before in
+    let g = good (a .args .head) (a .args .writers .now) (λ j. (c .before .before .before .slice-known .given) j .fits) (a .pre) in
+    (omega arith, g .ready .sound .room, find-rises (a .args .head) (a .args .writers .now) g)
 
 enum-known-i : tie.Need-enum-known-i
 enum-known-i c = search needs
 
 unmatched-at-requires : tie.Need-unmatched-at-requires
-unmatched-at-requires c κs = ((c .before .before .before .before .before .before .before .before .before .pre), sym (c .before .before .before .before .find .ensures) ∙ (c .before .before .i .given .1))
+unmatched-at-requires c κs =
+    let a = c .before .before .before .before .before .before .before .before .before in
+    ((a .pre), sym (c .before .before .before .before .find .ensures) ∙ (c .before .before .i .given .1))
 
 enum-told : tie.Need-enum-told
 enum-told c = search needs
 
 kept-requires : tie.Need-kept-requires
-kept-requires c κs = room-still (c .before .before .before .before .before .before .before .args .head) (c .before .before .before .before .before .before .before .args .head .«writer_count») (c .before .before .before .before .before .before .before .args .writers .now) ((good (c .before .before .before .before .before .before .before .args .head) (c .before .before .before .before .before .before .before .args .writers .now) (λ j. (c .before .before .before .before .before .before .slice-known .given) j .fits) (c .before .before .before .before .before .before .before .pre)) .ready) (stillTally (c .before .before .before .before .before .before .before .args .head)) refl
+kept-requires c κs =
+    let k = c .before .before .before .before .before .before in
+    let a = k .before in
+    room-still (a .args .head) (a .args .head .«writer_count») (a .args .writers .now)
+    ((good (a .args .head) (a .args .writers .now) (λ j. (k .slice-known .given) j .fits) (a .pre)) .ready) (stillTally (a .args .head)) refl
 
 same-length : tie.Need-same-length
 same-length c = search needs
@@ -39,7 +46,11 @@ same-length-2 : tie.Need-same-length-2
 same-length-2 c = search needs
 
 returns-2 : tie.Need-returns-2
-returns-2 c = unmatched-missing (c .before .before .before .before .before .before .before .before .args .sheet) (c .before .before .before .before .before .before .before .before .args .head) (c .before .before .before .before .before .before .before .before .args .writers .now) (λ j. (c .before .before .before .before .before .before .before .slice-known .given) j .fits) (c .before .before .before .before .before .before .before .before .pre) _ (sym (c .before .before .before .find .ensures) ∙ (c .before .enum-told .given .1)) (c .kept .result) (c .kept .ensures)
+returns-2 c =
+    let k = c .before .before .before .before .before .before .before in
+    let a = k .before in
+    unmatched-missing (a .args .sheet) (a .args .head) (a .args .writers .now) (λ j. (k .slice-known .given) j .fits) (a .pre) _
+    (sym (c .before .before .before .find .ensures) ∙ (c .before .enum-told .given .1)) (c .kept .result) (c .kept .ensures)
 
 pub unmatched-spec : {M : Type 1} → statement M
 unmatched-spec =

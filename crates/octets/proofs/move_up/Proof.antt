@@ -42,8 +42,11 @@ loop-less c = omega arith
 loop-again : tie.Need-loop-again Inv-loop μ-loop
 loop-again c =
     let a = c .before .before .before .args in
-    let l = c .before .before .loop in
-    (omega arith, simp length-set (l .inv .1), rw (l .inv .2) (move-up-turn (a .b .now) (a .to) (a .from) (a .n) (l .i) (omega arith) (omega arith) (omega arith) (omega arith)))
+    let l = c .before .before .loop in (
+      omega arith,
+      simp length-set (l .inv .1),
+      rw (l .inv .2) (move-up-turn (a .b .now) (a .to) (a .from) (a .n) (l .i) (omega arith) (omega arith) (omega arith) (omega arith)),
+    )
 
 same-length : tie.Need-same-length Inv-loop μ-loop
 same-length c = omega arith

@@ -22,7 +22,9 @@ slice-relend-prefix-fresh-3 : tie.Need-slice-relend-prefix-fresh-3
 slice-relend-prefix-fresh-3 c = search needs
 
 slice-aggregate-fresh-3 : tie.Need-slice-aggregate-fresh-3
-slice-aggregate-fresh-3 c = let d = c .before .before .before .before .before .before in sym (length-take-le 4096 (d .args .lost .now) (omega (arith, d .pre .2)))
+slice-aggregate-fresh-3 c =
+    let d = c .before .before .before .before .before .before in
+    sym (length-take-le 4096 (d .args .lost .now) (omega (arith, d .pre .2)))
 
 fresh-requires : tie.Need-fresh-requires
 fresh-requires c κs = search needs

@@ -15,19 +15,25 @@ slice-relend-prefix-call-2 : tie.Need-slice-relend-prefix-call-2
 slice-relend-prefix-call-2 c = search needs
 
 slice-aggregate-call-2 : tie.Need-slice-aggregate-call-2
-slice-aggregate-call-2 c = let d = c .before .before .before .before .before .before .before in sym (length-take-le (d .args .n .writers) (d .args .writers .now) (d .pre .1))
+slice-aggregate-call-2 c =
+    let d = c .before .before .before .before .before .before .before in
+    sym (length-take-le (d .args .n .writers) (d .args .writers .now) (d .pre .1))
 
 slice-relend-prefix-call-3 : tie.Need-slice-relend-prefix-call-3
 slice-relend-prefix-call-3 c = search needs
 
 slice-aggregate-call-3 : tie.Need-slice-aggregate-call-3
-slice-aggregate-call-3 c = let d = c .before .before .before .before .before .before .before .before in sym (length-take-le (d .args .n .lost) (d .args .lost .now) (d .pre .2))
+slice-aggregate-call-3 c =
+    let d = c .before .before .before .before .before .before .before .before in
+    sym (length-take-le (d .args .n .lost) (d .args .lost .now) (d .pre .2))
 
 slice-relend-prefix-call-4 : tie.Need-slice-relend-prefix-call-4
 slice-relend-prefix-call-4 c = search needs
 
 slice-aggregate-call-4 : tie.Need-slice-aggregate-call-4
-slice-aggregate-call-4 c = let d = c .before .before .before .before .before .before .before .before .before in sym (length-take-le (d .args .n .out) (d .args .out .now) (d .pre .3))
+slice-aggregate-call-4 c =
+    let d = c .before .before .before .before .before .before .before .before .before in
+    sym (length-take-le (d .args .n .out) (d .args .out .now) (d .pre .3))
 
 call-requires : tie.Need-call-requires
 call-requires c κs = search needs

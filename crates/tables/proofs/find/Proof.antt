@@ -27,17 +27,21 @@ is-same-requires c κs = search needs
 
 returns : tie.Need-returns
 returns c =
-    let a = c .before .before .before .before .before .before .args in
+    let l = c .before .before .before .before .before .before in
+    let a = l .args in
     let b = c .before .before .before .before .lower-bound in
     let k = c .before .before .key-at in
-    find-at (a .size) (a .count) (a .t .now) (a .key) (b .result) (b .ensures) (k .result) (k .ensures) (omega arith) (sym (c .before .is-same .ensures) ∙ c .if2 .taken)
+    find-at (a .size) (a .count) (a .t .now) (a .key) (b .result) (b .ensures) (k .result) (k .ensures) (omega arith)
+    (sym (c .before .is-same .ensures) ∙ c .if2 .taken)
 
 returns-2 : tie.Need-returns-2
 returns-2 c =
-    let a = c .before .before .before .before .before .before .args in
+    let l = c .before .before .before .before .before .before in
+    let a = l .args in
     let b = c .before .before .before .before .lower-bound in
     let k = c .before .before .key-at in
-    find-other (a .size) (a .count) (a .t .now) (a .key) (b .result) (b .ensures) (k .result) (k .ensures) (omega arith) (sym (c .before .is-same .ensures) ∙ c .if2 .left)
+    find-other (a .size) (a .count) (a .t .now) (a .key) (b .result) (b .ensures) (k .result) (k .ensures) (omega arith)
+    (sym (c .before .is-same .ensures) ∙ c .if2 .left)
 
 returns-3 : tie.Need-returns-3
 returns-3 c =

@@ -13,7 +13,8 @@ clocks-ok-requires c κs = search needs
 returns : tie.Need-returns
 returns c =
     let x = c .before .before in
-    λ pens writers lost. tracker-5 (x .args .c) (x .args .s) (heldBy (x .args .head) pens writers lost) (sym (c .before .clocks-ok .ensures) ∙ not-true _ (c .if1 .taken))
+    λ pens writers lost. tracker-5 (x .args .c) (x .args .s) (heldBy (x .args .head) pens writers lost)
+    (sym (c .before .clocks-ok .ensures) ∙ not-true _ (c .if1 .taken))
 
 kind-ok-requires : tie.Need-kind-ok-requires
 kind-ok-requires c κs = search needs
@@ -21,20 +22,30 @@ kind-ok-requires c κs = search needs
 returns-2 : tie.Need-returns-2
 returns-2 c =
     let x = c .before .before .before .before in
-    λ pens writers lost. tracker-7 (x .args .c) (x .args .s) (heldBy (x .args .head) pens writers lost) (sym (c .before .before .before .clocks-ok .ensures) ∙ not-false _ (c .before .before .if1 .left)) (sym (c .before .kind-ok .ensures) ∙ not-true _ (c .if2 .taken))
+    λ pens writers lost. tracker-7 (x .args .c) (x .args .s) (heldBy (x .args .head) pens writers lost)
+    (sym (c .before .before .before .clocks-ok .ensures) ∙ not-false _ (c .before .before .if1 .left))
+    (sym (c .before .kind-ok .ensures) ∙ not-true _ (c .if2 .taken))
 
 acknowledge-ok-requires : tie.Need-acknowledge-ok-requires
 acknowledge-ok-requires c κs = search needs
 
 returns-3 : tie.Need-returns-3
 returns-3 c =
-    let x = c .before .before .before .before .before .before in
-    λ pens writers lost. tracker-8 (x .args .c) (x .args .s) (heldBy (x .args .head) pens writers lost) (sym (c .before .before .before .before .before .clocks-ok .ensures) ∙ not-false _ (c .before .before .before .before .if1 .left)) (sym (c .before .before .before .kind-ok .ensures) ∙ not-false _ (c .before .before .if2 .left)) (sym (c .before .acknowledge-ok .ensures pens writers lost) ∙ not-true _ (c .if3 .taken))
+    let k = c .before .before .before .before .before in
+    let x = k .before in
+    λ pens writers lost. tracker-8 (x .args .c) (x .args .s) (heldBy (x .args .head) pens writers lost)
+    (sym (k .clocks-ok .ensures) ∙ not-false _ (c .before .before .before .before .if1 .left))
+    (sym (c .before .before .before .kind-ok .ensures) ∙ not-false _ (c .before .before .if2 .left))
+    (sym (c .before .acknowledge-ok .ensures pens writers lost) ∙ not-true _ (c .if3 .taken))
 
 returns-4 : tie.Need-returns-4
 returns-4 c =
-    let x = c .before .before .before .before .before .before in
-    λ pens writers lost. tracker-none (x .args .c) (x .args .s) (heldBy (x .args .head) pens writers lost) (sym (c .before .before .before .before .before .clocks-ok .ensures) ∙ not-false _ (c .before .before .before .before .if1 .left)) (sym (c .before .before .before .kind-ok .ensures) ∙ not-false _ (c .before .before .if2 .left)) (sym (c .before .acknowledge-ok .ensures pens writers lost) ∙ not-false _ (c .if3 .left))
+    let k = c .before .before .before .before .before in
+    let x = k .before in
+    λ pens writers lost. tracker-none (x .args .c) (x .args .s) (heldBy (x .args .head) pens writers lost)
+    (sym (k .clocks-ok .ensures) ∙ not-false _ (c .before .before .before .before .if1 .left))
+    (sym (c .before .before .before .kind-ok .ensures) ∙ not-false _ (c .before .before .if2 .left))
+    (sym (c .before .acknowledge-ok .ensures pens writers lost) ∙ not-false _ (c .if3 .left))
 
 pub tracker-refusal-spec : {M : Type 1} → statement M
 tracker-refusal-spec =

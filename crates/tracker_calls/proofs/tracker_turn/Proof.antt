@@ -13,14 +13,21 @@ refused-requires c κs = search needs
 
 returns : tie.Need-returns
 returns c =
-    let x = c .before .before .before .before .before .before in
+    let k = c .before .before in
+    let x = k .before .before .before .before in
     refuses-judged (x .args .c) (x .args .s) (x .args .head) (x .args .writers .now) (x .args .lost .now) (x .args .out .now)
-    (c .before .before .tracker-refusal .result) (c .before .before .tracker-refusal .ensures) (c .before .if1 .taken) (c .refused .result) (c .refused .ensures)
+    (k .tracker-refusal .result) (k .tracker-refusal .ensures) (c .before .if1 .taken) (c .refused .result) (c .refused .ensures)
 
 turn-requires : tie.Need-turn-requires
 turn-requires c κs =
-    let x = c .before .before .before .before .before .before .before .before in
-    (x .pre .0, x .pre .1, x .pre .2, x .pre .3, λ pens writers lost. sym (c .before .before .before .if1 .left) ∙ (c .before .before .before .before .tracker-refusal .ensures) pens writers lost)
+    let x = c .before .before .before .before .before .before .before .before in (
+      x .pre .0,
+      x .pre .1,
+      x .pre .2,
+      x .pre .3,
+      λ pens writers lost. sym (c .before .before .before .if1 .left) ∙ (c .before .before .before .before .tracker-refusal .ensures) pens writers
+          lost,
+    )
 
 same-length : tie.Need-same-length
 same-length c = search needs

@@ -66,53 +66,67 @@ enum-told-9 c = search needs
 acknowledge-requires : tie.Need-acknowledge-requires
 acknowledge-requires c κs =
     let x = c .before .before .before .before .before in
-    let g = good (x .args .head) (x .args .writers .now) (λ j. (c .before .before .before .before .slice-known .given) j .fits) (x .pre .0) in
-    (x .pre .0 .headFormed, g .ready .alive, g .ready .notAlive, λ pens writers lost. acknowledges-fine (x .args .c) Acknowledge (c .enum-told9 .given .1) (x .args .s) (heldBy (x .args .head) pens writers lost) (x .pre .4 pens writers lost))
+    let g = good (x .args .head) (x .args .writers .now) (λ j. (c .before .before .before .before .slice-known .given) j .fits) (x .pre .0) in (
+      x .pre .0 .headFormed,
+      g .ready .alive,
+      g .ready .notAlive,
+      λ pens writers lost. acknowledges-fine (x .args .c) Acknowledge (c .enum-told9 .given .1) (x .args .s)
+          (heldBy (x .args .head) pens writers lost) (x .pre .4 pens writers lost),
+    )
 
 same-length : tie.Need-same-length
 same-length c = search needs
 
 returns : tie.Need-returns
 returns c =
-    let x = c .before .before .before .before .before .before .before .before .before in
-    turns-judged (x .args .c) (x .args .s) (x .args .head) (x .args .writers .now) (x .args .lost .now) (x .args .out .now) (x .pre .4) (c .before .before .matched .result) Matched (c .before .before .before .before .enum-told .given .1)
-    (λ gone lost. refl) (λ st. refl) _ (c .before .before .matched .ensures)
+    let k = c .before .before in
+    let x = k .before .before .before .before .before .before .before in
+    turns-judged (x .args .c) (x .args .s) (x .args .head) (x .args .writers .now) (x .args .lost .now) (x .args .out .now) (x .pre .4)
+    (k .matched .result) Matched (c .before .before .before .before .enum-told .given .1) (λ gone lost. refl) (λ st. refl) _ (k .matched .ensures)
 
 same-length-2 : tie.Need-same-length-2
 same-length-2 c = search needs
 
 returns-2 : tie.Need-returns-2
 returns-2 c =
-    let x = c .before .before .before .before .before .before .before .before .before in
-    turns-judged (x .args .c) (x .args .s) (x .args .head) (x .args .writers .now) (x .args .lost .now) (x .args .out .now) (x .pre .4) (c .before .before .unmatched .result) Unmatched (c .before .before .before .before .enum-told2 .given .1)
-    (λ gone lost. refl) (λ st. refl) _ (c .before .before .unmatched .ensures)
+    let k = c .before .before in
+    let x = k .before .before .before .before .before .before .before in
+    turns-judged (x .args .c) (x .args .s) (x .args .head) (x .args .writers .now) (x .args .lost .now) (x .args .out .now) (x .pre .4)
+    (k .unmatched .result) Unmatched (c .before .before .before .before .enum-told2 .given .1) (λ gone lost. refl) (λ st. refl) _
+    (k .unmatched .ensures)
 
 same-length-3 : tie.Need-same-length-3
 same-length-3 c = search needs
 
 returns-3 : tie.Need-returns-3
 returns-3 c =
-    let x = c .before .before .before .before .before .before .before .before .before in
-    turns-judged (x .args .c) (x .args .s) (x .args .head) (x .args .writers .now) (x .args .lost .now) (x .args .out .now) (x .pre .4) (c .before .before .lost-with-participant .result) LostWithParticipant (c .before .before .before .before .enum-told3 .given .1)
-    (λ gone lost. refl) (λ st. refl) _ (c .before .before .lost-with-participant .ensures)
+    let k = c .before .before in
+    let x = k .before .before .before .before .before .before .before in
+    turns-judged (x .args .c) (x .args .s) (x .args .head) (x .args .writers .now) (x .args .lost .now) (x .args .out .now) (x .pre .4)
+    (k .lost-with-participant .result) LostWithParticipant (c .before .before .before .before .enum-told3 .given .1) (λ gone lost. refl) (λ st. refl)
+    _ (k .lost-with-participant .ensures)
 
 same-length-4 : tie.Need-same-length-4
 same-length-4 c = search needs
 
 returns-4 : tie.Need-returns-4
 returns-4 c =
-    let x = c .before .before .before .before .before .before .before .before .before in
-    turns-judged (x .args .c) (x .args .s) (x .args .head) (x .args .writers .now) (x .args .lost .now) (x .args .out .now) (x .pre .4) (c .before .before .writer-asserted .result) WriterAsserted (c .before .before .before .before .enum-told4 .given .1)
-    (λ gone lost. refl) (λ st. refl) _ (c .before .before .writer-asserted .ensures)
+    let k = c .before .before in
+    let x = k .before .before .before .before .before .before .before in
+    turns-judged (x .args .c) (x .args .s) (x .args .head) (x .args .writers .now) (x .args .lost .now) (x .args .out .now) (x .pre .4)
+    (k .writer-asserted .result) WriterAsserted (c .before .before .before .before .enum-told4 .given .1) (λ gone lost. refl) (λ st. refl) _
+    (k .writer-asserted .ensures)
 
 same-length-5 : tie.Need-same-length-5
 same-length-5 c = search needs
 
 returns-5 : tie.Need-returns-5
 returns-5 c =
-    let x = c .before .before .before .before .before .before .before .before .before in
-    turns-judged (x .args .c) (x .args .s) (x .args .head) (x .args .writers .now) (x .args .lost .now) (x .args .out .now) (x .pre .4) (c .before .before .participant-asserted .result) ParticipantAsserted (c .before .before .before .before .enum-told5 .given .1)
-    (λ gone lost. refl) (λ st. refl) _ (c .before .before .participant-asserted .ensures)
+    let k = c .before .before in
+    let x = k .before .before .before .before .before .before .before in
+    turns-judged (x .args .c) (x .args .s) (x .args .head) (x .args .writers .now) (x .args .lost .now) (x .args .out .now) (x .pre .4)
+    (k .participant-asserted .result) ParticipantAsserted (c .before .before .before .before .enum-told5 .given .1) (λ gone lost. refl) (λ st. refl) _
+    (k .participant-asserted .ensures)
 
 same-length-6 : tie.Need-same-length-6
 same-length-6 c = search needs
@@ -122,8 +136,11 @@ same-length-7 c = search needs
 
 returns-6 : tie.Need-returns-6
 returns-6 c =
-    let x = c .before .before .before .before .before .before .before .before .before .before .before .before in
-    expires-judged (x .args .c) (x .args .s) (x .args .head) (x .args .writers .now) (x .args .lost .now) (x .args .out .now) (x .pre .4) (c .before .before .before .before .expire .result) (c .before .before .before .before .before .before .before .enum-told6 .given .1) _ _ (c .before .before .before .before .expire .ensures)
+    let k = c .before .before .before .before in
+    let l = k .before .before .before in
+    let x = l .before .before .before .before .before in
+    expires-judged (x .args .c) (x .args .s) (x .args .head) (x .args .writers .now) (x .args .lost .now) (x .args .out .now) (x .pre .4)
+    (k .expire .result) (l .enum-told6 .given .1) _ _ (k .expire .ensures)
 
 same-length-8 : tie.Need-same-length-8
 same-length-8 c = search needs
@@ -133,20 +150,25 @@ same-length-9 c = search needs
 
 returns-7 : tie.Need-returns-7
 returns-7 c =
-    let x = c .before .before .before .before .before .before .before .before .before .before .before .before in
-    takes-judged (x .args .c) (x .args .s) (x .args .head) (x .args .writers .now) (x .args .lost .now) (x .args .out .now) (x .pre .4) (c .before .before .before .before .take-lost .result) (x .pre .0 .counted) (c .before .before .before .before .before .before .before .enum-told7 .given .1) _ _ (c .before .before .before .before .take-lost .ensures)
+    let k = c .before .before .before .before in
+    let l = k .before .before .before in
+    let x = l .before .before .before .before .before in
+    takes-judged (x .args .c) (x .args .s) (x .args .head) (x .args .writers .now) (x .args .lost .now) (x .args .out .now) (x .pre .4)
+    (k .take-lost .result) (x .pre .0 .counted) (l .enum-told7 .given .1) _ _ (k .take-lost .ensures)
 
 returns-8 : tie.Need-returns-8
 returns-8 c =
     let x = c .before .before .before .before .before .before in
-    keeps-judged (x .args .c) (x .args .s) (x .args .head) (x .args .writers .now) (x .args .lost .now) (x .args .out .now) (x .pre .4) (c .take-status .result) (x .pre .0 .counted) TakeStatus (c .before .enum-told8 .given .1)
-    (status-same (x .args .s)) (λ gone lost. refl) (λ st. refl) (c .take-status .ensures)
+    keeps-judged (x .args .c) (x .args .s) (x .args .head) (x .args .writers .now) (x .args .lost .now) (x .args .out .now) (x .pre .4)
+    (c .take-status .result) (x .pre .0 .counted) TakeStatus (c .before .enum-told8 .given .1) (status-same (x .args .s)) (λ gone lost. refl)
+    (λ st. refl) (c .take-status .ensures)
 
 returns-9 : tie.Need-returns-9
 returns-9 c =
     let x = c .before .before .before .before .before .before in
-    keeps-judged (x .args .c) (x .args .s) (x .args .head) (x .args .writers .now) (x .args .lost .now) (x .args .out .now) (x .pre .4) (c .acknowledge .result) (x .pre .0 .counted) Acknowledge (c .before .enum-told9 .given .1)
-    (acknowledge-same (x .args .s)) (λ gone lost. refl) (λ st. refl) (c .acknowledge .ensures)
+    keeps-judged (x .args .c) (x .args .s) (x .args .head) (x .args .writers .now) (x .args .lost .now) (x .args .out .now) (x .pre .4)
+    (c .acknowledge .result) (x .pre .0 .counted) Acknowledge (c .before .enum-told9 .given .1) (acknowledge-same (x .args .s)) (λ gone lost. refl)
+    (λ st. refl) (c .acknowledge .ensures)
 
 pub turn-spec : {M : Type 1} → statement M
 turn-spec =

@@ -24,7 +24,10 @@ writer-at-requires : tie.Need-writer-at-requires Inv-loop μ-loop
 writer-at-requires c κs = omega (arith, (c .before .before .before .pre))
 
 count-one-requires : tie.Need-count-one-requires Inv-loop μ-loop
-count-one-requires c κs = counts-room (c .before .before .before .before .before .args .t .now) (c .before .before .before .before .before .args .count) (c .before .before .before .loop .i) (c .before .before .before .loop .counts) (omega arith) (c .before .before .before .before .before .pre .0) (c .before .before .before .loop .inv .1)
+count-one-requires c κs =
+    let k = c .before .before .before in
+    let a = k .before .before in
+    counts-room (a .args .t .now) (a .args .count) (k .loop .i) (k .loop .counts) (omega arith) (a .pre .0) (k .loop .inv .1)
 
 add-i : tie.Need-add-i Inv-loop μ-loop
 add-i c = omega arith
@@ -33,10 +36,19 @@ loop-less : tie.Need-loop-less Inv-loop μ-loop
 loop-less c = omega arith
 
 loop-again : tie.Need-loop-again Inv-loop μ-loop
-loop-again c = (omega arith, (c .count-one .ensures) ∙ counts-at (c .before .before .before .before .before .before .args .t .now) (c .before .before .before .before .before .before .args .count) (c .before .before .before .before .loop .i) (c .before .before .writer-at .result) (c .before .before .before .before .loop .counts) (omega arith) (c .before .before .writer-at .ensures) (c .before .before .before .before .loop .inv .1))
+loop-again c =
+    let k = c .before .before in
+    let l = k .before .before in
+    let a = l .before .before in (
+      omega arith,
+      (c .count-one .ensures) ∙ counts-at (a .args .t .now) (a .args .count) (l .loop .i) (k .writer-at .result) (l .loop .counts) (omega arith)
+          (k .writer-at .ensures) (l .loop .inv .1),
+    )
 
 returns : tie.Need-returns Inv-loop μ-loop
-returns c = counts-end (c .before .before .before .args .t .now) (c .before .before .before .args .count) (c .before .loop .i) (c .before .loop .counts) (omega arith) (c .before .loop .inv .1)
+returns c =
+    let a = c .before .before .before in
+    counts-end (a .args .t .now) (a .args .count) (c .before .loop .i) (c .before .loop .counts) (omega arith) (c .before .loop .inv .1)
 
 pub count-classes-spec : {M : Type 1} → statement M
 count-classes-spec =

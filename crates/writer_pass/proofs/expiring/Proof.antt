@@ -24,10 +24,15 @@ writer-at-requires : tie.Need-writer-at-requires Inv-loop μ-loop
 writer-at-requires c κs = omega (arith, (c .before .before .before .pre))
 
 expires-requires : tie.Need-expires-requires Inv-loop μ-loop
-expires-requires c κs = bounded-in (c .before .before .before .before .args .t .now) (c .before .before .before .before .args .count) (c .before .before .loop .i) (c .writer-at .result) (c .before .before .before .before .pre) (omega arith) (c .writer-at .ensures)
+expires-requires c κs =
+    let a = c .before .before .before .before in
+    bounded-in (a .args .t .now) (a .args .count) (c .before .before .loop .i) (c .writer-at .result) (a .pre) (omega arith) (c .writer-at .ensures)
 
 one-more-requires : tie.Need-one-more-requires Inv-loop μ-loop
-one-more-requires c κs = expiring-room (c .before .before .before .before .before .args .t .now) (c .before .before .before .before .before .args .count) (c .before .before .before .before .before .args .clock) (c .before .before .before .loop .i) (c .before .before .before .loop .n) (omega arith) (c .before .before .before .before .before .pre .few) (c .before .before .before .loop .inv .1)
+one-more-requires c κs =
+    let k = c .before .before .before in
+    let a = k .before .before in
+    expiring-room (a .args .t .now) (a .args .count) (a .args .clock) (k .loop .i) (k .loop .n) (omega arith) (a .pre .few) (k .loop .inv .1)
 
 add-i : tie.Need-add-i Inv-loop μ-loop
 add-i c = omega arith
@@ -36,10 +41,19 @@ loop-less : tie.Need-loop-less Inv-loop μ-loop
 loop-less c = omega arith
 
 loop-again : tie.Need-loop-again Inv-loop μ-loop
-loop-again c = (omega arith, expiring-at (c .before .before .before .before .before .before .args .t .now) (c .before .before .before .before .before .before .args .count) (c .before .before .before .before .before .before .args .clock) (c .before .before .before .before .loop .i) (c .before .before .writer-at .result) (c .before .before .before .before .loop .n) (c .before .expires .result) (c .one-more .result) (omega arith) (c .before .before .writer-at .ensures) (c .before .before .before .before .loop .inv .1) (c .before .expires .ensures) (c .one-more .ensures))
+loop-again c =
+    let k = c .before .before in
+    let l = k .before .before in
+    let a = l .before .before in (
+      omega arith,
+      expiring-at (a .args .t .now) (a .args .count) (a .args .clock) (l .loop .i) (k .writer-at .result) (l .loop .n) (c .before .expires .result)
+          (c .one-more .result) (omega arith) (k .writer-at .ensures) (l .loop .inv .1) (c .before .expires .ensures) (c .one-more .ensures),
+    )
 
 returns : tie.Need-returns Inv-loop μ-loop
-returns c = expiring-end (c .before .before .before .args .t .now) (c .before .before .before .args .count) (c .before .before .before .args .clock) (c .before .loop .i) (c .before .loop .n) (omega arith) (c .before .loop .inv .1)
+returns c =
+    let a = c .before .before .before in
+    expiring-end (a .args .t .now) (a .args .count) (a .args .clock) (c .before .loop .i) (c .before .loop .n) (omega arith) (c .before .loop .inv .1)
 
 pub expiring-spec : {M : Type 1} → statement M
 expiring-spec =

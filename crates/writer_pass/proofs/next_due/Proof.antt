@@ -28,19 +28,38 @@ is-leased-requires : tie.Need-is-leased-requires Inv-loop μ-loop
 is-leased-requires c κs = tt
 
 sooner-of-requires : tie.Need-sooner-of-requires Inv-loop μ-loop
-sooner-of-requires c κs = bounded-in (c .before .before .before .before .before .before .args .t .now) (c .before .before .before .before .before .before .args .count) ((c .before .before .before .before .loop .i) - 1) (c .before .before .writer-at .result) (c .before .before .before .before .before .before .pre) (omega arith) (c .before .before .writer-at .ensures)
+sooner-of-requires c κs =
+    let k = c .before .before in
+    let a = k .before .before .before .before in
+    bounded-in (a .args .t .now) (a .args .count) ((c .before .before .before .before .loop .i) - 1) (k .writer-at .result) (a .pre) (omega arith)
+    (k .writer-at .ensures)
 
 loop-less : tie.Need-loop-less Inv-loop μ-loop
 loop-less c = omega arith
 
 loop-again : tie.Need-loop-again Inv-loop μ-loop
-loop-again c = (omega arith, rw (due-turn (c .before .before .before .before .before .before .before .args .t .now) (c .before .before .before .before .before .before .before .args .count) (c .before .before .before .before .before .loop .i) ((c .before .before .before .before .before .loop .i) - 1) (c .before .before .before .writer-at .result) (c .before .before .before .before .before .loop .d) (omega arith) (omega arith) (c .before .before .before .writer-at .ensures) (c .before .before .before .before .before .loop .inv .1), ← (c .before .before .is-leased .ensures), (c .before .if1 .taken)) (c .sooner-of .ensures))
+loop-again c =
+    let k = c .before .before .before in
+    let l = k .before .before in
+    let a = l .before .before in (
+      omega arith,
+      rw
+          (due-turn (a .args .t .now) (a .args .count) (l .loop .i) ((l .loop .i) - 1) (k .writer-at .result) (l .loop .d) (omega arith) (omega arith) (k .writer-at .ensures) (l .loop .inv .1), ← (c .before .before .is-leased .ensures), (c .before .if1 .taken))
+          (c .sooner-of .ensures),
+    )
 
 loop-less-2 : tie.Need-loop-less-2 Inv-loop μ-loop
 loop-less-2 c = omega arith
 
 loop-again-2 : tie.Need-loop-again-2 Inv-loop μ-loop
-loop-again-2 c = (omega arith, rw (due-turn (c .before .before .before .before .before .before .args .t .now) (c .before .before .before .before .before .before .args .count) (c .before .before .before .before .loop .i) ((c .before .before .before .before .loop .i) - 1) (c .before .before .writer-at .result) (c .before .before .before .before .loop .d) (omega arith) (omega arith) (c .before .before .writer-at .ensures) (c .before .before .before .before .loop .inv .1), ← (c .before .is-leased .ensures), (c .if1 .left)))
+loop-again-2 c =
+    let k = c .before .before in
+    let l = k .before .before in
+    let a = l .before .before in (
+      omega arith,
+      rw
+          (due-turn (a .args .t .now) (a .args .count) (l .loop .i) ((l .loop .i) - 1) (k .writer-at .result) (l .loop .d) (omega arith) (omega arith) (k .writer-at .ensures) (l .loop .inv .1), ← (c .before .is-leased .ensures), (c .if1 .left)),
+    )
 
 returns : tie.Need-returns Inv-loop μ-loop
 returns c =

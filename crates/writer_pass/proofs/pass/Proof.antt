@@ -12,13 +12,21 @@ abbrev μ-loop : tie.MeasureT-loop
 μ-loop t₀ count act tally₀ i₀ t tally i = count - i
 
 loop-holds : tie.Need-loop-holds Inv-loop μ-loop
-loop-holds c = start (c .before .args .act) (c .before .args .last) (c .before .args .t .now) (c .before .args .count) (λ j. (c .slice-known .given) j .fits) (c .before .pre)
+loop-holds c =
+    start (c .before .args .act) (c .before .args .last) (c .before .args .t .now) (c .before .args .count) (λ j. (c .slice-known .given) j .fits)
+    (c .before .pre)
 
 pass-at-requires : tie.Need-pass-at-requires Inv-loop μ-loop
 pass-at-requires c κs =
     let l = (c .before .before .loop) in
-    let s = (c .before .before .before .before) in
-    (omega (arith, s .pre), omega (arith, s .pre), omega (arith, s .pre), omega (arith, s .pre), bounded-at (s .args .act) (s .args .last) (s .args .t .now) (s .args .count) (λ j. (c .before .before .before .slice-known .given) j .fits) (s .pre) (l .t) (l .tally) (l .i) (l .inv) (omega arith))
+    let s = (c .before .before .before .before) in (
+      omega (arith, s .pre),
+      omega (arith, s .pre),
+      omega (arith, s .pre),
+      omega (arith, s .pre),
+      bounded-at (s .args .act) (s .args .last) (s .args .t .now) (s .args .count) (λ j. (c .before .before .before .slice-known .given) j .fits)
+          (s .pre) (l .t) (l .tally) (l .i) (l .inv) (omega arith),
+    )
 
 add-i : tie.Need-add-i Inv-loop μ-loop
 add-i c = omega arith
@@ -28,9 +36,14 @@ loop-less c = omega arith
 
 loop-again : tie.Need-loop-again Inv-loop μ-loop
 loop-again c =
-    let l = (c .before .before .before .before .before .loop) in
-    let s = (c .before .before .before .before .before .before .before) in
-    turn (s .args .act) (s .args .last) (s .args .t .now) (s .args .count) (λ j. (c .before .before .before .before .before .before .slice-known .given) j .fits) (s .pre) (l .t) (l .tally) (l .i) (l .inv) (omega arith) (c .before .before .pass-at .last .0) (c .before .before .pass-at .result) (c .before .before .pass-at .ensures .0) (c .before .before .pass-at .ensures .1)
+    let k = c .before .before in
+    let m = k .before .before .before in
+    let n = m .before in
+    let p = n .before in
+    let l = (m .loop) in
+    let s = (p) in
+    turn (s .args .act) (s .args .last) (s .args .t .now) (s .args .count) (λ j. (n .slice-known .given) j .fits) (s .pre) (l .t) (l .tally) (l .i)
+    (l .inv) (omega arith) (k .pass-at .last .0) (k .pass-at .result) (k .pass-at .ensures .0) (k .pass-at .ensures .1)
 
 same-length : tie.Need-same-length Inv-loop μ-loop
 same-length c = omega arith
@@ -39,7 +52,8 @@ returns : tie.Need-returns Inv-loop μ-loop
 returns c =
     let l = (c .before .loop) in
     let s = (c .before .before .before) in
-    end (s .args .act) (s .args .last) (s .args .t .now) (s .args .count) (λ j. (c .before .before .slice-known .given) j .fits) (s .pre) (l .t) (l .tally) (l .i) (l .inv) (omega arith)
+    end (s .args .act) (s .args .last) (s .args .t .now) (s .args .count) (λ j. (c .before .before .slice-known .given) j .fits) (s .pre) (l .t)
+    (l .tally) (l .i) (l .inv) (omega arith)
 
 pub pass-spec : {M : Type 1} → statement M
 pass-spec =

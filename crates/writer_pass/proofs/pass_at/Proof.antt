@@ -24,7 +24,16 @@ same-length : tie.Need-same-length
 same-length c = search needs
 
 returns : tie.Need-returns
-returns c = part-touched (c .before .before .before .before .before .before .before .before .before .before .before .args .act) (c .before .before .before .before .before .before .before .before .writer-at .result) (c .before .before .before .before .before .touched .result) _ (c .before .before .before .before .before .before .before .before .before .before .before .args .t .now) (c .before .before .before .put-writer .last .0) (c .before .before .before .before .before .before .before .before .before .before .before .args .i) (c .before .before .before .before .before .before .before .before .before .before .before .args .tally) (c .counted .result) (c .before .before .before .before .before .before .before .before .writer-at .ensures) (sym (c .before .before .before .before .before .before .before .touches .ensures) ∙ (c .before .before .before .before .before .before .if1 .taken)) (c .before .before .before .before .before .touched .ensures) (c .before .before .before .put-writer .ensures) (c .counted .ensures)
+returns c =
+    let k = c .before .before .before in
+    let l = k .before .before in
+    let m = l .before in
+    let n = m .before in
+    let p = n .before in
+    let a = p .before .before .before in
+    part-touched (a .args .act) (p .writer-at .result) (l .touched .result) _ (a .args .t .now) (k .put-writer .last .0) (a .args .i) (a .args .tally)
+    (c .counted .result) (p .writer-at .ensures) (sym (n .touches .ensures) ∙ (m .if1 .taken)) (l .touched .ensures) (k .put-writer .ensures)
+    (c .counted .ensures)
 
 counted-requires-2 : tie.Need-counted-requires-2
 counted-requires-2 c κs = search needs
@@ -33,7 +42,11 @@ same-length-2 : tie.Need-same-length-2
 same-length-2 c = search needs
 
 returns-2 : tie.Need-returns-2
-returns-2 c = part-kept (c .before .before .before .before .before .before .args .act) (c .before .before .before .writer-at .result) _ (c .before .before .before .before .before .before .args .t .now) (c .before .before .before .before .before .before .args .i) (c .before .before .before .before .before .before .args .tally) (c .counted2 .result) (c .before .before .before .writer-at .ensures) (sym (c .before .before .touches .ensures) ∙ (c .before .if1 .left)) (c .counted2 .ensures)
+returns-2 c =
+    let k = c .before .before .before in
+    let a = k .before .before .before in
+    part-kept (a .args .act) (k .writer-at .result) _ (a .args .t .now) (a .args .i) (a .args .tally) (c .counted2 .result) (k .writer-at .ensures)
+    (sym (c .before .before .touches .ensures) ∙ (c .before .if1 .left)) (c .counted2 .ensures)
 
 pub pass-at-spec : {M : Type 1} → statement M
 pass-at-spec =

@@ -17,7 +17,12 @@ same-length : tie.Need-same-length
 same-length c = search needs
 
 returns : tie.Need-returns
-returns c = guid-put (c .before .before .before .before .before .before .before .before .before .args .g) (c .before .before .before .before .before .before .before .before .before .args .t .now) (c .before .before .before .before .before .before .put-u64 .last .0) (c .before .before .put-u642 .last .0) (c .before .before .before .before .before .before .before .before .before .args .at) (c .before .before .before .before .before .before .before .before .before .pre) (c .before .before .before .before .before .before .put-u64 .ensures) (c .before .before .put-u642 .ensures)
+returns c =
+    let k = c .before .before in
+    let l = k .before .before .before .before in
+    let a = l .before .before .before in
+    guid-put (a .args .g) (a .args .t .now) (l .put-u64 .last .0) (k .put-u642 .last .0) (a .args .at) (a .pre) (l .put-u64 .ensures)
+    (k .put-u642 .ensures)
 
 pub put-guid-spec : {M : Type 1} → statement M
 put-guid-spec =

@@ -44,7 +44,18 @@ same-length : tie.Need-same-length
 same-length c = search needs
 
 returns : tie.Need-returns
-returns c = record-put (c .before .before .before .before .before .before .before .before .before .before .before .before .before .before .before .before .before .before .before .before .before .before .before .before .before .before .args .w) (c .before .before .before .before .before .before .before .before .before .before .before .before .before .before .before .before .before .before .before .before .before .before .before .before .flags-of .result) (c .before .before .before .before .before .before .before .before .before .before .before .before .before .before .before .before .before .before .before .before .before .before .before .before .before .before .args .t .now) (c .before .before .before .before .before .before .before .before .before .before .before .before .before .before .before .before .before .before .before .before .before .before .put-u64 .last .0) (c .before .before .before .before .before .before .before .before .before .before .before .before .before .before .before .before .before .before .put-u642 .last .0) (c .before .before .before .before .before .before .before .before .before .before .before .before .before .before .put-u8 .last .0) (c .before .before .before .before .before .before .before .before .before .before .store .last .0) (c .before .before .before .before .before .before .put-u643 .last .0) (c .before .before .put-u644 .last .0) (c .before .before .before .before .before .before .before .before .before .before .before .before .before .before .before .before .before .before .before .before .before .before .before .before .before .before .args .at) (c .before .before .before .before .before .before .before .before .before .before .before .before .before .before .before .before .before .before .before .before .before .before .before .before .before .before .pre) (c .before .before .before .before .before .before .before .before .before .before .before .before .before .before .before .before .before .before .before .before .before .before .before .before .flags-of .ensures) (c .before .before .before .before .before .before .before .before .before .before .before .before .before .before .before .before .before .before .before .before .before .before .put-u64 .ensures) (c .before .before .before .before .before .before .before .before .before .before .before .before .before .before .before .before .before .before .put-u642 .ensures) (c .before .before .before .before .before .before .before .before .before .before .before .before .before .before .put-u8 .ensures) (c .before .before .before .before .before .before .before .before .before .before .store .ensures) (c .before .before .before .before .before .before .put-u643 .ensures) (c .before .before .put-u644 .ensures)
+returns c =
+    let k = c .before .before in
+    let l = k .before .before .before .before in
+    let m = l .before .before .before .before in
+    let n = m .before .before .before .before in
+    let p = n .before .before .before .before in
+    let q = p .before .before .before .before in
+    let u = q .before .before in
+    let a = u .before .before in
+    record-put (a .args .w) (u .flags-of .result) (a .args .t .now) (q .put-u64 .last .0) (p .put-u642 .last .0) (n .put-u8 .last .0)
+    (m .store .last .0) (l .put-u643 .last .0) (k .put-u644 .last .0) (a .args .at) (a .pre) (u .flags-of .ensures) (q .put-u64 .ensures)
+    (p .put-u642 .ensures) (n .put-u8 .ensures) (m .store .ensures) (l .put-u643 .ensures) (k .put-u644 .ensures)
 
 pub put-record-spec : {M : Type 1} → statement M
 put-record-spec =

@@ -24,7 +24,11 @@ writer-from-requires c κs = search needs
 
 returns : tie.Need-returns
 unfolding writerOf
-returns c = rw (← (c .before .before .before .before .before .get-u64 .ensures), ← (c .before .before .before .before .get-u642 .ensures), ← (c .before .before .before .get-u8 .ensures), ← (c .before .before .get-u643 .ensures), ← (c .before .get-u644 .ensures)) (c .writer-from .ensures)
+returns c =
+    let k = c .before .before .before .before .before in
+    rw
+    (← (k .get-u64 .ensures), ← (c .before .before .before .before .get-u642 .ensures), ← (c .before .before .before .get-u8 .ensures), ← (c .before .before .get-u643 .ensures), ← (c .before .get-u644 .ensures))
+    (c .writer-from .ensures)
 
 pub read-writer-spec : {M : Type 1} → statement M
 read-writer-spec =

@@ -17,7 +17,9 @@ get-requires : tie.Need-get-requires
 get-requires c κs = search needs
 
 returns-3 : tie.Need-returns-3
-returns-3 c = rw (← (c .before .before .before .get-u8 .ensures), lt-ltb _ _ (c .before .before .if1 .left), eq-eqb _ _ (c .before .if2 .left), ← (c .get .ensures .0))
+returns-3 c =
+    rw
+    (← (c .before .before .before .get-u8 .ensures), lt-ltb _ _ (c .before .before .if1 .left), eq-eqb _ _ (c .before .if2 .left), ← (c .get .ensures .0))
 
 pub spares-ok-spec : {M : Type 1} → statement M
 spares-ok-spec = tie.close (tie.spec get-u8-requires returns returns-2 get-requires returns-3)

@@ -12,7 +12,9 @@ same-length : tie.Need-same-length
 same-length c = search needs
 
 returns : tie.Need-returns
-returns c = (c .before .before .put-record .ensures) ∙ whole (c .before .before .before .before .before .args .r .now) _ (c .before .before .before .before .before .pre)
+returns c =
+    let a = c .before .before .before .before .before in
+    (c .before .before .put-record .ensures) ∙ whole (a .args .r .now) _ (a .pre)
 
 pub write-writer-spec : {M : Type 1} → statement M
 write-writer-spec = tie.close (tie.spec put-record-requires same-length returns)

@@ -17,7 +17,10 @@ values-ok-requires : tie.Need-values-ok-requires
 values-ok-requires c κs = search needs
 
 returns-2 : tie.Need-returns-2
-returns-2 c = rw (← (c .before .before .before .spares-ok .ensures), not-false (c .before .before .before .spares-ok .result) (c .before .before .if1 .left), ← (c .before .read-writer .ensures)) (c .values-ok .ensures)
+returns-2 c =
+    let k = c .before .before .before in
+    rw (← (k .spares-ok .ensures), not-false (k .spares-ok .result) (c .before .before .if1 .left), ← (c .before .read-writer .ensures))
+    (c .values-ok .ensures)
 
 pub writer-ok-spec : {M : Type 1} → statement M
 writer-ok-spec =

@@ -37,9 +37,10 @@ inserted-at-requires c κs =
     let w = s .args .w in
     let p = c .before .place in
     let size = sound-size w (s .pre .0) in
-    let other : p .result < w .len → same (getD (w .items) (p .result) nil) (s .args .g) ≡ false =
-    ⊎-elim (λ l h. sym (l .2 .ensures) ∙ l .3 .left) (λ r h. absurd (omega arith)) (c .if1 .came) in
-    omega (arith, place-few w (s .args .g) (p .result) size (s .pre .0) (p .ensures), with-room w (s .args .g) (p .result) size (s .pre .0) (p .ensures) other (s .pre .1))
+    let other : p .result < w .len → same (getD (w .items) (p .result) nil) (s .args .g) ≡ false = ⊎-elim (λ l h. sym (l .2 .ensures) ∙ l .3 .left)
+    (λ r h. absurd (omega arith)) (c .if1 .came) in
+    omega
+    (arith, place-few w (s .args .g) (p .result) size (s .pre .0) (p .ensures), with-room w (s .args .g) (p .result) size (s .pre .0) (p .ensures) other (s .pre .1))
 
 add-t15 : tie.Need-add-t15
 add-t15 c = search needs

@@ -15,7 +15,10 @@ with-state-requires c κs = search needs
 
 returns : tie.Need-returns
 unfolding asserted
-returns c = rw (← (c .before .before .before .before .covers .ensures), ← (c .before .before .renews .ensures), (c .before .before .before .if1 .taken), (c .before .if2 .taken)) (c .with-state .ensures)
+returns c =
+    rw
+    (← (c .before .before .before .before .covers .ensures), ← (c .before .before .renews .ensures), (c .before .before .before .if1 .taken), (c .before .if2 .taken))
+    (c .with-state .ensures)
 
 returns-2 : tie.Need-returns-2
 unfolding asserted

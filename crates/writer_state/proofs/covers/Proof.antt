@@ -19,11 +19,17 @@ covers-kind-requires c κs = search needs
 
 returns-2 : tie.Need-returns-2
 unfolding covers
-returns-2 c = rw (← (c .before .before .before .before .before .before .before .names .ensures), (c .before .before .before .before .before .before .if1 .left), ← (c .before .before .same-prefix .ensures), (c .before .if2 .taken)) (c .covers-kind .ensures)
+returns-2 c =
+    let k = c .before .before .before .before .before .before in
+    let l = k .before in
+    rw (← (l .names .ensures), (k .if1 .left), ← (c .before .before .same-prefix .ensures), (c .before .if2 .taken)) (c .covers-kind .ensures)
 
 returns-3 : tie.Need-returns-3
 unfolding covers
-returns-3 c = rw (← (c .before .before .before .before .before .before .names .ensures), (c .before .before .before .before .before .if1 .left), ← (c .before .same-prefix .ensures), (c .if2 .left))
+returns-3 c =
+    let k = c .before .before .before .before .before in
+    let l = k .before in
+    rw (← (l .names .ensures), (k .if1 .left), ← (c .before .same-prefix .ensures), (c .if2 .left))
 
 pub covers-spec : {M : Type 1} → statement M
 covers-spec =

@@ -15,10 +15,16 @@ matched-as-requires-2 : tie.Need-matched-as-requires-2
 matched-as-requires-2 c κs = search needs
 
 returns : tie.Need-returns
-returns c = (c .matched-as .ensures) ∙ from-tracked (c .before .before .before .before .args .sheet) (c .before .before .before .before .args .w .liveliness .state) (c .before .before .before .before .args .w .liveliness .«last_assertion») (sym (c .before .before .is-tracked .ensures) ∙ (c .before .if1 .taken))
+returns c =
+    let a = c .before .before .before .before in
+    (c .matched-as .ensures) ∙ from-tracked (a .args .sheet) (a .args .w .liveliness .state) (a .args .w .liveliness .«last_assertion»)
+    (sym (c .before .before .is-tracked .ensures) ∙ (c .before .if1 .taken))
 
 returns-2 : tie.Need-returns-2
-returns-2 c = (c .matched-as2 .ensures) ∙ from-departed (c .before .before .before .before .args .sheet) (c .before .before .before .before .args .w .liveliness .state) (c .before .before .before .before .args .w .liveliness .«last_assertion») (sym (c .before .before .is-tracked .ensures) ∙ (c .before .if1 .left))
+returns-2 c =
+    let a = c .before .before .before .before in
+    (c .matched-as2 .ensures) ∙ from-departed (a .args .sheet) (a .args .w .liveliness .state) (a .args .w .liveliness .«last_assertion»)
+    (sym (c .before .before .is-tracked .ensures) ∙ (c .before .if1 .left))
 
 pub matched-again-spec : {M : Type 1} → statement M
 matched-again-spec =

@@ -14,18 +14,28 @@ returns c = rw (← (c .before .is-tracked .ensures), not-true (c .before .is-tr
 
 returns-2 : tie.Need-returns-2
 unfolding renews
-returns-2 c = rw (← (c .before .before .before .before .is-tracked .ensures), not-false (c .before .before .before .before .is-tracked .result) (c .before .before .before .if1 .left), lt-ltb _ _ (c .if2 .taken))
+returns-2 c =
+    let k = c .before .before .before .before in
+    rw (← (k .is-tracked .ensures), not-false (k .is-tracked .result) (c .before .before .before .if1 .left), lt-ltb _ _ (c .if2 .taken))
 
 is-not-alive-requires : tie.Need-is-not-alive-requires
 is-not-alive-requires c κs = search needs
 
 returns-3 : tie.Need-returns-3
 unfolding renews
-returns-3 c = rw (← (c .before .before .before .before .before .before .before .before .is-tracked .ensures), not-false (c .before .before .before .before .before .before .before .before .is-tracked .result) (c .before .before .before .before .before .before .before .if1 .left), le-ltb _ _ (c .before .before .before .before .if2 .left), eq-eqb _ _ (c .before .if3 .taken), (c .is-not-alive .ensures))
+returns-3 c =
+    let k = c .before .before .before .before .before .before .before in
+    let l = k .before in
+    rw
+    (← (l .is-tracked .ensures), not-false (l .is-tracked .result) (k .if1 .left), le-ltb _ _ (c .before .before .before .before .if2 .left), eq-eqb _ _ (c .before .if3 .taken), (c .is-not-alive .ensures))
 
 returns-4 : tie.Need-returns-4
 unfolding renews
-returns-4 c = rw (← (c .before .before .before .before .before .before .before .is-tracked .ensures), not-false (c .before .before .before .before .before .before .before .is-tracked .result) (c .before .before .before .before .before .before .if1 .left), le-ltb _ _ (c .before .before .before .if2 .left), ne-eqb _ _ (c .if3 .left))
+returns-4 c =
+    let k = c .before .before .before .before .before .before in
+    let l = k .before in
+    rw
+    (← (l .is-tracked .ensures), not-false (l .is-tracked .result) (k .if1 .left), le-ltb _ _ (c .before .before .before .if2 .left), ne-eqb _ _ (c .if3 .left))
 
 pub renews-spec : {M : Type 1} → statement M
 renews-spec =

@@ -12,7 +12,9 @@ class-number-requires-2 : tie.Need-class-number-requires-2
 class-number-requires-2 c κs = search needs
 
 returns : tie.Need-returns
-returns c = rw ((c .before .class-number .ensures), (c .class-number2 .ensures)) (same-number (classOf (c .before .before .args .a)) (classOf (c .before .before .args .b)))
+returns c =
+    let a = c .before .before in
+    rw ((c .before .class-number .ensures), (c .class-number2 .ensures)) (same-number (classOf (a .args .a)) (classOf (a .args .b)))
 
 pub same-class-spec : {M : Type 1} → statement M
 same-class-spec = tie.close (tie.spec class-number-requires class-number-requires-2 returns)
