@@ -1,7 +1,7 @@
 // The calls on every instance as one pass over the lent table, and the loss of several writers as another: record by record,
 // what is left of an instance is written behind the instances kept, and the handles of those listed go to the front of Out.
-// Rests on octets, model, turns, answers, instance_record, instance_fields, instance_lifecycle, instance_ownership,
-// instance_state and instance_table.
+// Rests on octets, model, turns, answers, instance_record, instance_writing, instance_fields, instance_lifecycle,
+// instance_ownership, instance_state and instance_table.
 //
 // Derives from instance_tracker.rs of ZeroDDS.
 // Copyright 2026 ZeroDDS Contributors. SPDX-License-Identifier: Apache-2.0. Changed: written anew in Rattle, with the
@@ -235,7 +235,7 @@ fn keep(pens: &mut [u8], k: usize, x: Instance, r: Step)
             handle: handle,
             state: state,
         };
-        instance_record::put_instance(pens, k, y);
+        instance_writing::put_instance(pens, k, y);
     }
 }
 

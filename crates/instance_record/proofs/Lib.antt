@@ -1,6 +1,2 @@
--- Laws that the proofs of instance_record cite.
+-- Laws of records at their places, which the proofs of reading, writing and validity cite.
 pub mod Rows
-pub mod Nil
-pub mod Rise
-pub mod Writes
-pub mod Valid

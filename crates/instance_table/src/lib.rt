@@ -1,6 +1,6 @@
 // The instance table in the lent bytes: its well-formedness, where an instance stands, and an instance replaced, put in and
 // the last ones taken out. The number of places is a parameter.
-// Rests on octets, model, tables, instance_record and turns.
+// Rests on octets, model, tables, instance_validity, instance_writing and turns.
 //
 // Derives from instance_tracker.rs of ZeroDDS.
 // Copyright 2026 ZeroDDS Contributors. SPDX-License-Identifier: Apache-2.0. Changed: written anew in Rattle, with the map of
@@ -95,7 +95,7 @@ fn records_ok(t: &[u8], count: usize) -> bool
     while k < count {
         let o = k * 512;
         let e = o + 512;
-        if !instance_record::record_ok(&t[o..e]) {
+        if !instance_validity::record_ok(&t[o..e]) {
             return false;
         }
         k += 1;
@@ -180,7 +180,7 @@ pub fn replace(t: &mut [u8], i: usize, x: Instance)
     requires { ⌜ (i * 512 + 512 ≤ length (now t)) × (x .state .writers .len < 32) ⌝ }
     ensures { λ _. ⌜ ((places : ℕ) (xs : List Instance) → Laid places xs (now (t .entry)) → i < length xs → Laid places (set xs i x) (now (t .exit))) ⌝ }
 {
-    instance_record::put_instance(t, i, x);
+    instance_writing::put_instance(t, i, x);
 }
 
 // x goes in at place at of the first count instances.
@@ -189,7 +189,7 @@ pub fn insert(t: &mut [u8], count: usize, at: usize, x: Instance)
     ensures { λ _. ⌜ ((places : ℕ) (xs : List Instance) → Laid places xs (now (t .entry)) → length xs ≡ count → count < places → Laid places (take at xs ++ x ∷ drop at xs) (now (t .exit))) ⌝ }
 {
     tables::open_gap(t, 512, at, count);
-    instance_record::put_instance(t, at, x);
+    instance_writing::put_instance(t, at, x);
 }
 
 // Of the first count instances only the first kept stay: the places behind them are cleared.

@@ -1,0 +1,25 @@
+-- `owner_ok` meets its contract: its callees' equations say so. Assumes nothing.
+use Rattle.model.specs.WellFormed.{ownerOk}
+use borrow.Author.Needs.{needs}
+use Rattle.instance_validity.proofs.owner_ok.Statement.{statement}
+use Rattle.instance_validity.proofs.owner_ok.Tie as tie
+
+read-guid-requires : tie.Need-read-guid-requires
+read-guid-requires c κs = search needs
+
+nil-requires : tie.Need-nil-requires
+nil-requires c κs = search needs
+
+is-same-requires : tie.Need-is-same-requires
+is-same-requires c κs = search needs
+
+get-u32-requires : tie.Need-get-u32-requires
+get-u32-requires c κs = search needs
+
+returns : tie.Need-returns
+unfolding ownerOk
+returns c = rw (c .get-u32 .ensures, c .before .is-same .ensures, c .before .before .nil .ensures, c .before .before .before .read-guid .ensures)
+
+pub owner-ok-spec : {M : Type 1} → statement M
+owner-ok-spec =
+    tie.close (tie.spec read-guid-requires nil-requires is-same-requires get-u32-requires returns)

@@ -1,0 +1,55 @@
+-- `set_ok` meets its contract: the test of the length decides what is asked. Assumes nothing.
+use Prim.Native.Nat.{_%_}
+use lib.ListN.{drop}
+use borrow.Author.Tests.{lt-leb, le-leb}
+use Rattle.model.specs.Guids.{guidOf}
+use Rattle.model.specs.WellFormed.{setOk}
+use Rattle.instance_record.proofs.Rows.{take-read}
+use Rattle.instance_validity.proofs.Nil.{set-tail}
+use borrow.Author.Needs.{needs}
+use Rattle.instance_validity.proofs.set_ok.Statement.{statement}
+use Rattle.instance_validity.proofs.set_ok.Tie as tie
+
+cast-n : tie.Need-cast-n
+cast-n c = search needs
+
+returns : tie.Need-returns
+unfolding setOk
+returns c = rw (lt-leb _ _ (c .if1 .taken))
+
+set-rises-requires : tie.Need-set-rises-requires
+set-rises-requires c κs = search needs
+
+mul-zero-from : tie.Need-mul-zero-from
+mul-zero-from c = search needs
+
+add-zero-from : tie.Need-add-zero-from
+add-zero-from c = search needs
+
+zero-from-requires : tie.Need-zero-from-requires
+zero-from-requires c κs = search needs
+
+returns-2 : tie.Need-returns-2
+unfolding setOk
+returns-2 c =
+    let a = c .before .before .before .before .args in
+    let few = c .before .before .if1 .left in
+    rw (
+      le-leb _ _ few,
+      take-read guidOf 16 (a .f % 32) 16 (drop 256 (a .s .now)) few,
+      set-tail (a .s .now) (a .f % 32) (c .before .before .before .before .pre) few,
+      c .zero-from .ensures,
+      c .before .set-rises .ensures,
+    )
+
+pub set-ok-spec : {M : Type 1} → statement M
+set-ok-spec =
+    tie.close
+    (tie.spec
+    cast-n
+    returns
+    set-rises-requires
+    mul-zero-from
+    add-zero-from
+    zero-from-requires
+    returns-2)

@@ -1,0 +1,131 @@
+// Whether the 512 bytes of an instance are well formed. Each function works on one record, lent as a slice of its own, so that
+// the offsets are the document's. No early exit, since a record is nearly always valid.
+// Rests on octets, model, guid and instance_record.
+//
+// Derives from instance_tracker.rs of ZeroDDS.
+// Copyright 2026 ZeroDDS Contributors. SPDX-License-Identifier: Apache-2.0. Changed: written anew in Rattle, with the
+// instance as bytes of a fixed layout.
+ghost use mathlib.Core.Path.{_≡_};
+ghost use mathlib.Core.Bool.{_&&_};
+ghost use Prim.Native.Nat.{_+_, _≤_};
+ghost use lib.Dec.{ltb};
+ghost use lib.ListN.{length, drop};
+ghost use Rattle.model.specs.Guids.{num, guidsIn};
+ghost use Rattle.model.specs.InstanceRecord.{timeAt, lifeOf, timesOf, ownerOf, holderOf, writerSetOf};
+ghost use Rattle.model.specs.Tables.{rising};
+ghost use Rattle.model.specs.WellFormed.{timeOk, timesOk, ownerOk, holderOk, setOk, lifeOk};
+ghost use Rattle.instance_record.specs.Parts.{recordOk};
+
+// A time that is present has nanoseconds below 10^9; an absent one is zero.
+fn time_ok(s: &[u8], at: usize, present: bool) -> bool
+    requires { ⌜ at + 8 ≤ length (now s) ⌝ }
+    ensures { λ r. ⌜ r ≡ timeOk (timeAt (now (s .entry)) at present) ⌝ }
+{
+    let n = octets::get_u32(s, at + 4);
+    if present {
+        return n < 1000000000;
+    }
+    let sec = octets::get_u32(s, at);
+    (sec == 0) & (n == 0)
+}
+
+// Each of the six times is valid.
+fn times_ok(s: &[u8], f: u16) -> bool
+    requires { ⌜ length (now s) ≡ 512 ⌝ }
+    ensures { λ r. ⌜ r ≡ timesOk (timesOf (now (s .entry)) f) ⌝ }
+{
+    let a = time_ok(s, 44, f / 4096 % 2 == 1);
+    let b = time_ok(s, 52, f / 2048 % 2 == 1);
+    let c = time_ok(s, 60, f / 1024 % 2 == 1);
+    let d = time_ok(s, 68, f / 512 % 2 == 1);
+    let e = time_ok(s, 76, f / 256 % 2 == 1);
+    let g = time_ok(s, 84, f / 64 % 2 == 1);
+    a & (b & (c & (d & (e & g))))
+}
+
+// The kind is one of three, and the generations are not negative.
+fn life_ok(s: &[u8], f: u16) -> bool
+    requires { ⌜ length (now s) ≡ 512 ⌝ }
+    ensures { λ r. ⌜ r ≡ (ltb f 49152 && lifeOk (lifeOf (now (s .entry)) f)) ⌝ }
+{
+    let d = octets::get_u32(s, 28);
+    let n = octets::get_u32(s, 32);
+    (f < 49152) & ((d < 2147483648) & (n < 2147483648))
+}
+
+// An absent owner is zero.
+fn owner_ok(s: &[u8], f: u16) -> bool
+    requires { ⌜ length (now s) ≡ 512 ⌝ }
+    ensures { λ r. ⌜ r ≡ ownerOk (ownerOf (now (s .entry)) f) ⌝ }
+{
+    let g = instance_record::read_guid(s, 92);
+    let absent = guid::is_same(g, guid::nil());
+    let n = octets::get_u32(s, 108);
+    (f / 128 % 2 == 1) | (absent & (n == 0))
+}
+
+// A holder has at most 144 bytes, and zeros behind them; an absent one is zero.
+fn holder_ok(s: &[u8], f: u16) -> bool
+    requires { ⌜ length (now s) ≡ 512 ⌝ }
+    ensures { λ r. ⌜ r ≡ holderOk (holderOf (now (s .entry)) f) ⌝ }
+{
+    let n = octets::get_u16(s, 26) as usize;
+    if f / 32 % 2 == 1 {
+        if 144 < n {
+            return false;
+        }
+        return octets::zero_between(s, 112 + n, 256);
+    }
+    if n != 0 {
+        return false;
+    }
+    octets::zero_between(s, 112, 256)
+}
+
+// The first n GUIDs of the writer set strictly rise.
+fn set_rises(s: &[u8], n: usize) -> bool
+    requires { ⌜ (length (now s) ≡ 512) × (n ≤ 16) ⌝ }
+    ensures { λ r. ⌜ r ≡ rising num (guidsIn n (drop 256 (now (s .entry)))) ⌝ }
+{
+    if n == 0 {
+        return true;
+    }
+    let mut last = instance_record::read_guid(s, 256);
+    let mut i: usize = 1;
+    while i < n {
+        let g = instance_record::read_guid(s, 256 + i * 16);
+        if !guid::is_less(last, g) {
+            return false;
+        }
+        last = g;
+        i += 1;
+    }
+    true
+}
+
+// The writer set has at most 16 GUIDs, which strictly rise, and nil behind them.
+fn set_ok(s: &[u8], f: u16) -> bool
+    requires { ⌜ length (now s) ≡ 512 ⌝ }
+    ensures { λ r. ⌜ r ≡ setOk (writerSetOf (now (s .entry)) f) ⌝ }
+{
+    let n = (f % 32) as usize;
+    if 16 < n {
+        return false;
+    }
+    let rises = set_rises(s, n);
+    rises & octets::zero_from(s, 256 + n * 16)
+}
+
+// Whether the record is well formed.
+pub fn record_ok(s: &[u8]) -> bool
+    requires { ⌜ length (now s) ≡ 512 ⌝ }
+    ensures { λ r. ⌜ r ≡ recordOk (now (s .entry)) ⌝ }
+{
+    let f = octets::get_u16(s, 24);
+    let a = life_ok(s, f);
+    let b = times_ok(s, f);
+    let c = owner_ok(s, f);
+    let d = holder_ok(s, f);
+    let e = set_ok(s, f);
+    a & (b & (c & (d & e)))
+}
