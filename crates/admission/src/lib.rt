@@ -3,7 +3,7 @@
 // admitted. Refused are 9, a new instance where every place is taken; 13, one where the next handle is 2^63; and 10, a new
 // writer where the instance has 16. Only outcome 0 writes.
 // Rests on answers, sample_time, instance_handle, instance_record, instance_samples, instance_ownership, instance_state,
-// instance_table, instance_tracker and writer_set.
+// instance_table and instance_tracker.
 //
 // Derives from instance_tracker.rs of ZeroDDS.
 // Copyright 2026 ZeroDDS Contributors. SPDX-License-Identifier: Apache-2.0. Changed: written anew in Rattle, with the

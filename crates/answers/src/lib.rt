@@ -1,6 +1,8 @@
 // What a call answers, by value: each function makes the answer that the definition of its name in model's Answers says. A
 // field that is not answered is zero.
 use model::Answer;
+use model::Called;
+use model::Head;
 use model::InstanceHandle;
 use model::InstanceState;
 use model::InstanceStateKind;
@@ -8,7 +10,7 @@ use model::LivelinessChangedStatus;
 use model::MaybeDue;
 use model::SampleInfo;
 ghost use mathlib.Core.Path.{_≡_};
-ghost use Rattle.model.specs.Answers.{noInfo, noStatus, refusedWith, silent, saying, counting, listing, handed, handedSamples, infoOf, informed};
+ghost use Rattle.model.specs.Answers.{noInfo, noStatus, refusedWith, silent, saying, counting, listing, handed, handedSamples, infoOf, informed, sayingDue, reporting};
 
 fn no_info() -> SampleInfo
     ensures { λ r. ⌜ r ≡ noInfo ⌝ }
@@ -64,6 +66,17 @@ pub fn refused_with(n: u8) -> Answer
     let mut r = silent();
     r.number = n;
     r
+}
+
+// A refused call: the number, and the head as it was.
+pub fn refused(number: u8, head: Head) -> Called
+    ensures { λ r. ⌜ r ≡ record { answer = refusedWith number; head = head } ⌝ }
+{
+    let a = refused_with(number);
+    Called {
+        answer: a,
+        head: head,
+    }
 }
 
 // Yes or no.
@@ -132,5 +145,23 @@ pub fn informed(info: SampleInfo) -> Answer
     let mut r = silent();
     r.present = true;
     r.info = info;
+    r
+}
+
+// Yes or no, and when the next lease is due.
+pub fn saying_due(yes: bool, due: MaybeDue) -> Answer
+    ensures { λ r. ⌜ r ≡ sayingDue yes due ⌝ }
+{
+    let mut r = saying(yes);
+    r.next_due = due;
+    r
+}
+
+// A status.
+pub fn reporting(status: LivelinessChangedStatus) -> Answer
+    ensures { λ r. ⌜ r ≡ reporting status ⌝ }
+{
+    let mut r = silent();
+    r.status = status;
     r
 }

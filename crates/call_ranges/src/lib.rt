@@ -29,7 +29,7 @@ pub fn instances(
 {
     let c = call_codes::instance_call(s.code);
     if !lent_state::state_ok(head, pens, writers, lost, 128) {
-        return lent_state::refused(3, head);
+        return answers::refused(3, head);
     }
     instance_calls::instance_turn(c, s, head, pens, out, 128)
 }
@@ -50,7 +50,7 @@ pub fn tracker(
 {
     let c = call_codes::tracker_call(s.code);
     if !lent_state::state_ok(head, pens, writers, lost, 128) {
-        return lent_state::refused(3, head);
+        return answers::refused(3, head);
     }
     tracker_calls::tracker_turn(c, s, head, writers, lost, out)
 }
@@ -71,7 +71,7 @@ pub fn joined(
 {
     let c = call_codes::joined_call(s.code);
     if !lent_state::state_ok(head, pens, writers, lost, 128) {
-        return lent_state::refused(3, head);
+        return answers::refused(3, head);
     }
     joined_calls::joined_turn(c, s, head, pens, writers, lost, out, 128)
 }

@@ -64,7 +64,7 @@ fn coded(
         1..=21 => call_ranges::instances(s, head, pens, writers, lost, out),
         32..=40 => call_ranges::tracker(s, head, pens, writers, lost, out),
         48..=51 => call_ranges::joined(s, head, pens, writers, lost, out),
-        _ => lent_state::refused(2, head),
+        _ => answers::refused(2, head),
     }
 }
 
@@ -81,13 +81,13 @@ pub fn call(
         ≡ callOf (now (sheet .entry)) (lentOf head (now (pens .entry)) (now (writers .entry)) (now (lost .entry)) (now (out .entry))) ⌝ }
 {
     if sheet.len() != 256 {
-        return lent_state::refused(1, head);
+        return answers::refused(1, head);
     }
     if !room_ok(pens.len(), writers.len(), lost.len()) {
-        return lent_state::refused(1, head);
+        return answers::refused(1, head);
     }
     if out.len() != 4096 {
-        return lent_state::refused(1, head);
+        return answers::refused(1, head);
     }
     let s = call_sheet::read_sheet(sheet);
     coded(s, head, pens, writers, lost, out)
@@ -120,12 +120,12 @@ pub fn fresh(pens: &mut [u8], writers: &mut [u8], lost: &mut [u8]) -> Called
 {
     let head = fresh_head();
     if !room_ok(pens.len(), writers.len(), lost.len()) {
-        return lent_state::refused(1, head);
+        return answers::refused(1, head);
     }
     octets::clear(pens, 0, 65536);
     octets::clear(writers, 0, 5120);
     octets::clear(lost, 0, 4096);
-    lent_state::refused(0, head)
+    answers::refused(0, head)
 }
 
 // ---- the reads

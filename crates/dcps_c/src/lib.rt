@@ -8,7 +8,6 @@ use model::Guid;
 use model::Head;
 use model::InstanceHandle;
 use model::LastWriter;
-use model::LivelinessChangedStatus;
 use model::StatusRead;
 use model::Time;
 ghost use mathlib.Core.Bool.{not};
@@ -18,7 +17,7 @@ ghost use lib.Dec.{eqb};
 ghost use lib.ListN.{length};
 ghost use Rattle.boundary.specs.Layouts.{answerBytes};
 ghost use Rattle.boundary_reads.specs.ReadAnswers.{toldOf, told, decisionAnswer, timeAnswer, handleAnswer};
-ghost use Rattle.model.specs.Answers.{refusedWith, reporting};
+ghost use Rattle.model.specs.Answers.{refusedWith};
 ghost use Rattle.model.specs.Handles.{handle};
 ghost use Rattle.model.specs.Reads.{filterRead, orderRead, lastDeliveredRead, nextHandleRead, walkRead, wouldLeaveRead};
 ghost use Rattle.instance_reads.specs.HolderPlaces.{holderPlace};
@@ -150,17 +149,8 @@ fn status_answer(s: StatusRead) -> Answer
 {
     match s {
         StatusRead::Refused(n) => answers::refused_with(n),
-        StatusRead::Is(status) => reporting(status),
+        StatusRead::Is(status) => answers::reporting(status),
     }
-}
-
-// A status alone.
-fn reporting(status: LivelinessChangedStatus) -> Answer
-    ensures { λ r. ⌜ r ≡ reporting status ⌝ }
-{
-    let mut r = answers::silent();
-    r.status = status;
-    r
 }
 
 // The status of a head's bytes.

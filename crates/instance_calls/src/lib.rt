@@ -60,7 +60,7 @@ pub fn instance_turn(
 {
     let number = call_sheet::instance_refusal(c, s);
     if number != 0 {
-        return lent_state::refused(number, head);
+        return answers::refused(number, head);
     }
     let count = head.instance_count;
     let next = head.next_handle;

@@ -37,7 +37,7 @@ fn admit(s: Sheet, head: Head, pens: &mut [u8], places: usize) -> Called
 {
     let number = call_codes::admit_refusal(s);
     if number != 0 {
-        return lent_state::refused(number, head);
+        return answers::refused(number, head);
     }
     let next = head.next_handle;
     let r = admission::admit(s, pens, places, head.instance_count, next);
@@ -53,7 +53,7 @@ fn with_list(a: Answer, count: u32, listed: u32) -> Answer
     ensures { λ r. ⌜ r ≡ withList a count listed ⌝ }
 {
     let due = a.next_due;
-    let mut r = liveliness_counts::saying_due(a.yes, due);
+    let mut r = answers::saying_due(a.yes, due);
     r.count = count;
     r.listed = listed;
     r
@@ -92,7 +92,7 @@ fn part(s: Sheet, head: Head, pens: &mut [u8], writers: &mut [u8], out: &mut [u8
 {
     let number = call_codes::leave_refusal(s);
     if number != 0 {
-        return lent_state::refused(number, head);
+        return answers::refused(number, head);
     }
     let r = liveliness_tracker::unmatched(s, head, writers);
     lose_writer(r, s, pens, out)
@@ -105,7 +105,7 @@ fn depart(s: Sheet, head: Head, pens: &mut [u8], writers: &mut [u8], out: &mut [
 {
     let number = call_codes::leave_refusal(s);
     if number != 0 {
-        return lent_state::refused(number, head);
+        return answers::refused(number, head);
     }
     let r = liveliness_tracker::lost_with_participant(s, head, writers);
     lose_writer(r, s, pens, out)
@@ -145,7 +145,7 @@ fn lapse(
 {
     let number = call_codes::lapse_refusal(s);
     if number != 0 {
-        return lent_state::refused(number, head);
+        return answers::refused(number, head);
     }
     let r = liveliness_expiry::expire(s, head, writers, lost);
     let told = r.answer;

@@ -1,5 +1,5 @@
 // Head and buffers together: whether they are well formed, and what a call leaves of the head.
-// Rests on answers, instance_table and tracker_state.
+// Rests on instance_table and tracker_state.
 //
 // Derives from instance_tracker.rs and liveliness_tracker.rs of ZeroDDS.
 // Copyright 2026 ZeroDDS Contributors. SPDX-License-Identifier: Apache-2.0. Changed: written anew in Rattle, with the state
@@ -12,7 +12,6 @@ ghost use mathlib.Core.List.{List};
 ghost use mathlib.Core.Path.{_≡_};
 ghost use Prim.Native.Nat.{ℕ, _*_};
 ghost use lib.ListN.{length};
-ghost use Rattle.model.specs.Answers.{refusedWith};
 ghost use Rattle.model.specs.Call.{lentOf};
 ghost use Rattle.model.specs.WellFormed.{wellFormed};
 ghost use Rattle.call_laws.specs.Heads.{called, headWith};
@@ -37,17 +36,6 @@ pub fn state_ok(head: Head, pens: &[u8], writers: &[u8], lost: &[u8], places: us
         return false;
     }
     tracker_state::counts_ok(head, writers, count)
-}
-
-// A refusal: its number alone, and the head as it was.
-pub fn refused(number: u8, head: Head) -> Called
-    ensures { λ r. ⌜ r ≡ called (refusedWith number) head ⌝ }
-{
-    let a = answers::refused_with(number);
-    Called {
-        answer: a,
-        head: head,
-    }
 }
 
 // What a call on the instances leaves: another count of them and another next handle.

@@ -1,39 +1,18 @@
--- The head after a turn of the writers, the tallies of turns, and answers.
+-- The head after a turn of the writers, and the tallies of turns.
 use Prim.Native.Nat.{ℕ, _+_, _-_, _%_, _^_, _≤_}
-use mathlib.Core.Bool.{Bool, true, false, not, cond}
+use mathlib.Core.Bool.{true, not, cond}
 use mathlib.Core.Path.{_≡_}
 use lib.Dec.{eqb}
 use lib.IntN.{pos, _-ℤ_}
-use Rattle.model.specs.declared.Answer.{Answer}
 use Rattle.model.specs.declared.Called.{Called}
 use Rattle.model.specs.declared.Guid.{Guid}
 use Rattle.model.specs.declared.Head.{Head}
 use Rattle.model.specs.declared.LastWriter.the-variants.{Is}
-use Rattle.model.specs.declared.LivelinessChangedStatus.{LivelinessChangedStatus}
-use Rattle.model.specs.declared.MaybeDue.{MaybeDue}
 use Rattle.model.specs.declared.Writer.{Writer}
-use Rattle.model.specs.Answers.{noInfo, saying}
-use Rattle.model.specs.Handles.{handle}
+use Rattle.model.specs.Answers.{saying}
 use Rattle.model.specs.State.{classOf, isAliveClass, isNotAliveClass}
 use Rattle.model.specs.WellFormed.{within}
 use Rattle.writer_pass.specs.declared.Tally.{Tally}
-
--- an answer of which what is not given is zero
-abbrev pub answerOf : ℕ → Bool → ℕ → MaybeDue → LivelinessChangedStatus → Answer
-answerOf number said listed due status =
-    record {
-      number = number;
-      outcome = 0;
-      yes = said;
-      present = false;
-      handle = handle 0;
-      samples = 0;
-      info = noInfo;
-      count = 0;
-      listed = listed;
-      «next_due» = due;
-      status = status;
-    }
 
 -- ---- the head after a turn
 

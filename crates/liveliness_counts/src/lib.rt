@@ -1,19 +1,13 @@
-// The tracker's counts by value: what a turn of the writers leaves of the head, its tally, and the answers of the tracker
-// calls. Rests on model, numbers, writer_state and writer_pass.
+// The tracker's counts by value: what a turn of the writers leaves of the head, and its tally. Rests on model, numbers,
+// answers, writer_state and writer_pass.
 //
 // Derives from liveliness_tracker.rs of ZeroDDS.
 // Copyright 2026 ZeroDDS Contributors. SPDX-License-Identifier: Apache-2.0. Changed: written anew in Rattle, the tracker's
 // fields as the head by value.
-use model::Answer;
 use model::Called;
 use model::Guid;
 use model::Head;
-use model::InstanceHandle;
-use model::InstanceStateKind;
 use model::LastWriter;
-use model::LivelinessChangedStatus;
-use model::MaybeDue;
-use model::SampleInfo;
 use model::Writer;
 use writer_pass::Counts;
 use writer_pass::Tally;
@@ -21,84 +15,9 @@ ghost use mathlib.Core.Bool.{true};
 ghost use mathlib.Core.Path.{_≡_};
 ghost use Prim.Native.Nat.{_+_, _-_, _≤_};
 ghost use lib.IntN.{pos, _-ℤ_};
-ghost use Rattle.model.specs.Answers.{refusedWith, sayingDue, noDue, noStatus};
 ghost use Rattle.model.specs.State.{classOf, isAliveClass, isNotAliveClass};
 ghost use Rattle.model.specs.WellFormed.{within};
-ghost use Rattle.liveliness_counts.specs.Turns.{Room, answerOf, settledHead, calledBy, stillTally, shiftedTally, goneTally, departsTally};
-
-// An answer, of which what is not given is zero.
-pub fn answer(
-    number: u8,
-    yes: bool,
-    listed: u32,
-    due: MaybeDue,
-    status: LivelinessChangedStatus,
-) -> Answer
-    ensures { λ r. ⌜ r ≡ answerOf number yes listed due status ⌝ }
-{
-    let handle = InstanceHandle(0);
-    let info = SampleInfo {
-        view_new: false,
-        kind: InstanceStateKind::Alive,
-        disposed_generations: 0,
-        no_writers_generations: 0,
-    };
-    Answer {
-        number: number,
-        outcome: 0,
-        yes: yes,
-        present: false,
-        handle: handle,
-        samples: 0,
-        info: info,
-        count: 0,
-        listed: listed,
-        next_due: due,
-        status: status,
-    }
-}
-
-// Nothing due.
-pub fn no_due() -> MaybeDue
-    ensures { λ r. ⌜ r ≡ noDue ⌝ }
-{
-    MaybeDue {
-        present: false,
-        at: 0,
-    }
-}
-
-// The status of zeros.
-pub fn no_status() -> LivelinessChangedStatus
-    ensures { λ r. ⌜ r ≡ noStatus ⌝ }
-{
-    let handle = InstanceHandle(0);
-    LivelinessChangedStatus {
-        alive_count: 0,
-        not_alive_count: 0,
-        alive_count_change: 0,
-        not_alive_count_change: 0,
-        last_publication_handle: handle,
-    }
-}
-
-// Yes or no, and when the next lease is due.
-pub fn saying_due(yes: bool, due: MaybeDue) -> Answer
-    ensures { λ r. ⌜ r ≡ sayingDue yes due ⌝ }
-{
-    answer(0, yes, 0, due, no_status())
-}
-
-// A refusal: its number, and the head as it was.
-pub fn refused(number: u8, head: Head) -> Called
-    ensures { λ r. ⌜ (r .answer ≡ refusedWith number) × (r .head ≡ head) ⌝ }
-{
-    let a = answer(number, false, 0, no_due(), no_status());
-    Called {
-        answer: a,
-        head: head,
-    }
-}
+ghost use Rattle.liveliness_counts.specs.Turns.{Room, settledHead, calledBy, stillTally, shiftedTally, goneTally, departsTally};
 
 // The change of a count that was `count` with `change`, and is `after`: what was acknowledged of it stays.
 pub fn change_after(count: u32, change: i32, after: u32) -> i32
@@ -142,7 +61,7 @@ pub fn called(head: Head, writer_count: u32, tally: Tally) -> Called
     requires { ⌜ Room head tally ⌝ }
     ensures { λ r. ⌜ r ≡ calledBy head «writer_count» tally ⌝ }
 {
-    let a = saying_due(tally.moved != 0, no_due());
+    let a = answers::saying(tally.moved != 0);
     let h = settle(head, writer_count, head.lost_count, tally);
     Called { answer: a, head: h }
 }

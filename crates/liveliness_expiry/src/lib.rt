@@ -34,7 +34,7 @@ fn expire_within(sheet: Sheet, head: Head, writers: &mut [u8], lost: &mut [u8], 
     let tally = writer_pass::pass(writers, count, Act::Expire(clock), last);
     let due = writer_pass::next_due(writers, count);
     let h = liveliness_counts::settle(head, head.writer_count, n + gone, tally);
-    let a = liveliness_counts::saying_due(tally.moved != 0, due);
+    let a = answers::saying_due(tally.moved != 0, due);
     Called { answer: a, head: h }
 }
 
@@ -46,7 +46,7 @@ pub fn expire(sheet: Sheet, head: Head, writers: &mut [u8], lost: &mut [u8]) -> 
     let count = head.writer_count as usize;
     let gone = writer_pass::expiring(writers, count, sheet.a);
     if 256 < head.lost_count + gone {
-        return liveliness_counts::refused(12, head);
+        return answers::refused(12, head);
     }
     expire_within(sheet, head, writers, lost, gone)
 }
@@ -60,9 +60,7 @@ pub fn take_lost(sheet: Sheet, head: Head, lost: &mut [u8], out: &mut [u8]) -> C
     let size = n as usize * 16;
     octets::copy(lost, 0, out, 0, size);
     octets::clear(lost, 0, size);
-    let due = liveliness_counts::no_due();
-    let status = liveliness_counts::no_status();
-    let a = liveliness_counts::answer(0, false, n, due, status);
+    let a = answers::listing(n);
     let alive = head.alive_change;
     let not_alive = head.not_alive_change;
     let h = liveliness_status::with_changes(head, 0, alive, not_alive);

@@ -81,8 +81,7 @@ pub fn with_changes(head: Head, lost_count: u32, alive_change: i32, not_alive_ch
 pub fn take_status(sheet: Sheet, head: Head) -> Called
     ensures { λ r. ⌜ Keeps TakeStatus sheet head r ⌝ }
 {
-    let due = liveliness_counts::no_due();
-    let a = liveliness_counts::answer(0, false, 0, due, tracker_state::head_status(head));
+    let a = answers::reporting(tracker_state::head_status(head));
     let h = with_changes(head, head.lost_count, 0, 0);
     Called { answer: a, head: h }
 }
@@ -95,9 +94,7 @@ pub fn acknowledge(sheet: Sheet, head: Head) -> Called
 {
     let first = change_less(head.alive, head.alive_change, sheet.first);
     let second = change_less(head.not_alive, head.not_alive_change, sheet.second);
-    let due = liveliness_counts::no_due();
-    let status = liveliness_counts::no_status();
-    let a = liveliness_counts::answer(0, false, 0, due, status);
+    let a = answers::silent();
     let h = with_changes(head, head.lost_count, first, second);
     Called { answer: a, head: h }
 }

@@ -205,7 +205,7 @@ fn match_first(sheet: Sheet, head: Head, writers: &mut [u8], i: usize) -> Called
 {
     let count = head.writer_count;
     if 128 <= count {
-        return liveliness_counts::refused(11, head);
+        return answers::refused(11, head);
     }
     tables::open_gap(writers, 40, i, count as usize);
     writer_record::put_writer(writers, i, writer_state::first_matched(sheet));

@@ -103,7 +103,7 @@ pub fn tracker_turn(
 {
     let number = tracker_refusal(c, s, head);
     if number != 0 {
-        return lent_state::refused(number, head);
+        return answers::refused(number, head);
     }
     turn(c, s, head, writers, lost, out)
 }

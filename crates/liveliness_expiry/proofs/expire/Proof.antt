@@ -1,6 +1,8 @@
 -- `liveliness_expiry::expire` meets its contract. Assumes nothing.
+use mathlib.Core.Path.{ap}
 use native.Mathlib.Omega.{arith}
 use borrow.Author.Needs.{needs}
+use Rattle.model.specs.declared.Called.{Called}
 use Rattle.liveliness_turns.proofs.Holding.{good}
 use Rattle.writer_pass.proofs.Picks.{pick-le}
 use Rattle.model.specs.State.{writersIn}
@@ -38,7 +40,7 @@ returns c =
     let a = m .before in
     expire-full (a .args .sheet) (a .args .head) (a .args .writers .now) (a .args .lost .now) (λ j. (m .slice-known .given) j .fits) (a .pre .0)
     (λ j. (l .slice-known2 .given) j .fits) (a .pre .1) (a .pre .2) (k .expiring .result) (k .expiring .ensures) (c .before .if1 .taken)
-    (c .refused .result) (c .refused .ensures .0) (c .refused .ensures .1)
+    (c .refused .result) (ap (λ (r : Called). r .answer) (c .refused .ensures)) (ap (λ (r : Called). r .head) (c .refused .ensures))
 
 expire-within-requires : tie.Need-expire-within-requires
 expire-within-requires c κs = search needs

@@ -1,12 +1,11 @@
 -- `liveliness_expiry::take_lost` meets its contract. Assumes nothing.
-use mathlib.Core.Path.{_≡_, _∙_}
+use mathlib.Core.Path.{_∙_}
 use native.Mathlib.Omega.{arith}
 use borrow.Author.Needs.{needs}
 use mir.Facts.{toZ-ofZ}
 use mir.Syntax.{w32}
 use mir.Val.{SFits}
 use Rattle.liveliness_status.proofs.Idle.{both-changed}
-use Rattle.model.specs.Answers.{listing}
 use Rattle.liveliness_expiry.proofs.Expiring.{lost-few}
 use Rattle.liveliness_expiry.proofs.Taking.{take-leaves}
 use Rattle.liveliness_expiry.proofs.take_lost.Statement.{statement}
@@ -24,14 +23,8 @@ copy-requires c κs = (omega (arith, lost-few (c .before .before .before .before
 clear-requires : tie.Need-clear-requires
 clear-requires c κs = omega (arith, lost-few (c .before .before .before .before .before .before .before .before .args .head .«lost_count») (c .before .before .before .before .before .before .before .before .args .lost .now) (c .before .before .before .before .before .before .before .before .pre .1), (c .before .before .before .before .before .before .before .before .pre .0))
 
-no-due-requires : tie.Need-no-due-requires
-no-due-requires c κs = search needs
-
-no-status-requires : tie.Need-no-status-requires
-no-status-requires c κs = search needs
-
-answer-requires : tie.Need-answer-requires
-answer-requires c κs = search needs
+listing-requires : tie.Need-listing-requires
+listing-requires c κs = search needs
 
 with-changes-requires : tie.Need-with-changes-requires
 with-changes-requires c κs = search needs
@@ -40,23 +33,27 @@ same-length : tie.Need-same-length
 same-length c = search needs
 
 same-length-2 : tie.Need-same-length-2
-same-length-2 c = (c .before .before .before .before .before .before .before .before .before .before .before .before .copy .kept .1 .1 .0)
+same-length-2 c = c .before .before .before .before .before .before .before .before .before .before .copy .kept .1 .1 .0
 
-lent : (c : tie.After-struct-told) → SFits w32 (c .before .before .before .before .before .before .before .before .before .before .before .before .before .before .before .args .head .«alive_change»)
+lent : (c : tie.After-struct-told) → SFits w32 (c .before .before .before .before .before .before .before .before .before .before .before .before .before .args .head .«alive_change»)
 lent c = search (needs, c .struct-told)
 
-lent-2 : (c : tie.After-struct-told2) → SFits w32 (c .before .before .before .before .before .before .before .before .before .before .before .before .before .before .before .before .args .head .«not_alive_change»)
+lent-2 : (c : tie.After-struct-told2) → SFits w32 (c .before .before .before .before .before .before .before .before .before .before .before .before .before .before .args .head .«not_alive_change»)
 lent-2 c = search (needs, c .struct-told2)
 
 returns : tie.Need-returns
 returns c =
-    let h = (c .before .before .before .before .before .before .before .before .before .before .before .before .before .before .before .before .before .args .head) in
+    let l = c .before .before .before in
+    let cleared = l .before .before .before in
+    let copied = cleared .before .before .before .before in
+    let a = copied .before .before .before .before .before in
+    let h = a .args .head in
     let f : SFits w32 (h .«alive_change») = lent (c .before .before) in
     let g : SFits w32 (h .«not_alive_change») = lent-2 (c .before) in
-    let a : (c .before .before .before .answer .result) ≡ listing (h .«lost_count») = (c .before .before .before .answer .ensures) ∙ rw ((c .before .before .before .before .before .no-due .ensures), (c .before .before .before .before .no-status .ensures)) in
-    take-leaves (c .before .before .before .before .before .before .before .before .before .before .before .before .before .before .before .before .before .args .sheet) h (c .before .before .before .before .before .before .before .before .before .before .before .before .before .before .before .before .before .args .lost .now) (c .before .before .before .before .before .before .before .before .before .before .before .before .before .before .before .before .before .args .out .now) (λ j. (c .before .before .before .before .before .before .before .before .before .before .before .before .before .before .before .before .slice-known .given) j .fits) (c .before .before .before .before .before .before .before .before .before .before .before .before .before .before .before .before .before .pre .0) (c .before .before .before .before .before .before .before .before .before .before .before .before .before .before .before .before .before .pre .1) (omega (arith, (c .before .before .before .before .before .before .before .before .before .before .before .before .before .before .before .before .before .good .1)))
-    record { answer = (c .before .before .before .answer .result); head = (c .with-changes .result) } (c .before .before .before .before .before .before .before .before .clear .last .0) (c .before .before .before .before .before .before .before .before .before .before .before .before .copy .last .1 .1 .0) a
-    ((c .with-changes .ensures) ∙ both-changed h 0 _ _ _ _ (toZ-ofZ f) (toZ-ofZ g)) (c .before .before .before .before .before .before .before .before .clear .ensures) (c .before .before .before .before .before .before .before .before .before .before .before .before .copy .ensures)
+    take-leaves (a .args .sheet) h (a .args .lost .now) (a .args .out .now) (λ j. (copied .before .before .before .before .slice-known .given) j .fits) (a .pre .0)
+    (a .pre .1) (omega (arith, a .good .1)) record { answer = l .listing .result; head = c .with-changes .result } (cleared .clear .last .0)
+    (copied .copy .last .1 .1 .0) (l .listing .ensures) (c .with-changes .ensures ∙ both-changed h 0 _ _ _ _ (toZ-ofZ f) (toZ-ofZ g))
+    (cleared .clear .ensures) (copied .copy .ensures)
 
 pub take-lost-spec : {M : Type 1} → statement M
 take-lost-spec =
@@ -66,9 +63,7 @@ take-lost-spec =
     mul-size
     copy-requires
     clear-requires
-    no-due-requires
-    no-status-requires
-    answer-requires
+    listing-requires
     with-changes-requires
     same-length
     same-length-2

@@ -5,6 +5,7 @@ use mathlib.Core.Option.{none}
 use mathlib.Core.Path.{ap, _∙_}
 use native.Mathlib.Omega.{arith}
 use borrow.Author.Needs.{needs}
+use Rattle.model.specs.declared.Called.{Called}
 use Rattle.liveliness_turns.proofs.Calls.{first-within, first-full, first-ready, first-after}
 use Rattle.octets.specs.Patch.{patch}
 use Rattle.model.proofs.Fits.{FitsGuid}
@@ -22,7 +23,7 @@ returns c =
     let a = c .before .before .before in
     let fits : FitsGuid (a .args .sheet .guid) = record { high = omega (arith, (a .good .0)); low = omega (arith, (a .good .0)) } in
     first-full (a .args .sheet) (a .args .head) (a .args .writers .now) (λ j. (c .before .before .slice-known .given) j .fits) (a .pre .0)
-    (a .args .i) (a .pre .2) fits (a .pre .1) (c .before .if1 .taken) (c .refused .result) (c .refused .ensures .0) (c .refused .ensures .1)
+    (a .args .i) (a .pre .2) fits (a .pre .1) (c .before .if1 .taken) (c .refused .result) (ap (λ (r : Called). r .answer) (c .refused .ensures)) (ap (λ (r : Called). r .head) (c .refused .ensures))
 
 cast-open-gap : tie.Need-cast-open-gap
 cast-open-gap c = search needs

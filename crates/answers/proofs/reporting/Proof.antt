@@ -1,7 +1,7 @@
--- `reporting` meets its contract. Assumes nothing.
+-- A status. Assumes nothing.
 use borrow.Author.Needs.{needs}
-use Rattle.dcps_c.proofs.reporting.Statement.{statement}
-use Rattle.dcps_c.proofs.reporting.Tie as tie
+use Rattle.answers.proofs.reporting.Statement.{statement}
+use Rattle.answers.proofs.reporting.Tie as tie
 
 silent-requires : tie.Need-silent-requires
 silent-requires c κs = search needs
