@@ -1,12 +1,13 @@
 -- `writer_pass::count_classes` meets its contract. Assumes nothing.
-use Prim.Native.Nat.{_-_, _≤_}
-use mathlib.Core.Path.{_∙_, _≡_, refl}
+use Prim.Native.Nat.{_-_, _*_, _≤_}
+use mathlib.Core.Path.{_∙_, _≡_, refl, ap}
 use native.Mathlib.Omega.{arith}
-use lib.ListN.{take}
+use lib.ListN.{take, drop}
 use Rattle.model.specs.State.{writersIn, aliveCount, notAliveCount}
 use Rattle.model.specs.Tables.{pick}
+use Rattle.model.specs.WriterRecord.{writerOf}
 use Rattle.writer_pass.proofs.Reading.{counts-at, counts-room, counts-end}
-use Rattle.writer_pass.specs.Passes.{countsOf}
+use Rattle.writer_pass.specs.Passes.{countOne, countsOf}
 use Rattle.writer_pass.proofs.count_classes.Statement.{statement}
 use Rattle.writer_pass.proofs.count_classes.Tie as tie
 
@@ -20,11 +21,14 @@ loop-holds : tie.Need-loop-holds Inv-loop μ-loop
 unfolding aliveCount notAliveCount pick
 loop-holds c = (omega arith, refl)
 
-writer-at-requires : tie.Need-writer-at-requires Inv-loop μ-loop
-writer-at-requires c κs = omega (arith, (c .before .before .before .pre))
+state-at-requires : tie.Need-state-at-requires Inv-loop μ-loop
+state-at-requires c κs = omega (arith, (c .before .before .before .pre))
 
 count-one-requires : tie.Need-count-one-requires Inv-loop μ-loop
-count-one-requires c κs = counts-room (c .before .before .before .before .before .args .t .now) (c .before .before .before .before .before .args .count) (c .before .before .before .loop .i) (c .before .before .before .loop .counts) (omega arith) (c .before .before .before .before .before .pre .0) (c .before .before .before .loop .inv .1)
+count-one-requires c κs =
+    let s = c .before .before .before .before in
+    let l = c .before .before .loop in
+    counts-room (s .args .t .now) (s .args .count) (l .i) (l .counts) (omega arith) (s .pre .0) (l .inv .1)
 
 add-i : tie.Need-add-i Inv-loop μ-loop
 add-i c = omega arith
@@ -33,7 +37,11 @@ loop-less : tie.Need-loop-less Inv-loop μ-loop
 loop-less c = omega arith
 
 loop-again : tie.Need-loop-again Inv-loop μ-loop
-loop-again c = (omega arith, (c .count-one .ensures) ∙ counts-at (c .before .before .before .before .before .before .args .t .now) (c .before .before .before .before .before .before .args .count) (c .before .before .before .before .loop .i) (c .before .before .writer-at .result) (c .before .before .before .before .loop .counts) (omega arith) (c .before .before .writer-at .ensures) (c .before .before .before .before .loop .inv .1))
+loop-again c =
+    let a = c .before .before .before .before .before .args in
+    let l = c .before .before .before .loop in
+    let w = writerOf (take 40 (drop (l .i * 40) (a .t .now))) in
+    (omega arith, c .count-one .ensures ∙ ap (countOne (l .counts)) (c .before .state-at .ensures) ∙ counts-at (a .t .now) (a .count) (l .i) w (l .counts) (omega arith) refl (l .inv .1))
 
 returns : tie.Need-returns Inv-loop μ-loop
 returns c = counts-end (c .before .before .before .args .t .now) (c .before .before .before .args .count) (c .before .loop .i) (c .before .loop .counts) (omega arith) (c .before .loop .inv .1)
@@ -45,7 +53,7 @@ count-classes-spec =
     Inv-loop
     μ-loop
     loop-holds
-    writer-at-requires
+    state-at-requires
     count-one-requires
     add-i
     loop-less
