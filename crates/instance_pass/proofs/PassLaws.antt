@@ -2,12 +2,14 @@
 --     step-few, turned                what a step leaves can be written; one record of a pass from its parts
 --     During                          what holds when the first i instances are passed
 --     during-start, during-ahead      before the first; what the next asks
---     during-turn                     one instance more
+--     during-turn, during-spared      one instance more, stepped or left alone
+--     during-went                     either
 --     during-end                      all are passed, and the places behind those kept are cleared
 -- Assumes nothing.
 use Prim.Native.Nat.{ℕ, _+_, _*_, _≤_, _<_}
 use mathlib.Core.Bool.{Bool, true, false, cond}
 use mathlib.Core.List.{List, append-nil}
+use mathlib.Core.Logic.{_⊎_, ⊎-elim}
 use mathlib.Core.Option.{Option, none, some}
 use mathlib.Core.Path.{_≡_, refl, sym, ap, _∙_}
 use native.Mathlib.Nat.{mul-le-mul-right}
@@ -29,7 +31,7 @@ use Rattle.model.specs.Tables.{isSome, pick, sift}
 use Rattle.model.proofs.RowLaws.{length-read}
 use Rattle.turns.specs.Places.{survivors, midway}
 use Rattle.turns.proofs.Finds.{pick-take, pick-more}
-use Rattle.turns.proofs.Passes.{survivors-keep, survivors-drop, midway-start, midway-end, length-midway, midway-keep, midway-drop}
+use Rattle.turns.proofs.Passes.{survivors-keep, survivors-drop, midway-start, midway-end, length-midway, midway-keep, midway-drop, midway-same}
 use Rattle.instance_table.specs.Laid.{Laid}
 use Rattle.instance_table.proofs.LaidOut.{patch-width, replaced}
 use Rattle.instance_table.proofs.Rows.{get-read}
@@ -38,7 +40,7 @@ use Rattle.instance_pass.specs.declared.Passing.{Passing}
 use Rattle.instance_pass.specs.declared.Step.{Step}
 use Rattle.instance_pass.specs.declared.Tally.{Tally}
 use Rattle.instance_pass.specs.Steps.{Passable, leftIn, listedIn, countedIn, remains, Stepped}
-use Rattle.instance_pass.specs.Passes.{remaining, listing, amount, total, UsableIn, keptAt, withStep, Ahead, Turned, Passed}
+use Rattle.instance_pass.specs.Passes.{remaining, listing, amount, total, UsableIn, keptAt, withStep, Ahead, Turned, Spared, Passed}
 use Rattle.instance_pass.proofs.ListLaws.{list-start, list-more, total-take, drop-same}
 use Rattle.instance_pass.proofs.StepLaws.{SoundLeft, bit-le, counted-le}
 
@@ -186,40 +188,85 @@ module _ (p : Passing) (s : Sheet) (gone : List Guid) (count : ℕ) (t₀ out₀
           }
 
       -- Out behind x, which is listed where b says so
-      noted : (x : Instance) → x ≡ getD xs i x → (b : Bool) → q x ≡ b → (out′ : List ℕ) → out′ ≡ cond b (put 8 out (c .listed * 8) (x .handle .0)) out →
+      noting : (x : Instance) → x ≡ getD xs i x → (b : Bool) → q x ≡ b → (out′ : List ℕ) → out′ ≡ cond b (put 8 out (c .listed * 8) (x .handle .0)) out →
           out′ ≡ listIn (handleBytes (pick q (take (i + 1) xs))) out₀
-      noted x e false g out′ v =
+      noting x e false g out′ v =
           let k : q (getD xs i x) ≡ false = sym (ap q e) ∙ g in
           v ∙ d .list ∙ rw (pick-take q xs i x inside, k, append-nil (pick q (take i xs)))
-      noted x e true g out′ v =
+      noting x e true g out′ v =
           let k : q (getD xs i x) ≡ true = sym (ap q e) ∙ g in
           v
           ∙ rw (pick-take q xs i x inside, k, ← e, d .listed, d .list)
           (list-more (pick q (take i xs)) x out₀ (omega (arith, d .listed, d .fewListed)))
 
-      pub during-turn : (t′ out′ : List ℕ) (c′ : Tally) → length t′ ≡ length t → length out′ ≡ length out →
+      -- Out and the tally behind x
+      record Told (x : Instance) (out′ : List ℕ) (c′ : Tally) : Type 0 where
+        noted : out′ ≡ cond (q x) (put 8 out (c .listed * 8) (x .handle .0)) out
+        kept : c′ .kept ≡ c .kept + bit (isSome (f x))
+        listed : c′ .listed ≡ c .listed + bit (q x)
+        counted : c′ .counted ≡ c .counted + a x
+
+      told : (x : Instance) → x ≡ getD xs i x → (t′ out′ : List ℕ) (c′ : Tally) → length t′ ≡ length t → length out′ ≡ length out →
+          Behind (f x) t′ → Told x out′ c′ → During (i + 1) t′ out′ c′
+      told x e t′ out′ c′ n m b w =
+          record {
+            below = omega arith;
+            long = n ∙ d .long;
+            wide = m ∙ d .wide;
+            kept = w .kept ∙ b .kept;
+            listed = w .listed ∙ ap (λ (z : ℕ). z + bit (q x)) (d .listed)
+                ∙ sym (pick-more q xs i x inside ∙ ap (λ (y : Instance). length (pick q (take i xs)) + cond (q y) 1 0) (sym e) ∙ as-bit (length (pick q (take i xs))) (q x));
+            counted = w .counted ∙ ap (λ (z : ℕ). z + a x) (d .counted)
+                ∙ sym (total-take a xs i x inside ∙ ap (λ (y : Instance). total a (take i xs) + a y) (sym e));
+            fewKept = omega (arith, w .kept, b .few);
+            fewListed = omega (arith, w .listed, d .fewListed, bit-le (q x));
+            fewCounted = omega (arith, w .counted, d .fewCounted, counted-le p s gone (x .state) list);
+            ahead = b .ahead;
+            list = noting x e (q x) refl out′ (w .noted);
+            laid = b .laid;
+          }
+
+      during-turn : (t′ out′ : List ℕ) (c′ : Tally) → length t′ ≡ length t → length out′ ≡ length out →
           Turned p s gone (instanceOf (recordAt t i)) t out c t′ out′ c′ → During (i + 1) t′ out′ c′
       during-turn t′ out′ c′ n m w = go (instanceOf (recordAt t i)) (during-read h) w
         where
           go : (x : Instance) → x ≡ getD xs i x → Turned p s gone x t out c t′ out′ c′ → During (i + 1) t′ out′ c′
           go x e w =
-              let b = behind x e (f x) refl t′ (w .table) n in
+              told x e t′ out′ c′ n m (behind x e (f x) refl t′ (w .table) n)
+              record { noted = w .list; kept = w .kept; listed = w .listed; counted = w .counted }
+
+      -- x stays where it is
+      unmoved : (x : Instance) → x ≡ getD xs i x → c .kept ≡ i → f x ≡ some x → (t′ : List ℕ) → t′ ≡ t → Behind (f x) t′
+      unmoved x e k g t′ v =
+          let u : f (getD xs i x) ≡ some x = sym (ap f e) ∙ g in
+          let z : f (getD xs i x) ≡ some (getD xs i x) = u ∙ ap some e in
+          rw g
+          record {
+            kept = omega (arith, d .kept, survivors-keep f xs i x inside x u);
+            few = omega (arith, d .fewKept);
+            ahead = rw v onward;
+            laid = λ places l. rw (v, midway-same f xs i x inside (sym (d .kept) ∙ k) z) (d .laid places l);
+          }
+
+      during-spared : (t′ out′ : List ℕ) (c′ : Tally) → length t′ ≡ length t → length out′ ≡ length out →
+          Spared p s gone (instanceOf (recordAt t i)) i t out c t′ out′ c′ → During (i + 1) t′ out′ c′
+      during-spared t′ out′ c′ n m w = go (instanceOf (recordAt t i)) (during-read h) w
+        where
+          go : (x : Instance) → x ≡ getD xs i x → Spared p s gone x i t out c t′ out′ c′ → During (i + 1) t′ out′ c′
+          go x e w =
+              let g : f x ≡ some x = ap (λ (o : Option InstanceState). kept x o) (w .untouched .left) in
+              told x e t′ out′ c′ n m (unmoved x e (w .all) g t′ (w .table))
               record {
-                below = omega arith;
-                long = n ∙ d .long;
-                wide = m ∙ d .wide;
-                kept = w .kept ∙ b .kept;
-                listed = w .listed ∙ ap (λ (z : ℕ). z + bit (q x)) (d .listed)
-                    ∙ sym (pick-more q xs i x inside ∙ ap (λ (y : Instance). length (pick q (take i xs)) + cond (q y) 1 0) (sym e) ∙ as-bit (length (pick q (take i xs))) (q x));
-                counted = w .counted ∙ ap (λ (z : ℕ). z + a x) (d .counted)
-                    ∙ sym (total-take a xs i x inside ∙ ap (λ (y : Instance). total a (take i xs) + a y) (sym e));
-                fewKept = omega (arith, w .kept, b .few);
-                fewListed = omega (arith, w .listed, d .fewListed, bit-le (q x));
-                fewCounted = omega (arith, w .counted, d .fewCounted, counted-le p s gone (x .state) list);
-                ahead = b .ahead;
-                list = noted x e (q x) refl out′ (w .list);
-                laid = b .laid;
+                noted = rw (w .untouched .unlisted) (w .list);
+                kept = rw (g, w .tally);
+                listed = rw (w .untouched .unlisted, w .tally) (omega arith);
+                counted = rw (w .untouched .uncounted, w .tally) (omega arith);
               }
+
+      pub during-went : (t′ out′ : List ℕ) (c′ : Tally) → length t′ ≡ length t → length out′ ≡ length out →
+          Turned p s gone (instanceOf (recordAt t i)) t out c t′ out′ c′ ⊎ Spared p s gone (instanceOf (recordAt t i)) i t out c t′ out′ c′ →
+          During (i + 1) t′ out′ c′
+      during-went t′ out′ c′ n m w = ⊎-elim (λ a. during-turn t′ out′ c′ n m a) (λ b. during-spared t′ out′ c′ n m b) w
 
     -- all are passed; t′ is the table with the places behind those kept cleared
     pub during-end : count ≤ i → (t′ : List ℕ) →

@@ -3,7 +3,7 @@
 --     total                         the sum of the amounts
 --     UsableIn                      an instance that the steps can take
 --     keptAt, withStep              a table where what is left of an instance is written; a tally with one step more
---     Ahead, Turned                 one record of a pass: what it asks, and what it leaves
+--     Ahead, Turned, Spared         one record of a pass: what it asks, what it leaves, and that it was left alone
 --     Passed                        the whole pass
 -- Rests on model's calls and on instance_table's layout.
 use Prim.Native.Nat.{ℕ, _+_, _*_, _≤_, _<_}
@@ -26,6 +26,7 @@ use Rattle.instance_table.specs.Laid.{Laid}
 use Rattle.instance_pass.specs.declared.Passing.{Passing}
 use Rattle.instance_pass.specs.declared.Step.{Step}
 use Rattle.instance_pass.specs.declared.Tally.{Tally}
+use Rattle.instance_pass.specs.Spares.{Untouched}
 use Rattle.instance_pass.specs.Steps.{Passable, leftIn, listedIn, countedIn}
 
 -- what is left, with its key and its handle
@@ -80,6 +81,14 @@ pub record Turned (p : Passing) (s : Sheet) (gone : List Guid) (x : Instance) (t
   pub kept : c′ .kept ≡ c .kept + bit (isSome (remaining p s gone x))
   pub listed : c′ .listed ≡ c .listed + bit (listing p s gone x)
   pub counted : c′ .counted ≡ c .counted + amount p s gone x
+
+-- the instance x stands at place i, where it goes, and the pass leaves it as it is
+pub record Spared (p : Passing) (s : Sheet) (gone : List Guid) (x : Instance) (i : ℕ) (t out : List ℕ) (c : Tally) (t′ out′ : List ℕ) (c′ : Tally) : Type 0 where
+  pub untouched : Untouched p s gone (x .state)
+  pub all : c .kept ≡ i
+  pub table : t′ ≡ t
+  pub list : out′ ≡ out
+  pub tally : c′ ≡ record { kept = c .kept + 1; listed = c .listed; counted = c .counted }
 
 -- ---- the whole pass, of the instances xs
 

@@ -1,12 +1,15 @@
 // The calls on every instance as one pass over the lent table, and the loss of several writers as another: record by record,
 // what is left of an instance is written behind the instances kept, and the handles of those listed go to the front of Out.
-// Rests on octets, model, turns, answers, instance_record, instance_writing, instance_fields, instance_lifecycle,
-// instance_ownership, instance_state and instance_table.
+// A record that the call leaves as it is, as few of its bytes tell, is neither read whole nor written.
+// Rests on octets, model, turns, answers, instance_record, instance_writing, instance_watch, instance_fields,
+// instance_lifecycle, instance_ownership, instance_state and instance_table.
 //
 // Derives from instance_tracker.rs of ZeroDDS.
 // Copyright 2026 ZeroDDS Contributors. SPDX-License-Identifier: Apache-2.0. Changed: written anew in Rattle, with the
 // instances as a table of records in lent bytes and every such call as a step on each.
 use instance_table::TableCall;
+use instance_watch::Span;
+use instance_watch::Watch;
 use model::Answer;
 use model::Guid;
 use model::Instance;
@@ -16,6 +19,7 @@ use model::InstanceState;
 use model::MaybeTime;
 use model::Sheet;
 ghost use mathlib.Core.Bool.{true, cond, _&&_, _||_};
+ghost use mathlib.Core.Logic.{_⊎_};
 ghost use mathlib.Core.Option.{some};
 ghost use mathlib.Core.Path.{_≡_};
 ghost use Prim.Native.Nat.{_+_, _*_, _≤_, _<_};
@@ -32,7 +36,8 @@ ghost use Rattle.instance_record.specs.Parts.{recordAt};
 ghost use Rattle.instance_fields.specs.Usable.{Usable};
 ghost use Rattle.instance_table.specs.TableCalls.{Ready, stateWith};
 ghost use Rattle.instance_pass.specs.EveryCalls.{answerAs, Left};
-ghost use Rattle.instance_pass.specs.Passes.{UsableIn, keptAt, withStep, Ahead, Turned, Passed};
+ghost use Rattle.instance_pass.specs.Passes.{UsableIn, keptAt, withStep, Ahead, Turned, Spared, Passed};
+ghost use Rattle.instance_pass.specs.Spares.{within, widened, watchAs, Watches};
 ghost use Rattle.instance_pass.specs.Steps.{onEvery, Passable, gonesIn, reportOf, countedAs, listedAs, counts, leftIn, listedIn, countedIn, remains, Stepped, lostOne};
 
 // What passes over the instances: a call on every one, or the loss of the writers of a list.
@@ -218,6 +223,74 @@ pub fn take_step(p: Passing, s: Sheet, gone: &[u8], x: InstanceState) -> Step
     }
 }
 
+// ---- what a pass looks for
+
+// The span that reaches to g too.
+fn widen(w: Span, g: Guid) -> Span
+    ensures { λ r. ⌜ r ≡ widened w g ⌝ }
+{
+    let low = w.low;
+    let high = w.high;
+    if guid::is_less(g, low) {
+        if guid::is_less(high, g) {
+            return Span { low: g, high: g };
+        }
+        return Span { low: g, high: high };
+    }
+    if guid::is_less(high, g) {
+        return Span { low: low, high: g };
+    }
+    w
+}
+
+// From the lowest to the highest of a list's GUIDs.
+fn span_of(gone: &[u8]) -> Span
+    requires { ⌜ length (now gone) ≤ 4096 ⌝ }
+    ensures { λ r. ⌜ All (within r) (gonesIn (now (gone .entry))) ⌝ }
+{
+    let n = gone.len() / 16;
+    let top = Guid {
+        hi: 0xffff_ffff_ffff_ffff,
+        lo: 0xffff_ffff_ffff_ffff,
+    };
+    let bottom = guid::nil();
+    let mut w = Span {
+        low: top,
+        high: bottom,
+    };
+    let mut i = 0;
+    while i < n {
+        let g = instance_record::read_guid(gone, i * 16);
+        w = widen(w, g);
+        i += 1;
+    }
+    w
+}
+
+// What a call looks for, by what it reports: the one that reports nothing is an update of the owner's strength.
+fn call_watch(k: Report, g: Guid) -> Watch
+    ensures { λ r. ⌜ r ≡ watchAs k g ⌝ }
+{
+    match k {
+        Report::Nothing => Watch::Owner(g),
+        Report::Left => Watch::Writers(Span { low: g, high: g }),
+        Report::Owner => Watch::Owner(g),
+        Report::Prefix => Watch::Prefix(g),
+        Report::Purge => Watch::NotAlive,
+    }
+}
+
+// What a pass looks for.
+fn watch_of(p: Passing, g: Guid, gone: &[u8]) -> Watch
+    requires { ⌜ Passable p × (length (now gone) ≤ 4096) ⌝ }
+    ensures { λ r. ⌜ ((s : Sheet) → s .guid ≡ g → Watches p s (gonesIn (now (gone .entry))) r) ⌝ }
+{
+    match p {
+        Passing::Call(c) => call_watch(report_of(c), g),
+        Passing::Loss => Watch::Writers(span_of(gone)),
+    }
+}
+
 // ---- the pass
 
 // What is left of the instance x is written at place k.
@@ -285,6 +358,34 @@ fn pass_at(
     tallied(tally, r)
 }
 
+// Record i takes its turn. Where all before it are kept, it stands in its place already, and one that the pass leaves as it
+// is need not be written.
+fn turn(
+    pens: &mut [u8],
+    out: &mut [u8],
+    i: usize,
+    tally: Tally,
+    p: Passing,
+    s: Sheet,
+    gone: &[u8],
+    w: Watch,
+) -> Tally
+    requires { ⌜ Ahead p (now gone) (now pens) (now out) i tally (instanceOf (recordAt (now pens) i)) × Watches p s (gonesIn (now gone)) w ⌝ }
+    ensures { λ r. ⌜ Turned p s (gonesIn (now (gone .entry))) (instanceOf (recordAt (now (pens .entry)) i)) (now (pens .entry)) (now (out .entry)) tally (now (pens .exit)) (now (out .exit)) r
+        ⊎ Spared p s (gonesIn (now (gone .entry))) (instanceOf (recordAt (now (pens .entry)) i)) i (now (pens .entry)) (now (out .entry)) tally (now (pens .exit)) (now (out .exit)) r ⌝ }
+{
+    if tally.kept == i {
+        if instance_watch::is_clear(pens, i, w) {
+            return Tally {
+                kept: tally.kept + 1,
+                listed: tally.listed,
+                counted: tally.counted,
+            };
+        }
+    }
+    pass_at(pens, out, i, tally, p, s, gone)
+}
+
 // The first count instances are taken through their steps, those kept closed up and the places behind them cleared; the
 // handles of those listed go to the front of Out.
 pub fn pass(
@@ -303,9 +404,11 @@ pub fn pass(
         listed: 0,
         counted: 0,
     };
+    let g = s.guid;
+    let w = watch_of(p, g, gone);
     let mut i = 0;
     while i < count {
-        tally = pass_at(pens, out, i, tally, p, s, gone);
+        tally = turn(pens, out, i, tally, p, s, gone, w);
         i += 1;
     }
     instance_table::truncate(pens, tally.kept, count);

@@ -58,10 +58,13 @@ fn owner_ok(s: &[u8], f: u16) -> bool
     requires { ⌜ length (now s) ≡ 512 ⌝ }
     ensures { λ r. ⌜ r ≡ ownerOk (ownerOf (now (s .entry)) f) ⌝ }
 {
+    if f / 128 % 2 == 1 {
+        return true;
+    }
     let g = instance_record::read_guid(s, 92);
     let absent = guid::is_same(g, guid::nil());
     let n = octets::get_u32(s, 108);
-    (f / 128 % 2 == 1) | (absent & (n == 0))
+    absent & (n == 0)
 }
 
 // A holder has at most 144 bytes, and zeros behind them; an absent one is zero.

@@ -1,5 +1,6 @@
 -- Laws of `be` and `put`, each over the width.
 --     be-step, put-step     one byte more
+--     be-halves, be-pairs   8 bytes are twice 4, and 4 twice 2
 --     be-room, room-8       it fits, up to 8 bytes in 64 bits
 --     length-put            a write keeps the length
 --     getD-put-out          a byte outside of what was written is as it was
@@ -22,6 +23,22 @@ use Rattle.octets.specs.Octets.{be, put}
 pub be-step : (k : ℕ) (s : List ℕ) (at : ℕ) → be (k + 1) s at ≡ be k s at * 256 + getD s (at + k) 0
 unfolding be
 be-step k s at = rw add-one
+
+pub be-halves : (s : List ℕ) (at : ℕ) → be 8 s at ≡ be 4 s at * 4294967296 + be 4 s (at + 4)
+unfolding be
+be-halves s at =
+    let a : getD s (at + 4 + 1) 0 ≡ getD s (at + 5) 0 = ap (λ (i : ℕ). getD s i 0) (omega arith) in
+    let b : getD s (at + 4 + 2) 0 ≡ getD s (at + 6) 0 = ap (λ (i : ℕ). getD s i 0) (omega arith) in
+    let c : getD s (at + 4 + 3) 0 ≡ getD s (at + 7) 0 = ap (λ (i : ℕ). getD s i 0) (omega arith) in
+    let d : getD s (at + 4 + 0) 0 ≡ getD s (at + 4) 0 = ap (λ (i : ℕ). getD s i 0) (omega arith) in
+    rw (a, b, c, d) (omega arith)
+
+pub be-pairs : (s : List ℕ) (at : ℕ) → be 4 s at ≡ be 2 s at * 65536 + be 2 s (at + 2)
+unfolding be
+be-pairs s at =
+    let a : getD s (at + 2 + 0) 0 ≡ getD s (at + 2) 0 = ap (λ (i : ℕ). getD s i 0) (omega arith) in
+    let b : getD s (at + 2 + 1) 0 ≡ getD s (at + 3) 0 = ap (λ (i : ℕ). getD s i 0) (omega arith) in
+    rw (a, b) (omega arith)
 
 pub be-room : (k r b : ℕ) → r < 256 ^ k → b < 256 → r * 256 + b < 256 ^ (k + 1)
 be-room k r b h l = rw (add-one, pow-suc) (omega arith)

@@ -177,9 +177,7 @@ pub fn count_classes(t: &[u8], count: usize) -> Counts
     };
     let mut i = 0;
     while i < count {
-        let w = writer_record::writer_at(t, i);
-        let l = w.liveliness;
-        let s = l.state;
+        let s = writer_record::state_at(t, i);
         counts = count_one(counts, s);
         i += 1;
     }

@@ -134,6 +134,25 @@ pub fn writer_at(t: &[u8], i: usize) -> Writer
     read_writer(&t[from..end])
 }
 
+// The state alone of a record's bytes.
+fn read_state(r: &[u8]) -> WriterState
+    requires { ⌜ length (now r) ≡ 40 ⌝ }
+    ensures { λ s. ⌜ s ≡ writerOf (now (r .entry)) .liveliness .state ⌝ }
+{
+    let flags = octets::get_u8(r, 16);
+    state_numbered(flags / 16 % 4)
+}
+
+// The state of the writer of record i of a table.
+pub fn state_at(t: &[u8], i: usize) -> WriterState
+    requires { ⌜ i * 40 + 40 ≤ length (now t) ⌝ }
+    ensures { λ s. ⌜ s ≡ writerOf (take 40 (drop (i * 40) (now (t .entry)))) .liveliness .state ⌝ }
+{
+    let from = i * 40;
+    let end = from + 40;
+    read_state(&t[from..end])
+}
+
 // The record of w is written from index at.
 pub fn put_record(t: &mut [u8], at: usize, w: Writer)
     requires { ⌜ at + 40 ≤ length (now t) ⌝ }

@@ -1,8 +1,13 @@
 -- `owner_ok` meets its contract: its callees' equations say so. Assumes nothing.
 use Rattle.model.specs.WellFormed.{ownerOk}
+use borrow.Author.Tests.{eq-eqb, ne-eqb}
 use borrow.Author.Needs.{needs}
 use Rattle.instance_validity.proofs.owner_ok.Statement.{statement}
 use Rattle.instance_validity.proofs.owner_ok.Tie as tie
+
+returns : tie.Need-returns
+unfolding ownerOk
+returns c = rw (eq-eqb _ _ (c .if1 .taken))
 
 read-guid-requires : tie.Need-read-guid-requires
 read-guid-requires c κs = search needs
@@ -16,10 +21,12 @@ is-same-requires c κs = search needs
 get-u32-requires : tie.Need-get-u32-requires
 get-u32-requires c κs = search needs
 
-returns : tie.Need-returns
+returns-2 : tie.Need-returns-2
 unfolding ownerOk
-returns c = rw (c .get-u32 .ensures, c .before .is-same .ensures, c .before .before .nil .ensures, c .before .before .before .read-guid .ensures)
+returns-2 c =
+    let k = c .before .before in
+    rw (ne-eqb _ _ (k .before .before .if1 .left), c .get-u32 .ensures, c .before .is-same .ensures, k .nil .ensures, k .before .read-guid .ensures)
 
 pub owner-ok-spec : {M : Type 1} → statement M
 owner-ok-spec =
-    tie.close (tie.spec read-guid-requires nil-requires is-same-requires get-u32-requires returns)
+    tie.close (tie.spec returns read-guid-requires nil-requires is-same-requires get-u32-requires returns-2)

@@ -1,12 +1,13 @@
 -- `writer_pass::count_classes` meets its contract. Assumes nothing.
-use Prim.Native.Nat.{_-_, _≤_}
-use mathlib.Core.Path.{_∙_, _≡_, refl}
+use Prim.Native.Nat.{_-_, _*_, _≤_}
+use mathlib.Core.Path.{_∙_, _≡_, refl, ap}
 use native.Mathlib.Omega.{arith}
-use lib.ListN.{take}
+use lib.ListN.{take, drop}
 use Rattle.model.specs.State.{writersIn, aliveCount, notAliveCount}
 use Rattle.model.specs.Tables.{pick}
+use Rattle.model.specs.WriterRecord.{writerOf}
 use Rattle.writer_pass.proofs.Reading.{counts-at, counts-room, counts-end}
-use Rattle.writer_pass.specs.Passes.{countsOf}
+use Rattle.writer_pass.specs.Passes.{countOne, countsOf}
 use Rattle.writer_pass.proofs.count_classes.Statement.{statement}
 use Rattle.writer_pass.proofs.count_classes.Tie as tie
 
@@ -20,14 +21,14 @@ loop-holds : tie.Need-loop-holds Inv-loop μ-loop
 unfolding aliveCount notAliveCount pick
 loop-holds c = (omega arith, refl)
 
-writer-at-requires : tie.Need-writer-at-requires Inv-loop μ-loop
-writer-at-requires c κs = omega (arith, (c .before .before .before .pre))
+state-at-requires : tie.Need-state-at-requires Inv-loop μ-loop
+state-at-requires c κs = omega (arith, (c .before .before .before .pre))
 
 count-one-requires : tie.Need-count-one-requires Inv-loop μ-loop
 count-one-requires c κs =
-    let k = c .before .before .before in
-    let a = k .before .before in
-    counts-room (a .args .t .now) (a .args .count) (k .loop .i) (k .loop .counts) (omega arith) (a .pre .0) (k .loop .inv .1)
+    let s = c .before .before .before .before in
+    let l = c .before .before .loop in
+    counts-room (s .args .t .now) (s .args .count) (l .i) (l .counts) (omega arith) (s .pre .0) (l .inv .1)
 
 add-i : tie.Need-add-i Inv-loop μ-loop
 add-i c = omega arith
@@ -37,12 +38,12 @@ loop-less c = omega arith
 
 loop-again : tie.Need-loop-again Inv-loop μ-loop
 loop-again c =
-    let k = c .before .before in
-    let l = k .before .before in
-    let a = l .before .before in (
+    let a = c .before .before .before .before .before .args in
+    let l = c .before .before .before .loop in
+    let w = writerOf (take 40 (drop (l .i * 40) (a .t .now))) in (
       omega arith,
-      (c .count-one .ensures) ∙ counts-at (a .args .t .now) (a .args .count) (l .loop .i) (k .writer-at .result) (l .loop .counts) (omega arith)
-          (k .writer-at .ensures) (l .loop .inv .1),
+      c .count-one .ensures ∙ ap (countOne (l .counts)) (c .before .state-at .ensures)
+          ∙ counts-at (a .t .now) (a .count) (l .i) w (l .counts) (omega arith) refl (l .inv .1),
     )
 
 returns : tie.Need-returns Inv-loop μ-loop
@@ -57,7 +58,7 @@ count-classes-spec =
     Inv-loop
     μ-loop
     loop-holds
-    writer-at-requires
+    state-at-requires
     count-one-requires
     add-i
     loop-less
