@@ -1,5 +1,5 @@
 // The head and the answer in bytes, as a recorded list holds them and as they cross the C boundary: 64 and 72 bytes, whose
-// layout stands in specs/Layouts. Rests on octets, model, numbers and tables.
+// layout stands in specs/Layouts. Rests on octets, model, guid and numbers.
 use model::Answer;
 use model::Guid;
 use model::Head;
@@ -105,7 +105,7 @@ fn read_last(b: &[u8]) -> LastWriter
     if octets::get_u16(b, 28) == 0 {
         return LastWriter::Nobody;
     }
-    let g = tables::key_at(b, 48);
+    let g = guid::guid_at(b, 48);
     LastWriter::Is(g)
 }
 

@@ -1,4 +1,4 @@
-// A call's sheet: its 256 bytes as fields, and the refusals that the sheet alone decides. Rests on octets, tables and model.
+// A call's sheet: its 256 bytes as fields, and the refusals that the sheet alone decides. Rests on octets, guid and model.
 use model::Holder;
 use model::InstanceCall;
 use model::InstanceHandle;
@@ -79,8 +79,8 @@ pub fn read_sheet(s: &[u8]) -> Sheet
     ensures { λ r. ⌜ r ≡ sheetOf (now (s .entry)) ⌝ }
 {
     let bits = octets::get_u8(s, 80);
-    let key = tables::key_at(s, 0);
-    let guid = tables::key_at(s, 16);
+    let key = guid::guid_at(s, 0);
+    let guid = guid::guid_at(s, 16);
     let handle = InstanceHandle(octets::get_u64(s, 32));
     let time_1 = read_time(s, 40, bit_of(bits, 128));
     let time_2 = read_time(s, 48, true);

@@ -1,7 +1,20 @@
-// Keys and GUIDs: their order, their equality and their prefix, as model's definitions say. Rests on model.
+// Keys and GUIDs: their bytes, their order, their equality and their prefix, as model's definitions say. Rests on octets and
+// model.
 use model::Guid;
 ghost use mathlib.Core.Path.{_≡_};
-ghost use Rattle.model.specs.Guids.{less, same, samePrefix, nil};
+ghost use Prim.Native.Nat.{_+_, _≤_};
+ghost use lib.ListN.{length};
+ghost use Rattle.model.specs.Guids.{guidAt, less, same, samePrefix, nil};
+
+// The GUID of the 16 bytes from at.
+pub fn guid_at(s: &[u8], at: usize) -> Guid
+    requires { ⌜ at + 16 ≤ length (now s) ⌝ }
+    ensures { λ r. ⌜ r ≡ guidAt (now (s .entry)) at ⌝ }
+{
+    let hi = octets::get_u64(s, at);
+    let lo = octets::get_u64(s, at + 8);
+    Guid { hi: hi, lo: lo }
+}
 
 // Whether a stands before b in byte order.
 pub fn is_less(a: Guid, b: Guid) -> bool

@@ -202,7 +202,7 @@ pub fn loss_step(gone: &[u8], at: MaybeTime, x: InstanceState) -> Step
     };
     let mut i = 0;
     while i < n {
-        let g = instance_record::read_guid(gone, i * 16);
+        let g = guid::guid_at(gone, i * 16);
         r = lose_one(g, at, r);
         i += 1;
     }
@@ -260,7 +260,7 @@ fn span_of(gone: &[u8]) -> Span
     };
     let mut i = 0;
     while i < n {
-        let g = instance_record::read_guid(gone, i * 16);
+        let g = guid::guid_at(gone, i * 16);
         w = widen(w, g);
         i += 1;
     }

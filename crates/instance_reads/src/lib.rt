@@ -319,7 +319,7 @@ fn has_guid(list: &[u8], n: usize, g: Guid) -> bool
 {
     let mut i = 0;
     while i < n {
-        if guid::is_same(instance_record::read_guid(list, i * 16), g) {
+        if guid::is_same(guid::guid_at(list, i * 16), g) {
             return true;
         }
         i += 1;
@@ -389,7 +389,7 @@ fn all_gone(r: &[u8], n: usize, gone: &[u8], m: usize) -> bool
 {
     let mut i = 0;
     while i < n {
-        if !has_guid(gone, m, instance_record::read_guid(r, 256 + i * 16)) {
+        if !has_guid(gone, m, guid::guid_at(r, 256 + i * 16)) {
             return false;
         }
         i += 1;

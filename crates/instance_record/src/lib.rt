@@ -1,6 +1,6 @@
 // The 512 bytes of an instance, read into a struct by value. Each function works on one record, lent as a slice of its own,
 // so that the offsets are the document's; the last three take a whole table.
-// Rests on octets and model.
+// Rests on octets, model and guid.
 //
 // Derives from instance_tracker.rs of ZeroDDS.
 // Copyright 2026 ZeroDDS Contributors. SPDX-License-Identifier: Apache-2.0. Changed: written anew in Rattle, with the
@@ -19,7 +19,7 @@ use model::WriterSet;
 ghost use mathlib.Core.Path.{_≡_};
 ghost use Prim.Native.Nat.{_+_, _*_, _≤_};
 ghost use lib.ListN.{length, drop};
-ghost use Rattle.model.specs.Guids.{guidAt, guidsIn};
+ghost use Rattle.model.specs.Guids.{guidsIn};
 ghost use Rattle.model.specs.InstanceRecord.{kindNumbered, timeAt, lifeOf, timesOf, ownerOf, holderOf, writerSetOf, stateBy, instanceOf};
 ghost use Rattle.instance_record.specs.Parts.{recordAt};
 
@@ -34,16 +34,6 @@ fn kind_of(n: u16) -> InstanceStateKind
         1 => InstanceStateKind::NotAliveDisposed,
         _ => InstanceStateKind::NotAliveNoWriters,
     }
-}
-
-// The GUID of the 16 bytes from at.
-pub fn read_guid(s: &[u8], at: usize) -> Guid
-    requires { ⌜ at + 16 ≤ length (now s) ⌝ }
-    ensures { λ r. ⌜ r ≡ guidAt (now (s .entry)) at ⌝ }
-{
-    let hi = octets::get_u64(s, at);
-    let lo = octets::get_u64(s, at + 8);
-    Guid { hi: hi, lo: lo }
 }
 
 // The time of the 8 bytes from at, present or not.
@@ -106,7 +96,7 @@ fn read_owner(s: &[u8], f: u16) -> MaybeOwner
     requires { ⌜ length (now s) ≡ 512 ⌝ }
     ensures { λ r. ⌜ r ≡ ownerOf (now (s .entry)) f ⌝ }
 {
-    let g = read_guid(s, 92);
+    let g = guid::guid_at(s, 92);
     let n = octets::get_u32(s, 108);
     MaybeOwner {
         present: f / 128 % 2 == 1,
@@ -139,7 +129,7 @@ fn read_guids(s: &[u8]) -> [Guid; 16]
     let mut r = [z; 16];
     let mut i: usize = 0;
     while i < 16 {
-        let g = read_guid(s, 256 + i * 16);
+        let g = guid::guid_at(s, 256 + i * 16);
         r[i] = g;
         i += 1;
     }
@@ -182,7 +172,7 @@ pub fn read_key(s: &[u8]) -> Guid
     requires { ⌜ length (now s) ≡ 512 ⌝ }
     ensures { λ r. ⌜ r ≡ instanceOf (now (s .entry)) .key ⌝ }
 {
-    read_guid(s, 0)
+    guid::guid_at(s, 0)
 }
 
 // The handle alone.

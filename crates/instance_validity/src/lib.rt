@@ -61,7 +61,7 @@ fn owner_ok(s: &[u8], f: u16) -> bool
     if f / 128 % 2 == 1 {
         return true;
     }
-    let g = instance_record::read_guid(s, 92);
+    let g = guid::guid_at(s, 92);
     let absent = guid::is_same(g, guid::nil());
     let n = octets::get_u32(s, 108);
     absent & (n == 0)
@@ -93,10 +93,10 @@ fn set_rises(s: &[u8], n: usize) -> bool
     if n == 0 {
         return true;
     }
-    let mut last = instance_record::read_guid(s, 256);
+    let mut last = guid::guid_at(s, 256);
     let mut i: usize = 1;
     while i < n {
-        let g = instance_record::read_guid(s, 256 + i * 16);
+        let g = guid::guid_at(s, 256 + i * 16);
         if !guid::is_less(last, g) {
             return false;
         }

@@ -47,7 +47,7 @@ fn owner_differs(s: &[u8], g: Guid) -> bool
     requires { ⌜ length (now s) ≡ 512 ⌝ }
     ensures { λ r. ⌜ r ≡ not (same (guidAt (now (s .entry)) 92) g) ⌝ }
 {
-    let o = instance_record::read_guid(s, 92);
+    let o = guid::guid_at(s, 92);
     !guid::is_same(o, g)
 }
 
@@ -56,7 +56,7 @@ fn prefix_differs(s: &[u8], g: Guid) -> bool
     requires { ⌜ length (now s) ≡ 512 ⌝ }
     ensures { λ r. ⌜ r ≡ not (samePrefix (guidAt (now (s .entry)) 92) g) ⌝ }
 {
-    let o = instance_record::read_guid(s, 92);
+    let o = guid::guid_at(s, 92);
     !guid::same_prefix(o, g)
 }
 
@@ -68,7 +68,7 @@ fn set_outside(s: &[u8], w: Span) -> bool
     let mut apart = true;
     let mut i: usize = 0;
     while i < 16 {
-        let g = instance_record::read_guid(s, 256 + i * 16);
+        let g = guid::guid_at(s, 256 + i * 16);
         let next = is_outside(w, g);
         apart = apart & next;
         i += 1;
@@ -81,7 +81,7 @@ fn writers_outside(s: &[u8], w: Span) -> bool
     requires { ⌜ length (now s) ≡ 512 ⌝ }
     ensures { λ r. ⌜ r ≡ (outside w (guidAt (now (s .entry)) 92) && all (outside w) (guidsIn 16 (drop 256 (now (s .entry))))) ⌝ }
 {
-    let o = instance_record::read_guid(s, 92);
+    let o = guid::guid_at(s, 92);
     let a = is_outside(w, o);
     let b = set_outside(s, w);
     a & b

@@ -5,7 +5,7 @@ ghost use mathlib.Core.Bool.{true};
 ghost use mathlib.Core.Path.{_≡_};
 ghost use Prim.Native.Nat.{_+_, _*_, _≤_, _<_};
 ghost use lib.ListN.{length};
-ghost use Rattle.model.specs.Guids.{num, guidAt};
+ghost use Rattle.model.specs.Guids.{num};
 ghost use Rattle.tables.specs.Keys.{keys, rising};
 ghost use Rattle.tables.specs.Found.{lowerBound, foundIn};
 ghost use Rattle.tables.specs.Gaps.{opened, closed};
@@ -16,16 +16,6 @@ pub enum Found {
     Missing(usize),
 }
 
-// The key at index at.
-pub fn key_at(t: &[u8], at: usize) -> Guid
-    requires { ⌜ at + 16 ≤ length (now t) ⌝ }
-    ensures { λ r. ⌜ r ≡ guidAt (now (t .entry)) at ⌝ }
-{
-    let hi = octets::get_u64(t, at);
-    let lo = octets::get_u64(t, at + 8);
-    Guid { hi: hi, lo: lo }
-}
-
 // Whether the keys of the first count records rise.
 pub fn keys_rise(t: &[u8], size: usize, count: usize) -> bool
     requires { ⌜ (16 ≤ size) × (count * size ≤ length (now t)) ⌝ }
@@ -34,10 +24,10 @@ pub fn keys_rise(t: &[u8], size: usize, count: usize) -> bool
     if count == 0 {
         return true;
     }
-    let mut last = key_at(t, 0);
+    let mut last = guid::guid_at(t, 0);
     let mut i = 1;
     while i < count {
-        let next = key_at(t, i * size);
+        let next = guid::guid_at(t, i * size);
         if !guid::is_less(last, next) {
             return false;
         }
@@ -56,7 +46,7 @@ pub fn lower_bound(t: &[u8], size: usize, count: usize, key: Guid) -> usize
     let mut hi = count;
     while lo < hi {
         let mid = lo + (hi - lo) / 2;
-        if guid::is_less(key_at(t, mid * size), key) {
+        if guid::is_less(guid::guid_at(t, mid * size), key) {
             lo = mid + 1;
         } else {
             hi = mid;
@@ -72,7 +62,7 @@ pub fn find(t: &[u8], size: usize, count: usize, key: Guid) -> Found
 {
     let place = lower_bound(t, size, count, key);
     if place < count {
-        if guid::is_same(key_at(t, place * size), key) {
+        if guid::is_same(guid::guid_at(t, place * size), key) {
             return Found::At(place);
         }
     }

@@ -11,11 +11,11 @@ get-u16-requires c κs = search needs
 returns : tie.Need-returns
 returns c = nobody (guidAt (c .before .before .before .args .b .now) 48) (c .before .get-u16 .ensures) (c .if1 .taken)
 
-key-at-requires : tie.Need-key-at-requires
-key-at-requires c κs = search needs
+guid-at-requires : tie.Need-guid-at-requires
+guid-at-requires c κs = search needs
 
 returns-2 : tie.Need-returns-2
-returns-2 c = somebody (c .before .before .get-u16 .ensures) (c .before .if1 .left) (c .key-at .ensures)
+returns-2 c = somebody (c .before .before .get-u16 .ensures) (c .before .if1 .left) (c .guid-at .ensures)
 
 pub read-last-spec : {M : Type 1} → statement M
-read-last-spec = tie.close (tie.spec get-u16-requires returns key-at-requires returns-2)
+read-last-spec = tie.close (tie.spec get-u16-requires returns guid-at-requires returns-2)

@@ -15,11 +15,11 @@ abbrev μ-loop : tie.MeasureT-loop
 loop-holds : tie.Need-loop-holds Inv-loop μ-loop
 loop-holds c = (omega arith, losing-start (c .before .args .gone .now) (c .before .args .at) (c .before .args .x) _ (c .before .pre .1))
 
-mul-read-guid : tie.Need-mul-read-guid Inv-loop μ-loop
-mul-read-guid c = omega arith
+mul-guid-at : tie.Need-mul-guid-at Inv-loop μ-loop
+mul-guid-at c = omega arith
 
-read-guid-requires : tie.Need-read-guid-requires Inv-loop μ-loop
-read-guid-requires c κs = omega arith
+guid-at-requires : tie.Need-guid-at-requires Inv-loop μ-loop
+guid-at-requires c κs = omega arith
 
 lose-one-requires : tie.Need-lose-one-requires Inv-loop μ-loop
 lose-one-requires c κs = let l = c .before .before .loop .inv .1 in (l .sound, omega arith)
@@ -34,7 +34,7 @@ loop-again : tie.Need-loop-again Inv-loop μ-loop
 loop-again c =
     let a = c .before .before .before .before .before .args in
     let l = c .before .before .before .loop in
-    let g = c .before .read-guid in
+    let g = c .before .guid-at in
     (omega arith, losing-turn (a .gone .now) (a .at) (a .x) _ (l .i) (l .r) (l .inv .1) (g .result) (c .lose-one .result) (omega arith) (g .ensures) (c .lose-one .ensures))
 
 returns : tie.Need-returns Inv-loop μ-loop
@@ -50,8 +50,8 @@ loss-step-spec =
     Inv-loop
     μ-loop
     loop-holds
-    mul-read-guid
-    read-guid-requires
+    mul-guid-at
+    guid-at-requires
     lose-one-requires
     add-i
     loop-less

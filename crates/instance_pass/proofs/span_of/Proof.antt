@@ -22,11 +22,11 @@ nil-requires c κs = tt
 loop-holds : tie.Need-loop-holds Inv-loop μ-loop
 loop-holds c = (omega arith, omega arith, span-start _ (c .before .before .args .gone .now))
 
-mul-read-guid : tie.Need-mul-read-guid Inv-loop μ-loop
-mul-read-guid c = omega arith
+mul-guid-at : tie.Need-mul-guid-at Inv-loop μ-loop
+mul-guid-at c = omega arith
 
-read-guid-requires : tie.Need-read-guid-requires Inv-loop μ-loop
-read-guid-requires c κs = omega arith
+guid-at-requires : tie.Need-guid-at-requires Inv-loop μ-loop
+guid-at-requires c κs = omega arith
 
 widen-requires : tie.Need-widen-requires Inv-loop μ-loop
 widen-requires c κs = tt
@@ -40,7 +40,7 @@ loop-less c = omega arith
 loop-again : tie.Need-loop-again Inv-loop μ-loop
 loop-again c =
     let l = c .before .before .before .loop in
-    let g = c .before .read-guid in (
+    let g = c .before .guid-at in (
       omega arith,
       omega arith,
       span-turn (l .w) (c .widen .result) (g .result) (c .before .before .before .before .before .before .args .gone .now) (l .i) (l .inv .2) (g .ensures) (c .widen .ensures),
@@ -60,8 +60,8 @@ span-of-spec =
     μ-loop
     nil-requires
     loop-holds
-    mul-read-guid
-    read-guid-requires
+    mul-guid-at
+    guid-at-requires
     widen-requires
     add-i
     loop-less

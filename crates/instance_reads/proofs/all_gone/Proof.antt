@@ -23,14 +23,14 @@ abbrev μ-loop : tie.MeasureT-loop
 loop-holds : tie.Need-loop-holds Inv-loop μ-loop
 loop-holds c = (omega arith, λ j l. absurd (omega arith))
 
-mul-read-guid : tie.Need-mul-read-guid Inv-loop μ-loop
-mul-read-guid c = omega arith
+mul-guid-at : tie.Need-mul-guid-at Inv-loop μ-loop
+mul-guid-at c = omega arith
 
-add-read-guid : tie.Need-add-read-guid Inv-loop μ-loop
-add-read-guid c = omega arith
+add-guid-at : tie.Need-add-guid-at Inv-loop μ-loop
+add-guid-at c = omega arith
 
-read-guid-requires : tie.Need-read-guid-requires Inv-loop μ-loop
-read-guid-requires c κs = omega arith
+guid-at-requires : tie.Need-guid-at-requires Inv-loop μ-loop
+guid-at-requires c κs = omega arith
 
 has-guid-requires : tie.Need-has-guid-requires Inv-loop μ-loop
 has-guid-requires c κs = omega arith
@@ -39,7 +39,7 @@ returns : tie.Need-returns Inv-loop μ-loop
 returns c =
     let i = c .before .before .before .before .loop .i in
     sym (not-each-row guidOf 16 _ _ (among _) i (omega arith)
-    (gone-test _ i _ _ _ (c .before .before .read-guid .ensures) (c .before .has-guid .ensures) ∙ not-true _ (c .if1 .taken)))
+    (gone-test _ i _ _ _ (c .before .before .guid-at .ensures) (c .before .has-guid .ensures) ∙ not-true _ (c .if1 .taken)))
 
 add-i : tie.Need-add-i Inv-loop μ-loop
 add-i c = omega arith
@@ -52,7 +52,7 @@ loop-again c =
     let l = c .before .before .before .before .loop in (
       omega arith,
       below-more _ _ (l .inv .1)
-          (gone-test _ (l .i) _ _ _ (c .before .before .read-guid .ensures) (c .before .has-guid .ensures) ∙ not-false _ (c .if1 .left)),
+          (gone-test _ (l .i) _ _ _ (c .before .before .guid-at .ensures) (c .before .has-guid .ensures) ∙ not-false _ (c .if1 .left)),
     )
 
 returns-2 : tie.Need-returns-2 Inv-loop μ-loop
@@ -66,9 +66,9 @@ all-gone-spec =
     Inv-loop
     μ-loop
     loop-holds
-    mul-read-guid
-    add-read-guid
-    read-guid-requires
+    mul-guid-at
+    add-guid-at
+    guid-at-requires
     has-guid-requires
     returns
     add-i

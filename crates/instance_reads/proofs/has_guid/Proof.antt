@@ -19,11 +19,11 @@ abbrev μ-loop : tie.MeasureT-loop
 loop-holds : tie.Need-loop-holds Inv-loop μ-loop
 loop-holds c = (omega arith, λ j l. absurd (omega arith))
 
-mul-read-guid : tie.Need-mul-read-guid Inv-loop μ-loop
-mul-read-guid c = omega arith
+mul-guid-at : tie.Need-mul-guid-at Inv-loop μ-loop
+mul-guid-at c = omega arith
 
-read-guid-requires : tie.Need-read-guid-requires Inv-loop μ-loop
-read-guid-requires c κs = omega arith
+guid-at-requires : tie.Need-guid-at-requires Inv-loop μ-loop
+guid-at-requires c κs = omega arith
 
 is-same-requires : tie.Need-is-same-requires Inv-loop μ-loop
 is-same-requires c κs = search needs
@@ -32,7 +32,7 @@ returns : tie.Need-returns Inv-loop μ-loop
 returns c =
     let i = c .before .before .before .before .loop .i in
     has-here _ _ _ i (omega arith)
-    (guid-test _ i _ _ _ (c .before .before .read-guid .ensures) (c .before .is-same .ensures) ∙ c .if1 .taken)
+    (guid-test _ i _ _ _ (c .before .before .guid-at .ensures) (c .before .is-same .ensures) ∙ c .if1 .taken)
 
 add-i : tie.Need-add-i Inv-loop μ-loop
 add-i c = omega arith
@@ -44,7 +44,7 @@ loop-again : tie.Need-loop-again Inv-loop μ-loop
 loop-again c =
     let l = c .before .before .before .before .loop in (
       omega arith,
-      below-more _ _ (l .inv .1) (guid-test _ (l .i) _ _ _ (c .before .before .read-guid .ensures) (c .before .is-same .ensures) ∙ c .if1 .left),
+      below-more _ _ (l .inv .1) (guid-test _ (l .i) _ _ _ (c .before .before .guid-at .ensures) (c .before .is-same .ensures) ∙ c .if1 .left),
     )
 
 returns-2 : tie.Need-returns-2 Inv-loop μ-loop
@@ -57,8 +57,8 @@ has-guid-spec =
     Inv-loop
     μ-loop
     loop-holds
-    mul-read-guid
-    read-guid-requires
+    mul-guid-at
+    guid-at-requires
     is-same-requires
     returns
     add-i

@@ -20,14 +20,14 @@ loop-holds : tie.Need-loop-holds Inv-loop μ-loop
 unfolding readRows
 loop-holds c = (omega arith, refl, refl)
 
-mul-read-guid : tie.Need-mul-read-guid Inv-loop μ-loop
-mul-read-guid c = omega arith
+mul-guid-at : tie.Need-mul-guid-at Inv-loop μ-loop
+mul-guid-at c = omega arith
 
-add-read-guid : tie.Need-add-read-guid Inv-loop μ-loop
-add-read-guid c = omega arith
+add-guid-at : tie.Need-add-guid-at Inv-loop μ-loop
+add-guid-at c = omega arith
 
-read-guid-requires : tie.Need-read-guid-requires Inv-loop μ-loop
-read-guid-requires c κs = omega arith
+guid-at-requires : tie.Need-guid-at-requires Inv-loop μ-loop
+guid-at-requires c κs = omega arith
 
 mul-r : tie.Need-mul-r Inv-loop μ-loop
 mul-r c = omega arith
@@ -44,7 +44,7 @@ loop-less c = omega arith
 loop-again : tie.Need-loop-again Inv-loop μ-loop
 loop-again c =
     let l = c .before .before .loop in
-    (omega arith, simp length-set (l .inv .1), guids-turn (l .r) (c .before .before .before .before .args .s .now) (l .i) (c .read-guid .result) (omega arith) (l .inv .2) (c .read-guid .ensures))
+    (omega arith, simp length-set (l .inv .1), guids-turn (l .r) (c .before .before .before .before .args .s .now) (l .i) (c .guid-at .result) (omega arith) (l .inv .2) (c .guid-at .ensures))
 
 returns : tie.Need-returns Inv-loop μ-loop
 returns c =
@@ -60,9 +60,9 @@ read-guids-spec =
     Inv-loop
     μ-loop
     loop-holds
-    mul-read-guid
-    add-read-guid
-    read-guid-requires
+    mul-guid-at
+    add-guid-at
+    guid-at-requires
     mul-r
     array-set-from-r
     add-i

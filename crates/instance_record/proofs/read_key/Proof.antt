@@ -4,12 +4,12 @@ use borrow.Author.Needs.{needs}
 use Rattle.instance_record.proofs.read_key.Statement.{statement}
 use Rattle.instance_record.proofs.read_key.Tie as tie
 
-read-guid-requires : tie.Need-read-guid-requires
-read-guid-requires c κs = search needs
+guid-at-requires : tie.Need-guid-at-requires
+guid-at-requires c κs = search needs
 
 returns : tie.Need-returns
 unfolding instanceOf
-returns c = c .read-guid .ensures
+returns c = c .guid-at .ensures
 
 pub read-key-spec : {M : Type 1} → statement M
-read-key-spec = tie.close (tie.spec read-guid-requires returns)
+read-key-spec = tie.close (tie.spec guid-at-requires returns)

@@ -9,8 +9,8 @@ returns : tie.Need-returns
 unfolding ownerOk
 returns c = rw (eq-eqb _ _ (c .if1 .taken))
 
-read-guid-requires : tie.Need-read-guid-requires
-read-guid-requires c κs = search needs
+guid-at-requires : tie.Need-guid-at-requires
+guid-at-requires c κs = search needs
 
 nil-requires : tie.Need-nil-requires
 nil-requires c κs = search needs
@@ -25,8 +25,8 @@ returns-2 : tie.Need-returns-2
 unfolding ownerOk
 returns-2 c =
     let k = c .before .before in
-    rw (ne-eqb _ _ (k .before .before .if1 .left), c .get-u32 .ensures, c .before .is-same .ensures, k .nil .ensures, k .before .read-guid .ensures)
+    rw (ne-eqb _ _ (k .before .before .if1 .left), c .get-u32 .ensures, c .before .is-same .ensures, k .nil .ensures, k .before .guid-at .ensures)
 
 pub owner-ok-spec : {M : Type 1} → statement M
 owner-ok-spec =
-    tie.close (tie.spec returns read-guid-requires nil-requires is-same-requires get-u32-requires returns-2)
+    tie.close (tie.spec returns guid-at-requires nil-requires is-same-requires get-u32-requires returns-2)

@@ -22,20 +22,20 @@ returns : tie.Need-returns Inv-loop μ-loop
 unfolding readRows rising
 returns c = rw (c .if1 .taken)
 
-read-guid-requires : tie.Need-read-guid-requires Inv-loop μ-loop
-read-guid-requires c κs = search needs
+guid-at-requires : tie.Need-guid-at-requires Inv-loop μ-loop
+guid-at-requires c κs = search needs
 
 loop-holds : tie.Need-loop-holds Inv-loop μ-loop
-loop-holds c = (omega arith, omega arith, rise-start (c .before .before .before .args .s .now) (c .before .before .before .args .n) (c .read-guid .result) (omega arith) (c .read-guid .ensures))
+loop-holds c = (omega arith, omega arith, rise-start (c .before .before .before .args .s .now) (c .before .before .before .args .n) (c .guid-at .result) (omega arith) (c .guid-at .ensures))
 
-mul-read-guid : tie.Need-mul-read-guid Inv-loop μ-loop
-mul-read-guid c = omega arith
+mul-guid-at : tie.Need-mul-guid-at Inv-loop μ-loop
+mul-guid-at c = omega arith
 
-add-read-guid : tie.Need-add-read-guid Inv-loop μ-loop
-add-read-guid c = omega arith
+add-guid-at : tie.Need-add-guid-at Inv-loop μ-loop
+add-guid-at c = omega arith
 
-read-guid-requires-2 : tie.Need-read-guid-requires-2 Inv-loop μ-loop
-read-guid-requires-2 c κs = omega arith
+guid-at-requires-2 : tie.Need-guid-at-requires-2 Inv-loop μ-loop
+guid-at-requires-2 c κs = omega arith
 
 is-less-requires : tie.Need-is-less-requires Inv-loop μ-loop
 is-less-requires c κs = search needs
@@ -44,7 +44,7 @@ returns-2 : tie.Need-returns-2 Inv-loop μ-loop
 returns-2 c =
     let a = c .before .before .before .before .before .before .before .before .args in
     let l = c .before .before .before .before .loop in
-    sym (l .inv .2 ∙ rise-stop (a .s .now) (a .n) (l .i) (l .last) (c .before .before .read-guid2 .result) (omega arith) (c .before .before .read-guid2 .ensures) (sym (c .before .is-less .ensures) ∙ not-true _ (c .if2 .taken)))
+    sym (l .inv .2 ∙ rise-stop (a .s .now) (a .n) (l .i) (l .last) (c .before .before .guid-at2 .result) (omega arith) (c .before .before .guid-at2 .ensures) (sym (c .before .is-less .ensures) ∙ not-true _ (c .if2 .taken)))
 
 add-i : tie.Need-add-i Inv-loop μ-loop
 add-i c = omega arith
@@ -58,7 +58,7 @@ loop-again c =
     let l = c .before .before .before .before .loop in (
       omega arith,
       omega arith,
-      l .inv .2 ∙ rise-turn (a .s .now) (a .n) (l .i) (l .last) (c .before .before .read-guid2 .result) (omega arith) (c .before .before .read-guid2 .ensures) (sym (c .before .is-less .ensures) ∙ not-false _ (c .if2 .left)),
+      l .inv .2 ∙ rise-turn (a .s .now) (a .n) (l .i) (l .last) (c .before .before .guid-at2 .result) (omega arith) (c .before .before .guid-at2 .ensures) (sym (c .before .is-less .ensures) ∙ not-false _ (c .if2 .left)),
     )
 
 returns-3 : tie.Need-returns-3 Inv-loop μ-loop
@@ -74,11 +74,11 @@ set-rises-spec =
     Inv-loop
     μ-loop
     returns
-    read-guid-requires
+    guid-at-requires
     loop-holds
-    mul-read-guid
-    add-read-guid
-    read-guid-requires-2
+    mul-guid-at
+    add-guid-at
+    guid-at-requires-2
     is-less-requires
     returns-2
     add-i

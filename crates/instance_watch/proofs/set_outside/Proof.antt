@@ -21,14 +21,14 @@ loop-holds : tie.Need-loop-holds Inv-loop μ-loop
 unfolding readRows all
 loop-holds c = (omega arith, refl)
 
-mul-read-guid : tie.Need-mul-read-guid Inv-loop μ-loop
-mul-read-guid c = omega arith
+mul-guid-at : tie.Need-mul-guid-at Inv-loop μ-loop
+mul-guid-at c = omega arith
 
-add-read-guid : tie.Need-add-read-guid Inv-loop μ-loop
-add-read-guid c = omega arith
+add-guid-at : tie.Need-add-guid-at Inv-loop μ-loop
+add-guid-at c = omega arith
 
-read-guid-requires : tie.Need-read-guid-requires Inv-loop μ-loop
-read-guid-requires c κs = omega arith
+guid-at-requires : tie.Need-guid-at-requires Inv-loop μ-loop
+guid-at-requires c κs = omega arith
 
 is-outside-requires : tie.Need-is-outside-requires Inv-loop μ-loop
 is-outside-requires c κs = tt
@@ -43,7 +43,7 @@ loop-again : tie.Need-loop-again Inv-loop μ-loop
 loop-again c =
     let a = c .before .before .before .before .before .args in
     let l = c .before .before .before .loop in
-    let g = c .before .read-guid in
+    let g = c .before .guid-at in
     (omega arith, set-turn (outside (a .w)) (a .s .now) (l .i) (l .apart) (c .is-outside .result) (g .result) (l .inv .1) (g .ensures) (c .is-outside .ensures))
 
 returns : tie.Need-returns Inv-loop μ-loop
@@ -59,9 +59,9 @@ set-outside-spec =
     Inv-loop
     μ-loop
     loop-holds
-    mul-read-guid
-    add-read-guid
-    read-guid-requires
+    mul-guid-at
+    add-guid-at
+    guid-at-requires
     is-outside-requires
     add-i
     loop-less

@@ -16,11 +16,11 @@ room c = omega (arith, record-le (c .before .before .before .args .size) (c .if1
 lower-bound-requires : tie.Need-lower-bound-requires
 lower-bound-requires c κs = search needs
 
-mul-key-at : tie.Need-mul-key-at
-mul-key-at c = omega (arith, room c)
+mul-guid-at : tie.Need-mul-guid-at
+mul-guid-at c = omega (arith, room c)
 
-key-at-requires : tie.Need-key-at-requires
-key-at-requires c κs = omega (arith, room c)
+guid-at-requires : tie.Need-guid-at-requires
+guid-at-requires c κs = omega (arith, room c)
 
 is-same-requires : tie.Need-is-same-requires
 is-same-requires c κs = search needs
@@ -30,7 +30,7 @@ returns c =
     let l = c .before .before .before .before .before .before in
     let a = l .args in
     let b = c .before .before .before .before .lower-bound in
-    let k = c .before .before .key-at in
+    let k = c .before .before .guid-at in
     find-at (a .size) (a .count) (a .t .now) (a .key) (b .result) (b .ensures) (k .result) (k .ensures) (omega arith)
     (sym (c .before .is-same .ensures) ∙ c .if2 .taken)
 
@@ -39,7 +39,7 @@ returns-2 c =
     let l = c .before .before .before .before .before .before in
     let a = l .args in
     let b = c .before .before .before .before .lower-bound in
-    let k = c .before .before .key-at in
+    let k = c .before .before .guid-at in
     find-other (a .size) (a .count) (a .t .now) (a .key) (b .result) (b .ensures) (k .result) (k .ensures) (omega arith)
     (sym (c .before .is-same .ensures) ∙ c .if2 .left)
 
@@ -53,8 +53,8 @@ find-spec =
     tie.close
     (tie.spec
     lower-bound-requires
-    mul-key-at
-    key-at-requires
+    mul-guid-at
+    guid-at-requires
     is-same-requires
     returns
     returns-2

@@ -25,26 +25,26 @@ room c = omega (arith, record-le (c .before .before .before .before .before .arg
 -- the comparison's answer is the test of key i
 test : (c : tie.After-is-less Inv-loop μ-loop)
     → (let a = c .before .before .before .before .before .before .before .args in Rises (a .size) (a .t .now) (c .before .before .before .loop .i) ≡ c .is-less .result)
-test c = sym (c .is-less .ensures ∙ ap₂ less (c .before .before .before .loop .inv .2) (c .before .key-at2 .ensures))
+test c = sym (c .is-less .ensures ∙ ap₂ less (c .before .before .before .loop .inv .2) (c .before .guid-at2 .ensures))
 
 returns : tie.Need-returns Inv-loop μ-loop
 unfolding keys rising
 returns c = let e : c .before .before .args .count ≡ 0 = omega arith in rw e
 
-key-at-requires : tie.Need-key-at-requires Inv-loop μ-loop
-key-at-requires c κs = omega (arith, record-le (c .before .before .args .size) {i = 0} {n = c .before .before .args .count} (omega arith))
+guid-at-requires : tie.Need-guid-at-requires Inv-loop μ-loop
+guid-at-requires c κs = omega (arith, record-le (c .before .before .args .size) {i = 0} {n = c .before .before .args .count} (omega arith))
 
 loop-holds : tie.Need-loop-holds Inv-loop μ-loop
 unfolding keys rising leads
 loop-holds c =
     let e : (1 - 1) * c .before .before .before .args .size ≡ 0 = omega arith in
-    (omega arith, omega arith, rw e (c .key-at .ensures), refl)
+    (omega arith, omega arith, rw e (c .guid-at .ensures), refl)
 
-mul-key-at : tie.Need-mul-key-at Inv-loop μ-loop
-mul-key-at c = omega (arith, room c)
+mul-guid-at : tie.Need-mul-guid-at Inv-loop μ-loop
+mul-guid-at c = omega (arith, room c)
 
-key-at-requires-2 : tie.Need-key-at-requires-2 Inv-loop μ-loop
-key-at-requires-2 c κs = omega (arith, room c)
+guid-at-requires-2 : tie.Need-guid-at-requires-2 Inv-loop μ-loop
+guid-at-requires-2 c κs = omega (arith, room c)
 
 is-less-requires : tie.Need-is-less-requires Inv-loop μ-loop
 is-less-requires c κs = tt
@@ -68,7 +68,7 @@ loop-again c =
     let e : l .i + 1 - 1 ≡ l .i = omega arith in (
       omega arith,
       omega arith,
-      rw e (c .before .before .key-at2 .ensures),
+      rw e (c .before .before .guid-at2 .ensures),
       rise-turn (a .size) (a .t .now) (l .i) (omega arith) (l .inv .3) (test (c .before) ∙ not-false _ (c .if2 .left)),
     )
 
@@ -84,10 +84,10 @@ keys-rise-spec =
     Inv-loop
     μ-loop
     returns
-    key-at-requires
+    guid-at-requires
     loop-holds
-    mul-key-at
-    key-at-requires-2
+    mul-guid-at
+    guid-at-requires-2
     is-less-requires
     returns-2
     add-i

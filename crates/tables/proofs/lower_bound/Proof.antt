@@ -35,10 +35,10 @@ room : (c : tie.In-loop Inv-loop μ-loop)
     → (let a = c .before .before .before .args in Mid c * a .size + a .size ≤ length (a .t .now))
 room c = omega (arith, record-le (c .before .before .before .args .size) (mid-lt c))
 
-key-is : (c : tie.After-key-at Inv-loop μ-loop) → getD (K (c .before .before .before .before)) (Mid (c .before)) 0 ≡ num (c .key-at .result)
+key-is : (c : tie.After-guid-at Inv-loop μ-loop) → getD (K (c .before .before .before .before)) (Mid (c .before)) 0 ≡ num (c .guid-at .result)
 key-is c =
     let a = c .before .before .before .before .args in
-    getD-keys (a .size) (a .count) (a .t .now) (Mid (c .before)) (mid-lt (c .before)) ∙ sym (ap num (c .key-at .ensures))
+    getD-keys (a .size) (a .count) (a .t .now) (Mid (c .before)) (mid-lt (c .before)) ∙ sym (ap num (c .guid-at .ensures))
 
 loop-holds : tie.Need-loop-holds Inv-loop μ-loop
 loop-holds c = bracket-start _ _ _ (length-keys (c .before .args .size) (c .before .args .count) (c .before .args .t .now))
@@ -49,11 +49,11 @@ sub-mid c = omega arith
 add-mid : tie.Need-add-mid Inv-loop μ-loop
 add-mid c = omega (arith, mid-lt c)
 
-mul-key-at : tie.Need-mul-key-at Inv-loop μ-loop
-mul-key-at c = omega (arith, room c)
+mul-guid-at : tie.Need-mul-guid-at Inv-loop μ-loop
+mul-guid-at c = omega (arith, room c)
 
-key-at-requires : tie.Need-key-at-requires Inv-loop μ-loop
-key-at-requires c κs = omega (arith, room c)
+guid-at-requires : tie.Need-guid-at-requires Inv-loop μ-loop
+guid-at-requires c κs = omega (arith, room c)
 
 is-less-requires : tie.Need-is-less-requires Inv-loop μ-loop
 is-less-requires c κs = tt
@@ -93,8 +93,8 @@ lower-bound-spec =
     loop-holds
     sub-mid
     add-mid
-    mul-key-at
-    key-at-requires
+    mul-guid-at
+    guid-at-requires
     is-less-requires
     add-lo
     loop-less

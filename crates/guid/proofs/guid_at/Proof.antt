@@ -1,7 +1,7 @@
--- `key_at` meets its contract. Assumes nothing.
+-- `guid_at` meets its contract. Assumes nothing.
 use borrow.Author.Needs.{needs}
-use Rattle.tables.proofs.key_at.Statement.{statement}
-use Rattle.tables.proofs.key_at.Tie as tie
+use Rattle.guid.proofs.guid_at.Statement.{statement}
+use Rattle.guid.proofs.guid_at.Tie as tie
 
 get-u64-requires : tie.Need-get-u64-requires
 get-u64-requires c κs = search needs
@@ -15,5 +15,5 @@ get-u64-requires-2 c κs = search needs
 returns : tie.Need-returns
 returns c = cc
 
-pub key-at-spec : {M : Type 1} → statement M
-key-at-spec = tie.close (tie.spec get-u64-requires add-get-u64 get-u64-requires-2 returns)
+pub guid-at-spec : {M : Type 1} → statement M
+guid-at-spec = tie.close (tie.spec get-u64-requires add-get-u64 get-u64-requires-2 returns)
