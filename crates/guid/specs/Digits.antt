@@ -1,7 +1,6 @@
 -- Numbers of two digits, h and l, to a base m. The base stays a variable, so that no proof computes with numbers of 128
 -- bits.
 --     digit-lt              the high digit decides
---     digits-lt             a number of two digits is below the base squared
 --     digit-high            the high digit is what division by the base gives
 --     digits-div            division by a part of the base
 --     digits-eq             equal numbers have equal digits
@@ -19,9 +18,6 @@ use borrow.Author.Tests.{eqb-true, eqb-false, ltb-true, ltb-false, eq-eqb, ne-eq
 module _ (m : ℕ) {h h′ l : ℕ} (l′ : ℕ) where
   pub digit-lt : l < m → h < h′ → h * m + l < h′ * m + l′
   digit-lt p q = omega (arith, mul-le-mul-right m q, suc-mul h m)
-
-pub digits-lt : (m : ℕ) {h l : ℕ} → h < m → l < m → h * m + l < m * m
-digits-lt m {h} {l} p q = omega (arith, mul-le-mul-right m p, suc-mul h m)
 
 pub digit-high : (m h l : ℕ) → l < m → (h * m + l) / m ≡ h
 digit-high m h l p = mul-add-div-right (omega arith) h l ∙ rw (div-eq-of-lt p) (add-zero h)

@@ -1,4 +1,3 @@
 -- The laws of one instance.
 pub mod Keeps
 pub mod Valid
-pub mod Fitting

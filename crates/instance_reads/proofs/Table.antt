@@ -3,7 +3,7 @@
 --     Whole, whole                             such a table as plain facts
 --     count-table, at-place, room-at, valid-at its instances by their places
 --     located                                  where a key is looked for
---     found-room, found-here, found-valid      the instance of a key that was found
+--     found-room, found-here                   the instance of a key that was found
 --     found-none                               a key that was not
 -- Assumes nothing.
 use Prim.Native.Nat.{ℕ, _+_, _*_, _≤_, _<_}
@@ -116,9 +116,6 @@ module _ (places : ℕ) (t : List ℕ) where
       found-here a =
           find-at instanceKey (tableOf places t) (num key) i (sym e ∙ a) (instanceOf [])
           ∙ ap some (at-place i (instanceOf []) (found-lt a))
-
-      pub found-valid : f ≡ At i → instanceOk (instanceOf (recordAt t i)) ≡ true
-      found-valid a = valid-at i (found-lt a)
 
       pub found-none : f ≡ Missing i → find (hasKey key) (tableOf places t) ≡ none
       found-none a = find-none instanceKey (tableOf places t) (num key) i (whole r .rises) (sym e ∙ a)

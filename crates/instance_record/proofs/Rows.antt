@@ -3,13 +3,11 @@
 --     drop-take                     the rest of the first elements
 --     read-snoc, read-cons          records that are read, the last or the first apart
 --     take-read, drop-read          some of the records that are read
---     read-get                      record i of those that are read
 --     guid-part, guid-in            the GUID of a part, and one of the writer set
 --     guids-turn                    one turn of the loop that reads the set
 --     holder-read, holder-tail      the holder's bytes, and those behind its length
 --     kind-rest                     each number from 2 on is the last kind
 --     lent-part, put-back           a record lent as a part of a table, and what it becomes when it is back
---     put-size                      where that keeps the table's length the record has its size
 -- Assumes nothing.
 use Prim.Native.Nat.{ℕ, zero, suc, _+_, _-_, _*_, _≤_, _<_}
 use mathlib.Core.Path.{_≡_, refl, sym, ap, _∙_}
@@ -18,8 +16,8 @@ use native.Mathlib.Nat.{add-zero, add-assoc, suc-mul, zero-mul}
 use native.Mathlib.Numerals.{add-one}
 use native.Mathlib.Omega.{arith}
 use borrow.Rule.Slice.PartMut.{putMid}
-use lib.ListN.{length, take, drop, getD, set, replicate, length-append, length-drop}
-use lib.Seq.{getD-take, getD-drop, drop-drop, take-nil, take-suc-set, length-take-le, paste}
+use lib.ListN.{length, take, drop, set, replicate}
+use lib.Seq.{getD-take, getD-drop, drop-drop, take-nil, take-suc-set, paste}
 use Rattle.octets.specs.Laws.{be-same}
 use Rattle.octets.specs.Octets.{be}
 use Rattle.octets.specs.Patch.{patch}
@@ -83,12 +81,6 @@ module _ {A : Type 0} (recordOf : List ℕ → A) (size : ℕ) where
       let e : suc m - suc n ≡ m - n = omega arith in
       rw (drop-read n m (drop size t) (omega arith), drop-drop (n * size) size t, after n, e)
 
-  pub read-get : (n i : ℕ) (t : List ℕ) (d : A) → i < n → getD (readRows recordOf size n t) i d ≡ recordOf (take size (drop (i * size) t))
-  unfolding readRows
-  read-get zero i t d h = absurd (omega arith)
-  read-get (suc n) zero t d h = rw (zero-mul size)
-  read-get (suc n) (suc i) t d h = read-get n i (drop size t) d (omega arith) ∙ rw (drop-drop (i * size) size t, after i)
-
 pub guid-part : (at : ℕ) (s : List ℕ) → guidOf (take 16 (drop at s)) ≡ guidAt s at
 guid-part at s = rw (be-part 8 16 at s 0 (omega arith), be-part 8 16 at s 8 (omega arith), add-zero at)
 
@@ -118,7 +110,3 @@ lent-part o size t = let e : o + size - o ≡ size = omega arith in rw e
 
 pub put-back : (o size : ℕ) (t r : List ℕ) → putMid o (o + size - o) t r ≡ patch t o size r
 put-back o size t r = let e : o + size - o ≡ size = omega arith in rw (e, drop-drop size o t)
-
-pub put-size : (o size : ℕ) (t r : List ℕ) → o + size ≤ length t → length (patch t o size r) ≡ length t → length r ≡ size
-put-size o size t r h e =
-    omega (arith, length-append (take o t) (r ++ drop (o + size) t), length-append r (drop (o + size) t), length-take-le o t (omega arith), length-drop (o + size) t)

@@ -1,25 +1,24 @@
 -- A table as the layout of its instances.
---     wide-read, wides-read, fits-read        what is read from bytes takes a place, and fits
---     Formed, table-formed, lone-formed       a well-formed table as plain facts, also where it is lent alone
---     table-laid                              it is the layout of what is read from it
---     length-laid, laid-room                  its length; a place is within it
---     laid-read, laid-back                    an instance, and all of them, read back
---     laid-set, laid-insert, laid-take        an instance replaced, one put in, the last ones cleared
---     truncated, replaced, inserted           the same, from what the calls leave
---     patch-width                             what was written over a part without a change of length is as long as it
+--     wide-read, wides-read, fits-read      what is read from bytes takes a place, and fits
+--     Formed, table-formed, lone-formed     a well-formed table as plain facts, also where it is lent alone
+--     table-laid                            it is the layout of what is read from it
+--     length-laid                           its length; a place is within it
+--     laid-set, laid-insert, laid-take      an instance replaced, one put in, the last ones cleared
+--     truncated, replaced, inserted         the same, from what the calls leave
+--     patch-width                           what was written over a part without a change of length is as long as it
 -- Assumes nothing.
 use Prim.Native.Nat.{ℕ, zero, suc, _+_, _-_, _*_, _≤_, _<_}
 use mathlib.Core.Bool.{true}
-use mathlib.Core.List.{List, [], _∷_, _++_}
+use mathlib.Core.List.{List, _∷_, _++_}
 use mathlib.Core.Path.{_≡_, sym, ap, _∙_}
 use native.Mathlib.Omega.{arith}
 use native.Mathlib.Nat.{mul-le-mul-right}
 use borrow.Author.Tests.{leb-true, ltb-true}
 use lib.Dec.{ltb}
-use lib.ListN.{length, getD, take, drop, set, replicate, length-append, length-take, length-drop, length-set, take-append-drop}
+use lib.ListN.{length, take, drop, set, replicate, length-append, length-take, length-drop, length-set, take-append-drop}
 use lib.Seq.{length-take-le}
 use Rattle.octets.specs.Bounds.{Bytes}
-use Rattle.octets.specs.Lay.{lay, All, all-append, all-take, all-drop, all-set, length-lay, lay-read, lay-set, lay-clear}
+use Rattle.octets.specs.Lay.{All, all-append, all-take, all-drop, all-set, length-lay, lay-set, lay-clear}
 use Rattle.octets.specs.Patch.{patch, fields, length-fields}
 use Rattle.octets.specs.Zeros.{allZero}
 use Rattle.model.specs.declared.Instance.{Instance}
@@ -32,8 +31,8 @@ use Rattle.model.specs.Tables.{all, rising}
 use Rattle.model.specs.WellFormed.{instanceOk, kindsOk, instancesOk, instanceTableOk, handleBelow, handlesDistinct}
 use Rattle.model.proofs.Fits.{FitsInstance}
 use Rattle.model.proofs.GuidLaws.{bytes-take, bytes-drop, length-guids}
-use Rattle.model.proofs.InstanceLaws.{length-instance, instance-back, instance-forth, instance-fits}
-use Rattle.model.proofs.RowLaws.{both, length-read, Back, Forth, read-rows, lay-read as laid-again}
+use Rattle.model.proofs.InstanceLaws.{instance-forth, instance-fits}
+use Rattle.model.proofs.RowLaws.{both, length-read, Forth, lay-read as laid-again}
 use Rattle.tables.specs.Gaps.{opened}
 use Rattle.tables.specs.GapLaws.{opened-lay}
 use Rattle.instance_table.specs.Laid.{Wide, Laid}
@@ -137,23 +136,6 @@ module _ {places : ℕ} {xs : List Instance} {t : List ℕ} (l : Laid places xs 
   pub length-laid : length t ≡ places * 512
   length-laid =
       ap length (l .laid) ∙ length-lay instanceBytes 512 Wide (λ x w. w) (places * 512) xs (l .wide) (mul-le-mul-right 512 (l .few))
-
-  pub laid-room : (i : ℕ) → i < length xs → i * 512 + 512 ≤ length t
-  laid-room i h = omega (arith, length-laid, l .few)
-
-  pub laid-read : (i : ℕ) (d : Instance) → i < length xs → FitsInstance (getD xs i d) → instanceOf (take 512 (drop (i * 512) t)) ≡ getD xs i d
-  laid-read i d h f =
-      ap (λ (z : List ℕ). instanceOf (take 512 (drop (i * 512) z))) (l .laid)
-      ∙ ap instanceOf (lay-read instanceBytes 512 Wide (λ x w. w) (places * 512) xs i d h (l .wide)) ∙ instance-back (getD xs i d) f
-
-  pub laid-back : All FitsInstance xs → instancesIn (length xs) t ≡ xs
-  unfolding lay
-  laid-back f =
-      ap (instancesIn (length xs)) (l .laid) ∙ read-rows instanceBytes instanceOf 512 xs (replicate (places * 512 - length xs * 512) 0) (backs xs f)
-    where
-      backs : (ys : List Instance) → All FitsInstance ys → All (Back instanceBytes instanceOf 512) ys
-      backs [] g = tt
-      backs (y ∷ ys) g = (record { width = length-instance y (g .0); back = instance-back y (g .0) }, backs ys (g .1))
 
   pub laid-set : (i : ℕ) (y : Instance) → i < length xs → Wide y → Laid places (set xs i y) (patch t (i * 512) 512 (instanceBytes y))
   laid-set i y h w =

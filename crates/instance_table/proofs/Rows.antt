@@ -1,9 +1,9 @@
 -- Records of a buffer by their places.
---     be-drop, be-in                    a number read in a part
---     read-append, read-next            the first records, and those behind them; one record more
---     read-left                         what is left from a place on, its first record apart
---     get-read                          a record by its place
---     handle-read, key-read             its handle and its key
+--     be-drop, be-in            a number read in a part
+--     read-append               the first records, and those behind them; one record more
+--     read-left                 what is left from a place on, its first record apart
+--     get-read                  a record by its place
+--     handle-read, key-read     its handle and its key
 -- Assumes nothing.
 use Prim.Native.Nat.{ℕ, zero, suc, _+_, _-_, _*_, _≤_, _<_}
 use mathlib.Core.List.{List, [], _∷_, _++_}
@@ -44,10 +44,6 @@ module _ {A : Type 0} (recordOf : List ℕ → A) (size : ℕ) where
   read-append zero n t = rw (zero-add n, zero-mul size)
   read-append (suc m) n t =
       rw (suc-add m n, read-append m n (drop size t), drop-drop (m * size) size t, suc-mul m size, add-comm (m * size) size)
-
-  pub read-next : (i : ℕ) (t : List ℕ) → readRows recordOf size (i + 1) t ≡ readRows recordOf size i t ++ recordOf (take size (drop (i * size) t)) ∷ []
-  unfolding readRows
-  read-next i t = read-append i 1 t
 
   pub read-left : (n i : ℕ) (t : List ℕ) → i < n →
       readRows recordOf size (n - i) (drop (i * size) t) ≡ recordOf (take size (drop (i * size) t)) ∷ readRows recordOf size (n - (i + 1)) (drop ((i + 1) * size) t)

@@ -1,5 +1,4 @@
 -- Laws of fields one after the other.
---     length-puts       writes keep the length
 --     getD-puts-out     a byte outside of the layout is as it was
 --     be-puts-out       so is a number
 --     reads-puts        what was written is read back, field by field
@@ -15,11 +14,6 @@ use lib.ListN.{length, getD, take, drop}
 use Rattle.octets.specs.Octets.{be, put}
 use Rattle.octets.specs.Fields.{total, reads, puts, Fit}
 use Rattle.octets.specs.Laws.{length-put, getD-put-out, be-same, be-part, be-put}
-
-pub length-puts : (ks vs s : List ℕ) (at o : ℕ) → length (puts ks vs s at o) ≡ length s
-length-puts [] vs s at o = refl
-length-puts (k ∷ ks) [] s at o = refl
-length-puts (k ∷ ks) (v ∷ vs) s at o = length-puts ks vs (put k s (at + o) v) at (o + k) ∙ length-put k s (at + o) v
 
 pub getD-puts-out : (ks vs s : List ℕ) (at o i : ℕ) → (i < at + o) ⊎ (at + o + total ks ≤ i) → getD (puts ks vs s at o) i 0 ≡ getD s i 0
 getD-puts-out [] vs s at o i h = refl

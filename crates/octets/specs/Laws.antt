@@ -1,13 +1,12 @@
 -- Laws of `be` and `put`, each over the width.
---     be-step, put-step     one byte more
---     be-halves, be-pairs   8 bytes are twice 4, and 4 twice 2
---     be-room, room-8       it fits, up to 8 bytes in 64 bits
---     length-put            a write keeps the length
---     getD-put-out          a byte outside of what was written is as it was
---     be-agree, be-same     a number is read from its own bytes alone
---     be-part               so it is the same in a part of the list
---     be-put-out            a number apart from what was written is as it was
---     be-put                what was written is read back
+--     be-step, put-step       one byte more
+--     be-halves, be-pairs     8 bytes are twice 4, and 4 twice 2
+--     be-room, room-8         it fits, up to 8 bytes in 64 bits
+--     length-put              a write keeps the length
+--     getD-put-out            a byte outside of what was written is as it was
+--     be-agree, be-same       a number is read from its own bytes alone
+--     be-part                 so it is the same in a part of the list
+--     be-put                  what was written is read back
 -- Assumes nothing.
 use mathlib.Core.Path.{_≡_, refl, sym, ap, _∙_}
 use mathlib.Core.Logic.{_⊎_, inl, inr, ⊎-elim}
@@ -77,11 +76,6 @@ pub be-part : (k n : ℕ) (t : List ℕ) (o i : ℕ) → i + k ≤ n → be k (t
 be-part k n t o i h =
     be-agree k (take n (drop o t)) t i (o + i)
     (λ j l. getD-take n (drop o t) (i + j) 0 (omega arith) ∙ getD-drop o t (i + j) 0 ∙ ap (λ (x : ℕ). getD t x 0) (sym (add-assoc o i j)))
-
-pub be-put-out : (j : ℕ) (s : List ℕ) (i k at v : ℕ) → (i + j ≤ at) ⊎ (at + k ≤ i) → be j (put k s at v) i ≡ be j s i
-be-put-out j s i k at v h =
-    be-same j (put k s at v) s i
-    (λ n a b. getD-put-out k s at v n (⊎-elim (λ l. inl (omega arith)) (λ r. inr (omega arith)) h))
 
 pub be-put : (k : ℕ) (s : List ℕ) (at v : ℕ) → at + k ≤ length s → v < 256 ^ k → be k (put k s at v) at ≡ v
 unfolding be put

@@ -4,8 +4,8 @@
 --     StandsAt                             a key stands at a place: all before it are less
 --     InsertsAt                            a key would go in at a place: all before it are less, all from there on greater
 --     lower-found, lower-missing           what is found, from the lower bound
---     found-at, at-found                   At i says that it stands at i, and is said where key i is it
---     found-missing, missing-found         Missing i says that it would go in at i, and is said where it would
+--     found-at                             At i says that it stands at i, and is said where key i is it
+--     found-missing                        Missing i says that it would go in at i, and is said where it would
 -- Assumes nothing.
 use mathlib.Core.Path.{_≡_, refl, sym, ap}
 use mathlib.Core.Logic.{⊎-elim}
@@ -130,12 +130,3 @@ lower-found ks k p q l e = rw (q, lt-ltb p (length ks) l, eq-eqb (getD ks p 0) k
 
 pub lower-missing : (ks : List ℕ) (k p : ℕ) → lowerBound ks k ≡ p → (p < length ks → getD ks p 0 ≡ k → ⊥) → foundIn ks k ≡ Missing p
 lower-missing ks k p q n = found-step (λ (r : Found). r ≡ Missing p) ks k (λ l e. absurd (n (rw q at l) (rw q at e))) (λ m. ap Missing q)
-
-pub at-found : (ks : List ℕ) (k i : ℕ) → rising ks ≡ true → i < length ks → getD ks i 0 ≡ k → foundIn ks k ≡ At i
-at-found ks k i h l e =
-    lower-found ks k i (lower-unique ks k i (omega arith) (λ j m. rw (← e) (rising-pairs ks h j i m l)) (λ m. omega arith)) l e
-
-pub missing-found : (ks : List ℕ) (k i : ℕ) → InsertsAt ks k i → foundIn ks k ≡ Missing i
-missing-found ks k i p =
-    lower-missing ks k i (lower-unique ks k i (p .within) (p .before) (λ l. omega (arith, p .behind i (omega arith) l)))
-    (λ l e. omega (arith, p .behind i (omega arith) l))

@@ -1,9 +1,9 @@
 -- Laws of a table's keys.
---     length-keys, getD-keys         one for each record, read at its place
---     rising-snoc                    one key more
---     rising-left                    a first part of what rises rises
---     rising-pairs, pairs-rising     the test, and what it says of any two keys
---     both                           both of two tests hold
+--     length-keys, getD-keys     one for each record, read at its place
+--     rising-snoc                one key more
+--     rising-left                a first part of what rises rises
+--     rising-pairs               the test, and what it says of any two keys
+--     both                       both of two tests hold
 -- Assumes nothing.
 use mathlib.Core.Path.{_≡_, refl, sym, _∙_}
 use mathlib.Core.Logic.{⊎-elim}
@@ -15,7 +15,7 @@ use native.Mathlib.Omega.{arith}
 use lib.Dec.{ltb}
 use lib.ListN.{length, getD, length-append, List·getD-append}
 use lib.Seq.{getD-at}
-use borrow.Author.Tests.{ltb-true, lt-ltb}
+use borrow.Author.Tests.{ltb-true}
 use Rattle.model.specs.Guids.{num, guidAt}
 use Rattle.tables.specs.Keys.{keys, leads, rising}
 
@@ -71,9 +71,3 @@ rising-pairs [] h i j l m = absurd (omega arith)
 rising-pairs (k ∷ ks) h i zero l m = absurd (omega arith)
 rising-pairs (k ∷ ks) h zero (suc j) l m = first-least k ks j h (omega arith)
 rising-pairs (k ∷ ks) h (suc i) (suc j) l m = rising-pairs ks (both (leads k ks) (rising ks) h .1) i j (omega arith) (omega arith)
-
-pub pairs-rising : (ks : List ℕ) → ((i : ℕ) → suc i < length ks → getD ks i 0 < getD ks (suc i) 0) → rising ks ≡ true
-unfolding rising leads
-pairs-rising [] h = refl
-pairs-rising (k ∷ []) h = refl
-pairs-rising (k ∷ x ∷ ks) h = rw (lt-ltb k x (h 0 (omega arith))) (pairs-rising (x ∷ ks) (λ i l. h (suc i) (omega arith)))

@@ -1,15 +1,15 @@
 -- What is found, picked and tested in a list, by the places of its records.
---     both, bool-iff, split, clash                   of tests
---     lt-or-le, eq-or-ne                             of numbers
---     all-at, at-all, all-append                     a test of every record
---     nowhere-any                                    where `any` is false p holds of none
---     find-nowhere, any-nowhere, pick-nowhere        where p holds of none
---     find-only, any-only, pick-only, onlier         where it holds of one record alone
---     any-find                                       something is found where p holds of some
---     pick-append, pick-take, pick-more              pick, a record more
---     place-le, place-before, place-at               what `placeOf` is
---     place-unique, find-place, noplace              no other place is so; what is found is there
---     only-insert, only-set, find-set                p holds of a record put in, or replaced, alone
+--     both, bool-iff, split, clash                of tests
+--     lt-or-le, eq-or-ne                          of numbers
+--     all-at, at-all, all-append                  a test of every record
+--     nowhere-any                                 where `any` is false p holds of none
+--     find-nowhere, any-nowhere, pick-nowhere     where p holds of none
+--     find-only, any-only, onlier                 where it holds of one record alone
+--     any-find                                    something is found where p holds of some
+--     pick-append, pick-take, pick-more           pick, a record more
+--     place-le, place-before, place-at            what `placeOf` is
+--     place-unique, find-place, noplace           no other place is so; what is found is there
+--     only-insert, only-set, find-set             p holds of a record put in, or replaced, alone
 -- Assumes nothing.
 use Prim.Native.Nat.{ℕ, zero, suc, _+_, _-_, _≤_, _<_}
 use mathlib.Core.Bool.{Bool, true, false, _&&_, cond, and-assoc}
@@ -105,10 +105,6 @@ module _ {A : Type 0} (p : A → Bool) where
 
     -- ---- of one record alone
 
-    -- of none behind the first, where it is the first
-    behind : (x : A) (xs : List A) → Only p (x ∷ xs) zero d → Nowhere p xs d
-    behind x xs o j l = o .elsewhere (suc j) (omega arith) (λ e. omega arith)
-
     -- and of one of those behind it, where it is not
     pub onlier : (x : A) (xs : List A) (i : ℕ) → Only p (x ∷ xs) (suc i) d → Only p xs i d
     onlier x xs i o =
@@ -123,12 +119,6 @@ module _ {A : Type 0} (p : A → Bool) where
     find-only [] i o = absurd (omega (arith, o .within))
     find-only (x ∷ xs) zero o = rw (o .here)
     find-only (x ∷ xs) (suc i) o = rw (o .elsewhere zero (omega arith) (λ e. omega arith)) (find-only xs i (onlier x xs i o))
-
-    pub pick-only : (xs : List A) (i : ℕ) → Only p xs i d → pick p xs ≡ getD xs i d ∷ []
-    unfolding pick
-    pick-only [] i o = absurd (omega (arith, o .within))
-    pick-only (x ∷ xs) zero o = rw (o .here) (ap (λ (l : List A). x ∷ l) (pick-nowhere xs (behind x xs o)))
-    pick-only (x ∷ xs) (suc i) o = rw (o .elsewhere zero (omega arith) (λ e. omega arith)) (pick-only xs i (onlier x xs i o))
 
   pub any-find : (xs : List A) → any p xs ≡ isSome (find p xs)
   unfolding any find

@@ -1,23 +1,18 @@
 -- What a turn keeps of the instances.
---     all-sift, all-put, all-weaken        a test that holds of every record still does
---     distinct-sift, distinct-put          handles stay distinct
---     instances-sift, instances-put        valid instances stay valid: where f leaves keys and handles as they are and keeps
---                                          each valid; where a valid one is put in whose handle none has yet
+--     all-sift, all-put, all-weaken     a test that holds of every record still does
+--     distinct-sift, distinct-put       handles stay distinct
 -- Assumes nothing.
-use Prim.Native.Nat.{ℕ, _≤_, _<_}
-use mathlib.Core.Bool.{Bool, true, not, _&&_}
+use Prim.Native.Nat.{ℕ}
+use mathlib.Core.Bool.{Bool, true, not}
 use mathlib.Core.List.{List, [], _∷_}
 use mathlib.Core.Option.{Option, none, some}
 use mathlib.Core.Path.{_≡_, refl, sym, ap}
-use native.Mathlib.Omega.{arith}
-use borrow.Author.Tests.{le-leb, lt-ltb, leb-true, ltb-true, ne-eqb, eqb-false, not-true}
-use lib.Dec.{eqb, leb, ltb}
+use borrow.Author.Tests.{ne-eqb, eqb-false, not-true}
+use lib.Dec.{eqb, ltb}
 use Rattle.model.specs.declared.Instance.{Instance}
-use Rattle.model.specs.State.{instanceKey}
-use Rattle.model.specs.Tables.{all, put, rising, sift, kept}
-use Rattle.model.specs.WellFormed.{instanceOk, otherHandle, handleBelow, handlesDistinct, instancesOk}
+use Rattle.model.specs.Tables.{all, put, sift, kept}
+use Rattle.model.specs.WellFormed.{otherHandle, handlesDistinct}
 use Rattle.turns.proofs.Finds.{both, split}
-use Rattle.turns.proofs.Keys.{KeepsKeys, rising-put, rising-sift}
 
 -- ---- a test of every record
 
@@ -76,49 +71,3 @@ distinct-put key y (x ∷ xs) o h =
     split (ltb (key x) (key y))
     (λ e. rw (e, all-put (otherHandle (x .handle .0)) key y xs (other-sym x y (a .0)) (b .0)) (distinct-put key y xs (a .1) (b .1)))
     (λ e. rw e (split (eqb (key x) (key y)) (λ q. rw (q, a .1) (b .1)) (λ q. rw (q, a .0, a .1, b .0) (b .1))))
-
--- ---- valid instances
-
--- the four parts of the test
-parts : (next : ℕ) (xs : List Instance) → instancesOk next xs ≡ true →
-    (rising instanceKey xs ≡ true) × (all instanceOk xs ≡ true) × (all (handleBelow next) xs ≡ true) × (handlesDistinct xs ≡ true)
-unfolding instancesOk
-parts next xs h =
-    let a = both (rising instanceKey xs) (all instanceOk xs && (all (handleBelow next) xs && handlesDistinct xs)) h in
-    let b = both (all instanceOk xs) (all (handleBelow next) xs && handlesDistinct xs) (a .1) in
-    let c = both (all (handleBelow next) xs) (handlesDistinct xs) (b .1) in
-    (a .0, b .0, c .0, c .1)
-
-whole : (next : ℕ) (xs : List Instance) → rising instanceKey xs ≡ true → all instanceOk xs ≡ true → all (handleBelow next) xs ≡ true → handlesDistinct xs ≡ true →
-    instancesOk next xs ≡ true
-unfolding instancesOk
-whole next xs r v b d = rw (r, v, b, d)
-
-pub instances-sift : (next : ℕ) (f : Instance → Option Instance) → KeepsKeys instanceKey f → KeepsHandles f →
-    ((x y : Instance) → instanceOk x ≡ true → f x ≡ some y → instanceOk y ≡ true) →
-    (xs : List Instance) → instancesOk next xs ≡ true → instancesOk next (sift f xs) ≡ true
-instances-sift next f k h v xs ok =
-    let p = parts next xs ok in
-    whole next (sift f xs) (rising-sift instanceKey f k xs (p .0)) (all-sift instanceOk f v xs (p .1))
-    (all-sift (handleBelow next) f (λ x y b e. rw (h x y e) b) xs (p .2)) (distinct-sift f h xs (p .3))
-
--- y's handle is from the counter, which goes on
-pub instances-put : (next after : ℕ) (y : Instance) → next ≤ y .handle .0 → 1 ≤ y .handle .0 → y .handle .0 < after → instanceOk y ≡ true →
-    (xs : List Instance) → instancesOk next xs ≡ true → instancesOk after (put instanceKey y xs) ≡ true
-instances-put next after y l n u v xs ok =
-    let p = parts next xs ok in
-    whole after (put instanceKey y xs) (rising-put instanceKey y xs (p .0)) (all-put instanceOk instanceKey y xs v (p .1))
-    (all-put (handleBelow after) instanceKey y xs (rw (le-leb 1 (y .handle .0) n, lt-ltb (y .handle .0) after u))
-    (all-weaken (handleBelow next) (handleBelow after) further xs (p .2)))
-    (distinct-put instanceKey y xs (all-weaken (handleBelow next) (otherHandle (y .handle .0)) fresh xs (p .2)) (p .3))
-  where
-    bounds : (x : Instance) → handleBelow next x ≡ true → (1 ≤ x .handle .0) × (x .handle .0 < next)
-    bounds x b =
-        let q = both (leb 1 (x .handle .0)) (ltb (x .handle .0) next) b in
-        (leb-true 1 (x .handle .0) (q .0), ltb-true (x .handle .0) next (q .1))
-
-    further : (x : Instance) → handleBelow next x ≡ true → handleBelow after x ≡ true
-    further x b = rw (le-leb 1 (x .handle .0) (bounds x b .0), lt-ltb (x .handle .0) after (omega (arith, bounds x b .1)))
-
-    fresh : (x : Instance) → handleBelow next x ≡ true → otherHandle (y .handle .0) x ≡ true
-    fresh x b = ap not (ne-eqb (x .handle .0) (y .handle .0) (λ e. omega (arith, bounds x b .1)))

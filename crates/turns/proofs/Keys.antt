@@ -1,16 +1,16 @@
 -- Keys that rise, and a record put in by its key.
---     rising-keys                          model's test of the records is the tables' test of their keys
---     get-key                              a key by its place
---     rising-lt                            of two records the first has the lesser key
---     only-key, nowhere-key                at most one record has a key; none where it would go in
---     put-set, put-insert                  put is a `set` at its key's place, or an insert where it would go in
---     found-key, found-only, found-put                        the same, from what was found
+--     rising-keys                     model's test of the records is the tables' test of their keys
+--     get-key                         a key by its place
+--     rising-lt                       of two records the first has the lesser key
+--     only-key, nowhere-key           at most one record has a key; none where it would go in
+--     put-set, put-insert             put is a `set` at its key's place, or an insert where it would go in
+--     found-key, found-only           the same, from what was found
 --     missing-inserts, missing-le, missing-nowhere, missing-put
---     missing-only, missing-sift           a record put in and then changed
---     rising-put, rising-sift              the keys go on rising
---     all-put                              what holds of all still does
---     distinct-ne, pairs-distinct          handles that are distinct, by places
---     only-handle                          of instances with distinct handles at most one has a handle
+--     missing-only, missing-sift      a record put in and then changed
+--     rising-put, rising-sift         the keys go on rising
+--     all-put                         what holds of all still does
+--     distinct-ne, pairs-distinct     handles that are distinct, by places
+--     only-handle                     of instances with distinct handles at most one has a handle
 -- Assumes nothing.
 use Prim.Native.Nat.{ℕ, zero, suc, _≤_, _<_}
 use mathlib.Core.Bool.{true, false, not, _&&_}
@@ -150,9 +150,6 @@ module _ {A : Type 0} (key : A → ℕ) where
 
     pub found-only : foundIn (map key xs) k ≡ At i → Only (keyed key k) xs i d
     found-only f = only-key xs d r i k (found-key f .0) (found-key f .1)
-
-    pub found-put : (y : A) → key y ≡ k → foundIn (map key xs) k ≡ At i → put key y xs ≡ set xs i y
-    found-put y e f = put-set xs d y i r (found-key f .0) (found-key f .1 ∙ sym e)
 
     pub missing-inserts : foundIn (map key xs) k ≡ Missing i → InsertsAt (map key xs) k i
     missing-inserts f = found-missing (map key xs) k i (sym (rising-keys xs) ∙ r) f

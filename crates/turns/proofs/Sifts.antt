@@ -1,26 +1,22 @@
 -- Each record taken through a function of its own.
---     sift-append                          two parts
---     sift-take, length-sift               the survivors, a record more; no more than there were
---     sift-same, sift-nowhere              nothing changes
---     sift-set, sift-only                  one record changes: `set`
---     sift-cut, cut-only                   one record is taken out
---     sift-ext                             the same records from functions that agree on them
---     sift-sift                            two sifts are one
---     sift-all                             what f keeps of each record holds of all
+--     sift-append                 two parts
+--     sift-take, length-sift      the survivors, a record more; no more than there were
+--     sift-same, sift-nowhere     nothing changes
+--     sift-set, sift-only         one record changes: `set`
+--     sift-cut                    one record is taken out
 -- Assumes nothing.
 use Prim.Native.Nat.{ℕ, zero, suc, _+_, _≤_, _<_}
 use mathlib.Core.Bool.{Bool, false}
 use mathlib.Core.List.{List, [], _∷_, _++_}
 use mathlib.Core.Logic.{_≢_}
 use mathlib.Core.Option.{Option, none, some}
-use mathlib.Core.Path.{_≡_, refl, ap, _∙_}
+use mathlib.Core.Path.{_≡_, refl, ap}
 use native.Mathlib.Numerals.{add-one}
 use native.Mathlib.Omega.{arith}
 use lib.ListN.{length, getD, take, drop, set}
 use lib.Seq.{take-suc}
-use Rattle.octets.specs.Lay.{All}
 use Rattle.model.specs.Tables.{sift, kept}
-use Rattle.turns.specs.Places.{onward, then, Only, Nowhere}
+use Rattle.turns.specs.Places.{Only, Nowhere}
 
 module _ {A : Type 0} where
   -- one record in front
@@ -93,36 +89,8 @@ module _ {A : Type 0} where
         pub sift-only : (xs : List A) (i : ℕ) (y : A) → Only p xs i d → f (getD xs i d) ≡ some y → sift f xs ≡ set xs i y
         sift-only xs i y o e = sift-set xs i y (o .within) e (keeps-only xs i o)
 
-        pub cut-only : (xs : List A) (i : ℕ) → Only p xs i d → f (getD xs i d) ≡ none → sift f xs ≡ take i xs ++ drop (suc i) xs
-        cut-only xs i o e = sift-cut xs i (o .within) e (keeps-only xs i o)
-
     -- ---- what f keeps
 
     -- P holds of what f leaves of a record of which Q holds
     abbrev pub Keeps : (A → Type 0) → (A → Type 0) → Type 0
     Keeps Q P = (x y : A) → Q x → f x ≡ some y → P y
-
-    pub sift-all : (Q P : A → Type 0) → Keeps Q P → (xs : List A) → All Q xs → All P (sift f xs)
-    unfolding sift
-    sift-all Q P k [] h = tt
-    sift-all Q P k (x ∷ xs) h = each (sift-all Q P k xs (h .1)) (f x) refl
-      where
-        each : All P (sift f xs) → (o : Option A) → f x ≡ o → All P (kept o (sift f xs))
-        each rest none e = rest
-        each rest (some y) e = (k x y (h .0) e, rest)
-
-  -- ---- two functions
-
-  pub sift-ext : (f g : A → Option A) (d : A) (xs : List A) → ((j : ℕ) → j < length xs → f (getD xs j d) ≡ g (getD xs j d)) → sift f xs ≡ sift g xs
-  unfolding sift
-  sift-ext f g d [] h = refl
-  sift-ext f g d (x ∷ xs) h = rw (h zero (omega arith), sift-ext f g d xs (λ j l. h (suc j) (omega arith)))
-
-  pub sift-sift : (f g : A → Option A) (xs : List A) → sift g (sift f xs) ≡ sift (then f g) xs
-  unfolding sift
-  sift-sift f g [] = refl
-  sift-sift f g (x ∷ xs) = each (f x) ∙ ap (kept (onward g (f x))) (sift-sift f g xs)
-    where
-      each : (o : Option A) → sift g (kept o (sift f xs)) ≡ kept (onward g o) (sift g (sift f xs))
-      each none = refl
-      each (some y) = refl

@@ -1,17 +1,16 @@
 -- A writer set stays one.
---     members-of, sound-of                    the record of a list holds it, and is sound where the list is short enough
---     sound-size                              a sound set's array has 16 places
---     set-sound                               a valid set is sound
---     members-rise, set-ok                    and valid is: short, rising, and nil behind
---     insert-le, remove-le                    lengths
---     rising-insert, rising-remove            the order is kept
+--     members-of, sound-of     the record of a list holds it, and is sound where the list is short enough
+--     sound-size               a sound set's array has 16 places
+--     set-sound                a valid set is sound
+--     members-rise, set-ok     and valid is: short, rising, and nil behind
+--     insert-le, remove-le     lengths
 -- Assumes nothing.
-use Prim.Native.Nat.{ℕ, zero, suc, _+_, _-_, _≤_, _<_}
+use Prim.Native.Nat.{ℕ, zero, suc, _+_, _-_, _≤_}
 use mathlib.Core.Bool.{Bool, true, false, cond, _&&_}
 use mathlib.Core.Path.{_≡_, refl, sym, ap, _∙_}
 use mathlib.Core.List.{List, [], _∷_, _++_}
 use native.Mathlib.Omega.{arith}
-use borrow.Author.Tests.{ltb-true, ltb-false, lt-ltb, eqb-true, eqb-false, leb-true, le-leb}
+use borrow.Author.Tests.{ltb-true, lt-ltb, eqb-true, leb-true, le-leb}
 use lib.Dec.{ltb, leb}
 use lib.ListN.{length, drop, replicate, length-append, length-replicate, length-take, length-drop, take-append-drop}
 use lib.Seq.{take-at, drop-at, length-take-le}
@@ -121,55 +120,3 @@ above-more m n [] h a = refl
 above-more m n (x ∷ xs) h a =
     let p = both (ltb n (num x)) (above num n xs) a in
     also (ltb m (num x)) (above num m xs) (lt-ltb m (num x) (omega (arith, ltb-true n (num x) (p .0)))) (above-more m n xs h (p .1))
-
-above-insert : (n : ℕ) (g : Guid) (s : List Guid) → n < num g → above num n s ≡ true → above num n (insert g s) ≡ true
-unfolding above insert
-above-insert n g [] h a = also (ltb n (num g)) true (lt-ltb n (num g) h) refl
-above-insert n g (x ∷ xs) h a = by (above-insert n g xs h (p .1)) (less x g) (same x g)
-  where
-    p : (ltb n (num x) ≡ true) × (above num n xs ≡ true)
-    p = both (ltb n (num x)) (above num n xs) a
-
-    by : above num n (insert g xs) ≡ true → (b c : Bool) → above num n (cond b (x ∷ insert g xs) (cond c (x ∷ xs) (g ∷ x ∷ xs))) ≡ true
-    by i true c = also (ltb n (num x)) _ (p .0) i
-    by i false true = a
-    by i false false = also (ltb n (num g)) _ (lt-ltb n (num g) h) a
-
-pub rising-insert : (g : Guid) (s : List Guid) → rising num s ≡ true → rising num (insert g s) ≡ true
-unfolding rising above insert
-rising-insert g [] r = refl
-rising-insert g (x ∷ xs) r = by (rising-insert g xs (p .1)) (less x g) (same x g) refl refl
-  where
-    p : (above num (num x) xs ≡ true) × (rising num xs ≡ true)
-    p = both (above num (num x) xs) (rising num xs) r
-
-    by : rising num (insert g xs) ≡ true → (b c : Bool) → less x g ≡ b → same x g ≡ c → rising num (cond b (x ∷ insert g xs) (cond c (x ∷ xs) (g ∷ x ∷ xs))) ≡ true
-    by i true c e d = also _ _ (above-insert (num x) g xs (ltb-true (num x) (num g) e) (p .0)) i
-    by i false true e d = r
-    by i false false e d =
-        let h : num g < num x = omega (arith, ltb-false (num x) (num g) e, eqb-false (num x) (num g) d) in
-        also _ _ (also _ _ (lt-ltb (num g) (num x) h) (above-more (num g) (num x) xs (omega arith) (p .0))) r
-
-above-remove : (n : ℕ) (g : Guid) (s : List Guid) → above num n s ≡ true → above num n (remove g s) ≡ true
-unfolding above remove
-above-remove n g [] a = refl
-above-remove n g (x ∷ xs) a = by (above-remove n g xs (p .1)) (same x g)
-  where
-    p : (ltb n (num x) ≡ true) × (above num n xs ≡ true)
-    p = both (ltb n (num x)) (above num n xs) a
-
-    by : above num n (remove g xs) ≡ true → (b : Bool) → above num n (cond b xs (x ∷ remove g xs)) ≡ true
-    by i true = p .1
-    by i false = also _ _ (p .0) i
-
-pub rising-remove : (g : Guid) (s : List Guid) → rising num s ≡ true → rising num (remove g s) ≡ true
-unfolding rising above remove
-rising-remove g [] r = refl
-rising-remove g (x ∷ xs) r = by (rising-remove g xs (p .1)) (same x g)
-  where
-    p : (above num (num x) xs ≡ true) × (rising num xs ≡ true)
-    p = both (above num (num x) xs) (rising num xs) r
-
-    by : rising num (remove g xs) ≡ true → (b : Bool) → rising num (cond b xs (x ∷ remove g xs)) ≡ true
-    by i true = p .1
-    by i false = also _ _ (above-remove (num x) g xs (p .0)) i
