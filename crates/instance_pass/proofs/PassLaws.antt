@@ -1,5 +1,6 @@
 -- A pass over the instances in place.
 --     step-few, turned                what a step leaves can be written; one record of a pass from its parts
+--     stood, shifted                  a record's bytes at its place, where they stood or from behind
 --     During                          what holds when the first i instances are passed
 --     during-start, during-ahead      before the first; what the next asks
 --     during-turn, during-spared      one instance more, stepped or left alone
@@ -8,17 +9,17 @@
 -- Assumes nothing.
 use Prim.Native.Nat.{ℕ, _+_, _*_, _≤_, _<_}
 use mathlib.Core.Bool.{Bool, true, false, cond}
-use mathlib.Core.List.{List, append-nil}
+use mathlib.Core.List.{List, append-nil, append-assoc}
 use mathlib.Core.Logic.{_⊎_, ⊎-elim}
 use mathlib.Core.Option.{Option, none, some}
 use mathlib.Core.Path.{_≡_, refl, sym, ap, _∙_}
 use native.Mathlib.Nat.{mul-le-mul-right}
 use native.Mathlib.Omega.{arith}
-use lib.ListN.{length, getD, take, drop}
-use lib.Seq.{take-all}
-use Rattle.octets.specs.Lay.{All, all-get}
+use lib.ListN.{length, getD, take, drop, take-append-drop}
+use lib.Seq.{take-all, drop-drop, paste}
+use Rattle.octets.specs.Lay.{All, all-get, lay-read}
 use Rattle.octets.specs.Octets.{put}
-use Rattle.octets.specs.Patch.{drop-patch}
+use Rattle.octets.specs.Patch.{patch, drop-patch}
 use Rattle.model.specs.declared.Guid.{Guid}
 use Rattle.model.specs.declared.Instance.{Instance}
 use Rattle.model.specs.declared.InstanceState.{InstanceState}
@@ -31,8 +32,8 @@ use Rattle.model.specs.Tables.{isSome, pick, sift}
 use Rattle.model.proofs.RowLaws.{length-read}
 use Rattle.turns.specs.Places.{survivors, midway}
 use Rattle.turns.proofs.Finds.{pick-take, pick-more}
-use Rattle.turns.proofs.Passes.{survivors-keep, survivors-drop, midway-start, midway-end, length-midway, midway-keep, midway-drop, midway-same}
-use Rattle.instance_table.specs.Laid.{Laid}
+use Rattle.turns.proofs.Passes.{survivors-keep, survivors-drop, midway-start, midway-end, length-midway, midway-keep, midway-drop, midway-get}
+use Rattle.instance_table.specs.Laid.{Wide, Laid}
 use Rattle.instance_table.proofs.LaidOut.{patch-width, replaced}
 use Rattle.instance_table.proofs.Rows.{get-read}
 use Rattle.instance_record.specs.Parts.{recordAt}
@@ -70,6 +71,22 @@ turned p s gone x y r t out t′ out′ c c′ e h a b d =
       listed = ap (λ (n : ℕ). c .listed + n) (ap bit (h .lists));
       counted = ap (λ (n : ℕ). c .counted + n) (h .counts);
     }
+
+-- ---- the bytes of a record
+
+patch-same : (t : List ℕ) (at n : ℕ) → t ≡ patch t at n (take n (drop at t))
+patch-same t at n =
+    sym (rw (← drop-drop n at t, take-append-drop n (drop at t)) (take-append-drop at t))
+
+pub stood : (t t′ : List ℕ) (k i : ℕ) → k ≡ i → t′ ≡ t → t′ ≡ patch t (k * 512) 512 (recordAt t i)
+stood t t′ k i e h = h ∙ rw e (patch-same t (i * 512) 512)
+
+pub shifted : (t t′ : List ℕ) (k i : ℕ) → t′ ≡ paste t (k * 512) (drop (i * 512) t) 512 → t′ ≡ patch t (k * 512) 512 (recordAt t i)
+shifted t t′ k i h = h ∙ append-assoc (take (k * 512) t) (recordAt t i) (drop (k * 512 + 512) t)
+
+bytes-of : (places : ℕ) (ys : List Instance) (t : List ℕ) → Laid places ys t → (i : ℕ) (d : Instance) → i < length ys → recordAt t i ≡ instanceBytes (getD ys i d)
+bytes-of places ys t l i d h =
+    ap (λ (z : List ℕ). recordAt z i) (l .laid) ∙ lay-read instanceBytes 512 Wide (λ x w. w) (places * 512) ys i d h (l .wide)
 
 -- ---- the pass
 
@@ -235,17 +252,26 @@ module _ (p : Passing) (s : Sheet) (gone : List Guid) (count : ℕ) (t₀ out₀
               told x e t′ out′ c′ n m (behind x e (f x) refl t′ (w .table) n)
               record { noted = w .list; kept = w .kept; listed = w .listed; counted = w .counted }
 
-      -- x stays where it is
-      unmoved : (x : Instance) → x ≡ getD xs i x → c .kept ≡ i → f x ≡ some x → (t′ : List ℕ) → t′ ≡ t → Behind (f x) t′
-      unmoved x e k g t′ v =
+      -- x goes to its place with its bytes
+      unmoved : (x : Instance) → x ≡ getD xs i x → f x ≡ some x → (t′ : List ℕ) → t′ ≡ patch t (c .kept * 512) 512 (recordAt t i) → length t′ ≡ length t →
+          Behind (f x) t′
+      unmoved x e g t′ v n =
           let u : f (getD xs i x) ≡ some x = sym (ap f e) ∙ g in
-          let z : f (getD xs i x) ≡ some (getD xs i x) = u ∙ ap some e in
+          let w : length (recordAt t i) ≡ 512 = patch-width t (c .kept * 512) 512 (recordAt t i) fits (sym (ap length v) ∙ n) in
+          let z : drop (c .kept * 512 + 512) t′ ≡ drop (c .kept * 512 + 512) t =
+          ap (drop (c .kept * 512 + 512)) v ∙ drop-patch t (c .kept * 512) 512 (recordAt t i) (omega (arith, fits)) w in
           rw g
           record {
             kept = omega (arith, d .kept, survivors-keep f xs i x inside x u);
             few = omega (arith, d .fewKept);
-            ahead = rw v onward;
-            laid = λ places l. rw (v, midway-same f xs i x inside (sym (d .kept) ∙ k) z) (d .laid places l);
+            ahead = drop-same (c .kept * 512 + 512) ((i + 1) * 512) t′ t (omega (arith, d .fewKept)) z ∙ onward;
+            laid = λ places l.
+                let m : i < length (midway f xs i) = omega (arith, length-midway f xs i (omega (arith, size)), size) in
+                let b : recordAt t i ≡ instanceBytes x =
+                bytes-of places (midway f xs i) t (d .laid places l) i x m ∙ ap instanceBytes (midway-get f xs i x (omega (arith, size)) ∙ sym e) in
+                rw (← midway-keep f xs i x inside x u, ← d .kept)
+                (replaced t t′ (c .kept) x (v ∙ ap (λ (r : List ℕ). patch t (c .kept * 512) 512 r) b) n fits places (midway f xs i) (d .laid places l)
+                (omega (arith, d .fewKept, length-midway f xs i (omega (arith, size)), size)));
           }
 
       during-spared : (t′ out′ : List ℕ) (c′ : Tally) → length t′ ≡ length t → length out′ ≡ length out →
@@ -255,7 +281,7 @@ module _ (p : Passing) (s : Sheet) (gone : List Guid) (count : ℕ) (t₀ out₀
           go : (x : Instance) → x ≡ getD xs i x → Spared p s gone x i t out c t′ out′ c′ → During (i + 1) t′ out′ c′
           go x e w =
               let g : f x ≡ some x = ap (λ (o : Option InstanceState). kept x o) (w .untouched .left) in
-              told x e t′ out′ c′ n m (unmoved x e (w .all) g t′ (w .table))
+              told x e t′ out′ c′ n m (unmoved x e g t′ (w .table) n)
               record {
                 noted = rw (w .untouched .unlisted) (w .list);
                 kept = rw (g, w .tally);

@@ -21,6 +21,7 @@ use Rattle.model.specs.Call.{listIn}
 use Rattle.model.specs.InstanceCalls.{kept, handleBytes}
 use Rattle.model.specs.InstanceRecord.{bit, instanceBytes, instanceSize}
 use Rattle.model.specs.Tables.{isSome, pick, sift}
+use Rattle.instance_record.specs.Parts.{recordAt}
 use Rattle.instance_fields.specs.Usable.{Usable}
 use Rattle.instance_table.specs.Laid.{Laid}
 use Rattle.instance_pass.specs.declared.Passing.{Passing}
@@ -82,11 +83,10 @@ pub record Turned (p : Passing) (s : Sheet) (gone : List Guid) (x : Instance) (t
   pub listed : c′ .listed ≡ c .listed + bit (listing p s gone x)
   pub counted : c′ .counted ≡ c .counted + amount p s gone x
 
--- the instance x stands at place i, where it goes, and the pass leaves it as it is
+-- the pass leaves the instance x of record i as it is: its bytes go to its place
 pub record Spared (p : Passing) (s : Sheet) (gone : List Guid) (x : Instance) (i : ℕ) (t out : List ℕ) (c : Tally) (t′ out′ : List ℕ) (c′ : Tally) : Type 0 where
   pub untouched : Untouched p s gone (x .state)
-  pub all : c .kept ≡ i
-  pub table : t′ ≡ t
+  pub table : t′ ≡ patch t (c .kept * instanceSize) instanceSize (recordAt t i)
   pub list : out′ ≡ out
   pub tally : c′ ≡ record { kept = c .kept + 1; listed = c .listed; counted = c .counted }
 

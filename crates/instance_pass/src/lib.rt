@@ -26,6 +26,7 @@ ghost use Prim.Native.Nat.{_+_, _*_, _≤_, _<_};
 ghost use lib.ListN.{length};
 ghost use Rattle.octets.specs.Lay.{All};
 ghost use Rattle.octets.specs.Octets.{put};
+ghost use Rattle.octets.specs.Patch.{patch};
 ghost use Rattle.model.specs.InstanceCalls.{kept, instanceCall};
 ghost use Rattle.model.specs.InstanceRecord.{bit, instanceOf};
 ghost use Rattle.model.specs.Instances.{rule, effect, leftBy};
@@ -358,8 +359,17 @@ fn pass_at(
     tallied(tally, r)
 }
 
-// Record i takes its turn. Where all before it are kept, it stands in its place already, and one that the pass leaves as it
-// is need not be written.
+// Record i, which stays as it is, goes to place k, where it may stand already.
+fn close_up(pens: &mut [u8], k: usize, i: usize)
+    requires { ⌜ (k ≤ i) × (i * 512 + 512 ≤ length (now pens)) ⌝ }
+    ensures { λ _. ⌜ now (pens .exit) ≡ patch (now (pens .entry)) (k * 512) 512 (recordAt (now (pens .entry)) i) ⌝ }
+{
+    if k != i {
+        octets::move_down(pens, k * 512, i * 512, 512);
+    }
+}
+
+// Record i takes its turn: one that the pass leaves as it is goes to its place as it stands.
 fn turn(
     pens: &mut [u8],
     out: &mut [u8],
@@ -374,14 +384,13 @@ fn turn(
     ensures { λ r. ⌜ Turned p s (gonesIn (now (gone .entry))) (instanceOf (recordAt (now (pens .entry)) i)) (now (pens .entry)) (now (out .entry)) tally (now (pens .exit)) (now (out .exit)) r
         ⊎ Spared p s (gonesIn (now (gone .entry))) (instanceOf (recordAt (now (pens .entry)) i)) i (now (pens .entry)) (now (out .entry)) tally (now (pens .exit)) (now (out .exit)) r ⌝ }
 {
-    if tally.kept == i {
-        if instance_watch::is_clear(pens, i, w) {
-            return Tally {
-                kept: tally.kept + 1,
-                listed: tally.listed,
-                counted: tally.counted,
-            };
-        }
+    if instance_watch::is_clear(pens, i, w) {
+        close_up(pens, tally.kept, i);
+        return Tally {
+            kept: tally.kept + 1,
+            listed: tally.listed,
+            counted: tally.counted,
+        };
     }
     pass_at(pens, out, i, tally, p, s, gone)
 }

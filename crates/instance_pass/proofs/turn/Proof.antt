@@ -7,28 +7,32 @@ use Rattle.instance_pass.proofs.turn.Statement.{statement}
 use Rattle.instance_pass.proofs.turn.Tie as tie
 
 is-clear-requires : tie.Need-is-clear-requires
-is-clear-requires c κs = c .before .before .before .before .before .before .pre .0 .room
+is-clear-requires c κs = c .before .before .before .before .pre .0 .room
 
-add-t13 : tie.Need-add-t13
-add-t13 c = search needs
+close-up-requires : tie.Need-close-up-requires
+close-up-requires c κs =
+    let s = c .before .before .before .before .before .before .before in
+    (s .pre .0 .kept, s .pre .0 .room)
+
+add-t15 : tie.Need-add-t15
+add-t15 c = search needs
 
 same-length : tie.Need-same-length
 same-length c = search needs
 
 returns : tie.Need-returns
 returns c =
-    let s = c .before .before .before .before .before .before .before .before .before in
+    let s = c .before .before .before .before .before .before .before .before .before .before .before in
     inr
     record {
-      untouched = s .pre .1 (recordAt (s .args .pens .now) (s .args .i)) (sym (c .before .before .is-clear .ensures) ∙ c .before .if2 .taken);
-      all = c .before .before .before .before .if1 .taken;
-      table = refl;
+      untouched = s .pre .1 (recordAt (s .args .pens .now) (s .args .i)) (sym (c .before .before .before .before .before .before .is-clear .ensures) ∙ c .before .before .before .before .before .if1 .taken);
+      table = c .before .before .before .close-up .ensures;
       list = refl;
       tally = refl;
     }
 
 pass-at-requires : tie.Need-pass-at-requires
-pass-at-requires c κs = c .before .before .before .before .before .before .before .pre .0
+pass-at-requires c κs = c .before .before .before .before .before .before .before .before .pre .0
 
 same-length-2 : tie.Need-same-length-2
 same-length-2 c = search needs
@@ -44,7 +48,8 @@ turn-spec =
     tie.close
     (tie.spec
     is-clear-requires
-    add-t13
+    close-up-requires
+    add-t15
     same-length
     returns
     pass-at-requires
