@@ -2,17 +2,17 @@
 --     watches-call, watches-loss     of a call, and of the loss of writers
 --     watch-call, watch-loss         the same from their parts
 -- Assumes nothing.
-use Prim.Native.Nat.{ℕ, _+_}
-use mathlib.Core.Bool.{Bool, true, false, _&&_, _||_, cond, and-false}
+use Prim.Native.Nat.{ℕ}
+use mathlib.Core.Bool.{Bool, true, false, cond, and-false}
 use mathlib.Core.List.{List, [], _∷_}
 use mathlib.Core.Option.{Option, none, some}
-use mathlib.Core.Path.{_≡_, refl, sym, ap, _∙_}
+use mathlib.Core.Path.{_≡_, refl, ap, _∙_}
 use native.Mathlib.Omega.{arith}
 use borrow.Author.Tests.{not-true}
 use Rattle.octets.specs.Lay.{All}
 use Rattle.model.specs.declared.Guid.{Guid}
 use Rattle.model.specs.declared.InstanceCall.{InstanceCall}
-use Rattle.model.specs.declared.InstanceCall.the-variants.{DropWriter, UpdateOwnerStrength, ClearOwnerForWriter, ClearOwnerForWriterPrefix, Autopurge}
+use Rattle.model.specs.declared.InstanceCall.the-variants.{DropWriter, UpdateOwnerStrength, ClearOwnerForWriterPrefix, Autopurge}
 use Rattle.model.specs.declared.InstanceState.{InstanceState}
 use Rattle.model.specs.declared.InstanceStateKind.{InstanceStateKind}
 use Rattle.model.specs.declared.InstanceStateKind.the-variants.{Alive, NotAliveDisposed, NotAliveNoWriters}
@@ -21,7 +21,7 @@ use Rattle.model.specs.declared.MaybeTime.{MaybeTime}
 use Rattle.model.specs.declared.Sheet.{Sheet}
 use Rattle.model.specs.declared.Times.{Times}
 use Rattle.model.specs.Guids.{same, samePrefix, guidAt, guidsIn}
-use Rattle.model.specs.InstanceRecord.{bit, instanceOf, flagsAt}
+use Rattle.model.specs.InstanceRecord.{bit, instanceOf}
 use Rattle.model.specs.Instances.{isAlive, leftBy, writersIn, writerDropped, owns, ownsPrefix, strengthUpdated, ownerCleared, prefixCleared, purged, purgedAs}
 use Rattle.model.specs.Joined.{leftWithout, leftWithoutAll, leftByOne, clearings}
 use Rattle.model.specs.Sets.{has}
@@ -36,7 +36,7 @@ use Rattle.instance_watch.specs.Watches.{outside, clear}
 use Rattle.instance_pass.specs.declared.Passing.{Passing}
 use Rattle.instance_pass.specs.declared.Passing.the-variants.{Call, Loss}
 use Rattle.instance_pass.specs.declared.Report.{Report}
-use Rattle.instance_pass.specs.Spares.{within, watchAs, Untouched, Watches}
+use Rattle.instance_pass.specs.Spares.{within, watchAs, Watches}
 use Rattle.instance_pass.specs.Steps.{onEvery, Passable, reportOf}
 use Rattle.instance_pass.proofs.SpanLaws.{differs, no-member, all-first}
 use Rattle.instance_pass.proofs.StepLaws.{every-cases}

@@ -3,7 +3,7 @@
 --     midway-start, midway-end                         the list before the pass, and after it
 --     length-midway                                    as long as it was
 --     midway-get                                       record i is as it was
---     midway-keep, midway-drop, midway-same            a turn: what is left is written; nothing is left; nothing changes
+--     midway-keep, midway-drop            a turn: what is left is written; nothing is left; nothing changes
 -- Assumes nothing.
 use Prim.Native.Nat.{ℕ, suc, _+_, _-_, _≤_, _<_}
 use mathlib.Core.List.{List, [], _∷_, _++_, append-nil}
@@ -12,7 +12,7 @@ use mathlib.Core.Path.{_≡_, refl, sym, ap, _∙_}
 use native.Mathlib.Numerals.{add-one}
 use native.Mathlib.Omega.{arith}
 use lib.ListN.{length, getD, take, drop, set, length-append, length-drop}
-use lib.Seq.{take-length, take-append-seam, drop-cons, length-take-le, getD-append-add, getD-drop, set-append-seam, set-getD, append-snoc}
+use lib.Seq.{take-length, take-append-seam, drop-cons, length-take-le, getD-append-add, getD-drop, set-append-seam, append-snoc}
 use Rattle.model.specs.Tables.{sift}
 use Rattle.turns.specs.Places.{survivors, midway}
 use Rattle.turns.proofs.Sifts.{sift-take, length-sift}
@@ -75,7 +75,3 @@ module _ {A : Type 0} (f : A → Option A) (xs : List A) where
           ap (λ (b : List A). set (s ++ b) k y) (drop-cons xs k d l) ∙ set-append-seam s (getD xs k d) (drop (suc k) xs) y in
           let q : length (s ++ y ∷ []) ≡ suc k = length-append s (y ∷ []) ∙ add-one k in
           p ∙ sym (rw (one-more, q) (append-snoc s y (drop (suc k) xs)))
-
-    pub midway-same : survivors f xs i ≡ i → f (getD xs i d) ≡ some (getD xs i d) → midway f xs (i + 1) ≡ midway f xs i
-    midway-same k e =
-        sym (midway-keep (getD xs i d) e) ∙ rw (k, ← midway-get i d (omega arith)) (set-getD (midway f xs i) i d)

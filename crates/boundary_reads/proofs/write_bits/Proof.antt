@@ -2,7 +2,6 @@
 use borrow.Author.Needs.{needs}
 use Rattle.boundary_reads.proofs.write_bits.Statement.{statement}
 use Rattle.boundary_reads.proofs.write_bits.Tie as tie
-use Rattle.octets.proofs.put_u8.Reads as put-u8-reads
 
 put-u8-requires : tie.Need-put-u8-requires
 put-u8-requires c κs = search needs

@@ -5,8 +5,6 @@ use borrow.Author.Needs.{needs}
 use Rattle.boundary.proofs.Read.{bits-back}
 use Rattle.boundary_reads.proofs.write_values.Statement.{statement}
 use Rattle.boundary_reads.proofs.write_values.Tie as tie
-use Rattle.octets.proofs.put_u32.Reads as put-u32-reads
-use Rattle.octets.proofs.put_u64.Reads as put-u64-reads
 
 put-u32-requires : tie.Need-put-u32-requires
 put-u32-requires c κs = search needs

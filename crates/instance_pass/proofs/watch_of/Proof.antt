@@ -1,5 +1,4 @@
 -- A call or the loss of writers. Assumes nothing.
-use mathlib.Core.Path.{refl}
 use Rattle.instance_pass.specs.Steps.{gonesIn}
 use Rattle.instance_pass.proofs.SpareLaws.{watch-call, watch-loss}
 use borrow.Author.Needs.{needs}
