@@ -1,6 +1,7 @@
 -- `numbers::acknowledged` meets its contract: the difference fits, and each part is read back as it was. Assumes nothing.
 use mathlib.Core.Path.{ap₂}
 use native.Mathlib.Omega.{arith}
+use lib.IntN.{_-ℤ_}
 use mir.Facts.{sfits-widen, toZ-ofZ, toZ-pos}
 use mir.Syntax.{w64}
 use borrow.Author.Needs.{needs}

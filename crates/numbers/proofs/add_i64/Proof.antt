@@ -1,5 +1,6 @@
 -- `numbers::add_i64` meets its contract: each part is read back as it was. Assumes nothing.
 use mathlib.Core.Path.{ap₂}
+use lib.IntN.{_+ℤ_}
 use mir.Facts.{sfits-widen, toZ-ofZ}
 use Rattle.numbers.proofs.Signed.{fits-as, back, wide}
 use Rattle.numbers.proofs.add_i64.Statement.{statement}
