@@ -166,14 +166,19 @@ pub fn writer_unregistered(g: Guid, at: MaybeTime, x: InstanceState) -> Instance
 
 // ---- code 7
 
-// The loss of the writer leaves an alive instance writerless.
+// The loss of the writer leaves an alive instance writerless: it is the only one.
 pub fn left_by(g: Guid, x: InstanceState) -> bool
     requires { ⌜ Sound (x .writers) ⌝ }
     ensures { λ r. ⌜ r ≡ leftBy g x ⌝ }
 {
     let w = x.writers;
+    let l = x.life;
+    let k = l.kind;
+    if w.len != 1 {
+        return false;
+    }
     if writer_set::holds(w, g) {
-        return is_writerless(without(g, x));
+        return is_alive(k);
     }
     false
 }
@@ -183,12 +188,9 @@ pub fn writer_dropped(g: Guid, at: MaybeTime, x: InstanceState) -> InstanceState
     requires { ⌜ Sound (x .writers) ⌝ }
     ensures { λ r. ⌜ r ≡ writerDropped g at x ⌝ }
 {
-    let w = x.writers;
+    let y = without(g, x);
     if left_by(g, x) {
-        return sampled_at(at, writerless(at, without(g, x)));
+        return sampled_at(at, writerless(at, y));
     }
-    if writer_set::holds(w, g) {
-        return without(g, x);
-    }
-    x
+    y
 }

@@ -1,6 +1,6 @@
 // The calls on every instance as one pass over the lent table, and the loss of several writers as another: record by record,
 // what is left of an instance is written behind the instances kept, and the handles of those listed go to the front of Out.
-// A record that the call leaves as it is, as few of its bytes tell, is neither read whole nor written.
+// A record that the call leaves as it is, as few of its bytes tell, is not read whole, and moves only behind a purged one.
 // Rests on octets, model, turns, answers, instance_record, instance_writing, instance_watch, instance_fields,
 // instance_lifecycle, instance_ownership, instance_state and instance_table.
 //
