@@ -1,10 +1,9 @@
 -- Small laws that the others share.
---     split                a claim by the two cases of a test
 --     either               a claim on one of two values, by a test
 --     never, missing       contradictions
 --     and-assoc, contrary, eqb-sym      tests
 --     one-more             room for one more
---     all-from, all-weaken      what holds of every record
+--     all-from, all-each, all-weaken      what holds of every record
 -- Assumes nothing.
 use mathlib.Core.Bool.{Bool, true, false, not, _&&_, cond}
 use mathlib.Core.List.{List, [], _∷_}
@@ -17,6 +16,7 @@ use borrow.Author.Tests.{eqb-true, eqb-false, eq-eqb, ne-eqb, leb-false}
 use Rattle.octets.specs.Lay.{All}
 use Rattle.model.specs.InstanceRecord.{bit}
 use Rattle.model.specs.Tables.{all}
+use Rattle.model.proofs.Tests.{both}
 
 pub split {ℓ} : {P : Type ℓ} (b : Bool) → (b ≡ true → P) → (b ≡ false → P) → P
 split true y n = y refl
@@ -59,6 +59,12 @@ module _ {A : Type 0} where
   unfolding all
   all-from P p h [] a = refl
   all-from P p h (x ∷ xs) a = rw (h x (a .0)) (all-from P p h xs (a .1))
+
+  -- and back
+  pub all-each : (p : A → Bool) (xs : List A) → all p xs ≡ true → All (λ x. p x ≡ true) xs
+  unfolding all
+  all-each p [] e = tt
+  all-each p (x ∷ xs) e = let h = both (p x) (all p xs) e in (h .0, all-each p xs (h .1))
 
   pub all-weaken : (P Q : A → Type 0) → ((x : A) → P x → Q x) → (xs : List A) → All P xs → All Q xs
   all-weaken P Q h [] a = tt

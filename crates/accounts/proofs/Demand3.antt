@@ -27,12 +27,11 @@ use Rattle.model.specs.Refusals.{lengthsOk, sheetRefusal}
 use Rattle.model.specs.Sheets.{sheetOf}
 use Rattle.model.specs.State.{Lent, State, headOf, layOut, pensOf, writersOf, lostOf, fresh, freshState, instanceKey, writerKey}
 use Rattle.model.specs.WellFormed.{wellFormed}
-use Rattle.model.proofs.RowLaws.{both}
+use Rattle.model.proofs.Tests.{both, split}
 use Rattle.model.proofs.StateLaws.{read-back, laid-valid, fresh-laid}
 use Rattle.accounts.specs.Accounts.{Accounts, absent, accepted, advance, accountsFrom, accountsOf, Lending, withOut, eventOf, next, final, history, SheetBytes, instancesIn, writersIn, Told, Demand3}
 use Rattle.accounts.specs.Ranges.{bound}
-use Rattle.accounts.proofs.Basics.{split}
-use Rattle.accounts.proofs.Held.{Held, held-turn, held-valid, held-fits, held-fresh}
+use Rattle.accounts.proofs.InStep.{InStep, held-turn, held-valid, held-fits, held-fresh}
 use Rattle.accounts.proofs.SheetLaws.{sheet-fits}
 use Rattle.accounts.proofs.Steps.{advanced}
 use Rattle.accounts.proofs.TurnLaws.{lookup, within-present, present-ext}
@@ -58,19 +57,19 @@ heard sheet a c acc e q = rw (e, q)
 
 pub record Next (places : ℕ) (sheet : List ℕ) (r : Left) (acc : Accounts) : Type 0 where
   pub state : State
-  pub held : Held places state (advance (eventOf sheet (r .answer)) acc)
+  pub held : InStep places state (advance (eventOf sheet (r .answer)) acc)
   pub laid : r .lent ≡ layOut places state (r .lent .out)
 
 refused-next : (places n : ℕ) (sheet : List ℕ) (st : State) (out : List ℕ) (acc : Accounts) → eqb n 0 ≡ false →
-    Held places st acc →
+    InStep places st acc →
     Next places sheet (refuse n (layOut places st out)) acc
 unfolding layOut
 refused-next places n sheet st out acc e m =
-    record { state = st; held = subst (Held places st) (sym (skipped sheet n acc e)) m; laid = refl }
+    record { state = st; held = subst (InStep places st) (sym (skipped sheet n acc e)) m; laid = refl }
 
 settled-next : (places : ℕ) (sheet : List ℕ) (c : Call) (st : State) (out : List ℕ) (acc : Accounts) → Bytes sheet →
     length sheet ≡ 256 →
-    callOfCode (sheetOf sheet .code) ≡ some c → eqb (sheetRefusal c (sheetOf sheet) st) 0 ≡ true → Held places st acc →
+    callOfCode (sheetOf sheet .code) ≡ some c → eqb (sheetRefusal c (sheetOf sheet) st) 0 ≡ true → InStep places st acc →
     Next places sheet (settle places (turn places c (sheetOf sheet) st) (layOut places st out)) acc
 unfolding settle
 settled-next places sheet c st out acc b n q a m =
@@ -92,14 +91,14 @@ settled-next places sheet c st out acc b n q a m =
         record {
           state = t .state;
           held =
-              subst (Held places (t .state)) (sym (heard sheet (t .answer) c acc (eqb-true (t .answer .number) 0 e) q))
+              subst (InStep places (t .state)) (sym (heard sheet (t .answer) c acc (eqb-true (t .answer .number) 0 e) q))
               (held-turn places c (sheetOf sheet) st acc (sheet-fits sheet b n) a e m);
           laid = refl;
         }
 
 judged-next : (places : ℕ) (sheet : List ℕ) (c : Call) (st : State) (out : List ℕ) (acc : Accounts) → Bytes sheet →
     length sheet ≡ 256 →
-    callOfCode (sheetOf sheet .code) ≡ some c → Held places st acc →
+    callOfCode (sheetOf sheet .code) ≡ some c → InStep places st acc →
     Next places sheet (judged places c (sheetOf sheet) (layOut places st out)) acc
 unfolding judged
 judged-next places sheet c st out acc b n q m =
@@ -108,19 +107,19 @@ judged-next places sheet c st out acc b n q m =
     (λ e. rw e (settled-next places sheet c st out acc b n q e m))
     (λ e. rw e (refused-next places (sheetRefusal c (sheetOf sheet) st) sheet st out acc e m)))
 
-pub formed : (places : ℕ) (st : State) (out : List ℕ) (acc : Accounts) → Held places st acc →
+pub formed : (places : ℕ) (st : State) (out : List ℕ) (acc : Accounts) → InStep places st acc →
     wellFormed places (layOut places st out) ≡ true
 formed places st out acc m = laid-valid places st out (held-fits places st acc m) ∙ held-valid places st acc m
 
 coded-next : (places : ℕ) (sheet : List ℕ) (o : Option Call) (st : State) (out : List ℕ) (acc : Accounts) → Bytes sheet →
     length sheet ≡ 256 →
-    callOfCode (sheetOf sheet .code) ≡ o → Held places st acc →
+    callOfCode (sheetOf sheet .code) ≡ o → InStep places st acc →
     Next places sheet (coded places o (sheetOf sheet) (layOut places st out)) acc
 coded-next places sheet none st out acc b n q m = refused-next places 2 sheet st out acc refl m
 coded-next places sheet (some c) st out acc b n q m =
     rw (formed places st out acc m) (judged-next places sheet c st out acc b n q m)
 
-call-next : (places : ℕ) (sheet : List ℕ) (st : State) (out : List ℕ) (acc : Accounts) → Bytes sheet → Held places st acc →
+call-next : (places : ℕ) (sheet : List ℕ) (st : State) (out : List ℕ) (acc : Accounts) → Bytes sheet → InStep places st acc →
     Next places sheet (callIn places sheet (layOut places st out)) acc
 unfolding callIn
 call-next places sheet st out acc b m =
@@ -139,7 +138,7 @@ out-replaced places st out new = refl
 
 pub record After (places : ℕ) (l : Lent) (acc : Accounts) : Type 0 where
   pub state : State
-  pub held : Held places state acc
+  pub held : InStep places state acc
   pub laid : l ≡ layOut places state (l .out)
 
 after-list : (places : ℕ) (is : List Lending) (l : Lent) (acc : Accounts) → All SheetBytes is → After places l acc →
@@ -181,21 +180,21 @@ after-fresh places is out b =
 -- ---- the claim
 
 -- the tables are the accounts not absent
-pub instances-are : (places : ℕ) (st : State) (acc : Accounts) → Held places st acc → st .instances ≡ instancesIn acc
+pub instances-are : (places : ℕ) (st : State) (acc : Accounts) → InStep places st acc → st .instances ≡ instancesIn acc
 unfolding instancesIn
 instances-are places st acc m =
     within-present instanceKey 0 bound (st .instances) (rw (zero-add bound) (m .sim .instances .rising))
     ∙ present-ext instanceKey 0 bound (λ j. lookup instanceKey j (st .instances)) (acc .instances .at)
     (λ j l. m .sim .instances .agree j)
 
-pub writers-are : (places : ℕ) (st : State) (acc : Accounts) → Held places st acc → st .writers ≡ writersIn acc
+pub writers-are : (places : ℕ) (st : State) (acc : Accounts) → InStep places st acc → st .writers ≡ writersIn acc
 unfolding writersIn
 writers-are places st acc m =
     within-present writerKey 0 bound (st .writers) (rw (zero-add bound) (m .sim .writers .rising))
     ∙ present-ext writerKey 0 bound (λ j. lookup writerKey j (st .writers)) (acc .writers .at)
     (λ j l. m .sim .writers .agree j)
 
-told-laid : (places : ℕ) (st : State) (out : List ℕ) (acc : Accounts) → Held places st acc →
+told-laid : (places : ℕ) (st : State) (out : List ℕ) (acc : Accounts) → InStep places st acc →
     Told places (layOut places st out) acc
 unfolding layOut headOf
 told-laid places st out acc m =

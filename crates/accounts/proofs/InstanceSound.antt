@@ -20,30 +20,36 @@ use Rattle.model.specs.declared.Instance.{Instance}
 use Rattle.model.specs.declared.InstanceHandle.{InstanceHandle}
 use Rattle.model.specs.declared.InstanceState.{InstanceState}
 use Rattle.model.specs.declared.MaybeTime.{MaybeTime}
+use Rattle.model.specs.declared.Reach.{Reach}
+use Rattle.model.specs.declared.Reach.the-variants.{ByKey as byKey, StartingByKey as startingByKey, StartingWithin as startingWithin, ByHandle as byHandle, Every as every}
 use Rattle.model.specs.declared.Sheet.{Sheet}
 use Rattle.model.specs.declared.InstanceCall.{InstanceCall}
-use Rattle.model.specs.declared.InstanceCall.the-variants.{Register as register, EnsureRegisteredLimited as ensureRegisteredLimited, Dispose as dispose, Unregister as unregister, UnregisterWriter as unregisterWriter, NoteWriter as noteWriter, DropWriter as dropWriter, ObserveLifecycle as observeLifecycle, ObserveAdmitted as observeAdmitted, NoteAdmitted as noteAdmitted, RecordDelivery as recordDelivery, NoteTaken as noteTaken, MarkViewSeen as markViewSeen, MarkViewNew as markViewNew, DrainSamples as drainSamples, AcceptUnderExclusiveOwnership as acceptUnderExclusiveOwnership, UpdateOwnerStrength as updateOwnerStrength, ClearOwnerForWriter as clearOwnerForWriter, ClearOwnerForWriterPrefix as clearOwnerForWriterPrefix, ReleaseOwnerOf as releaseOwnerOf, Autopurge as autopurge}
+use Rattle.model.specs.declared.InstanceCall.the-variants.{ObserveAdmitted as observeAdmitted, NoteAdmitted as noteAdmitted, AcceptUnderExclusiveOwnership as acceptUnderExclusiveOwnership}
 use Rattle.model.specs.Calls.{instances}
 use Rattle.model.specs.Guids.{num}
 use Rattle.model.specs.Handles.{allocated}
 use Rattle.model.specs.InstanceCalls.{begins, begun, nextAfter, kept, acts, instancesAfter, crowds, reached, instanceTurn}
 use Rattle.model.specs.InstanceRecord.{bit}
-use Rattle.model.specs.Instances.{effect, rule, reaches, started, startedState, writersIn, ownershipTried, admittedObserved, takesOver}
+use Rattle.model.specs.Instances.{effect, rule, reachesBy, reaches, isEvery, started, startedState, admittedObserved}
 use Rattle.model.specs.Joined.{admitted, leftWithoutAll, loses}
 use Rattle.model.specs.Refusals.{nanosecondsOk, timesUsedBy, holderUsedBy}
 use Rattle.model.specs.Sets.{has}
 use Rattle.model.specs.State.{State, instanceKey}
 use Rattle.model.specs.Tables.{all, find, sift, put}
 use Rattle.model.specs.Tables as T
+use Rattle.model.proofs.CallLaws.{added-one}
 use Rattle.model.proofs.Fits.{FitsGuid}
+use Rattle.model.proofs.Keeps.{tried-writers, observed-writers}
+use Rattle.model.proofs.TableLaws.{all-put, length-sift}
 use Rattle.accounts.specs.InstanceAccounts.{isKeyed, onInstance}
 use Rattle.accounts.specs.Ranges.{bound}
-use Rattle.accounts.proofs.Basics.{missing, split, either, never, all-weaken}
+use Rattle.accounts.proofs.Basics.{missing, either, never, all-weaken}
+use Rattle.model.proofs.Tests.{split}
 use Rattle.accounts.proofs.EffectLaws.{Room, SoundAfter, effect-sound, lost-sound, started-sound}
 use Rattle.accounts.proofs.InstanceTurns.{acts-stay, begins-absent, next-is, not-nil, answered, turned-at, turned-rises, eventBy, tried, observed, tried-next, tried-none, tried-silent}
 use Rattle.accounts.proofs.SheetLaws.{SheetFits}
 use Rattle.accounts.proofs.Sound.{SoundTime, SoundState}
-use Rattle.accounts.proofs.TurnLaws.{lookup, Within, keyed, all-put, all-sift, length-put, length-sift}
+use Rattle.accounts.proofs.TurnLaws.{lookup, Within, keyed, all-sift, length-put}
 
 pub record SoundInstance (x : Instance) : Type 0 where
   pub key : FitsGuid (x .key)
@@ -154,29 +160,17 @@ rising-lone k lo hi (x ∷ xs) w = (
   rising-lone k (suc (instanceKey x)) hi xs (w .2),
 )
 
-lone : (c : InstanceCall) (s : Sheet) (xs : List Instance) → rule c .addsWriter ≡ true → Within instanceKey 0 bound xs →
+lone-by : (r : Reach) (s : Sheet) (xs : List Instance) → isEvery r ≡ false → Within instanceKey 0 bound xs → Distinct xs →
+    Lone (reachesBy r s) xs
+lone-by byKey s xs e w d = rising-lone (num (s .key)) 0 bound xs w
+lone-by startingByKey s xs e w d = rising-lone (num (s .key)) 0 bound xs w
+lone-by startingWithin s xs e w d = rising-lone (num (s .key)) 0 bound xs w
+lone-by byHandle s xs e w d = distinct-lone (s .handle .0) xs d
+lone-by every s xs e w d = never e
+
+lone : (c : InstanceCall) (s : Sheet) (xs : List Instance) → rule c .«adds_writer» ≡ true → Within instanceKey 0 bound xs →
     Distinct xs → Lone (reaches c s) xs
-lone register s xs e w d = never (sym e)
-lone ensureRegisteredLimited s xs e w d = never (sym e)
-lone dispose s xs e w d = never (sym e)
-lone unregister s xs e w d = never (sym e)
-lone unregisterWriter s xs e w d = never (sym e)
-lone noteWriter s xs e w d = distinct-lone (s .handle .0) xs d
-lone dropWriter s xs e w d = never (sym e)
-lone observeLifecycle s xs e w d = never (sym e)
-lone observeAdmitted s xs e w d = never (sym e)
-lone noteAdmitted s xs e w d = rising-lone (num (s .key)) 0 bound xs w
-lone recordDelivery s xs e w d = never (sym e)
-lone noteTaken s xs e w d = never (sym e)
-lone markViewSeen s xs e w d = never (sym e)
-lone markViewNew s xs e w d = never (sym e)
-lone drainSamples s xs e w d = never (sym e)
-lone acceptUnderExclusiveOwnership s xs e w d = never (sym e)
-lone updateOwnerStrength s xs e w d = never (sym e)
-lone clearOwnerForWriter s xs e w d = never (sym e)
-lone clearOwnerForWriterPrefix s xs e w d = never (sym e)
-lone releaseOwnerOf s xs e w d = never (sym e)
-lone autopurge s xs e w d = never (sym e)
+lone c s xs e w d = lone-by (rule c .reach) s xs (added-one c e) w d
 
 -- ---- an instance call that acts
 
@@ -185,7 +179,7 @@ pub record Entry (places : ℕ) (c : InstanceCall) (s : Sheet) (st : State) : Ty
   pub fits : SheetFits s
   pub place : begins c s st ≡ true → length (st .instances) < places
   pub handle : begins c s st ≡ true → st .nextHandle < 2 ^ 63
-  pub crowd : rule c .addsWriter ≡ true → crowds s (reached c s (st .instances)) ≡ false
+  pub crowd : rule c .«adds_writer» ≡ true → crowds s (reached c s (st .instances)) ≡ false
   pub times : all nanosecondsOk (timesUsedBy c s) ≡ true
   pub holder : holderUsedBy c s ≡ true → s .holder .len ≤ 144
 
@@ -197,7 +191,7 @@ kept-sound x y (some z) f m e =
 
 -- the call may put its GUID into the set, where it does
 abbrev Roomed : InstanceCall → Sheet → Instance → Type 0
-Roomed c s x = reaches c s x ≡ true → rule c .addsWriter ≡ true → Room (s .guid) (x .state)
+Roomed c s x = reaches c s x ≡ true → rule c .«adds_writer» ≡ true → Room (s .guid) (x .state)
 
 started-room : (g : Guid) → Room g startedState
 unfolding startedState has
@@ -229,7 +223,7 @@ module _ (places : ℕ) (c : InstanceCall) (s : Sheet) (st : State) (en : Entry 
 
   rooms : All (Roomed c s) (st .instances)
   rooms =
-      split (rule c .addsWriter)
+      split (rule c .«adds_writer»)
       (λ a.
       all-weaken (FoundIn (reaches c s) (st .instances)) (Roomed c s)
       (λ x found r b. ap (crowds s) (sym (found r)) ∙ en .crowd a) (st .instances)
@@ -368,15 +362,6 @@ stays-sound places st st′ same next m =
     }
 
 -- ---- admit with outcome 0
-
--- codes 16 and 9 leave the writer set as it is
-tried-writers : (s : Sheet) (x : InstanceState) → writersIn (ownershipTried s x) ≡ writersIn x
-unfolding ownershipTried
-tried-writers s x = either (λ (y : InstanceState). writersIn y ≡ writersIn x) (takesOver s x) _ x (λ e. refl) (λ e. refl)
-
-observed-writers : (s : Sheet) (x : InstanceState) → writersIn (admittedObserved s x) ≡ writersIn x
-unfolding admittedObserved
-observed-writers s x = refl
 
 tried-crowds : (s : Sheet) (j h : ℕ) (o : Option Instance) → h ≡ 0 →
     crowds s (onInstance (instances acceptUnderExclusiveOwnership) (eventBy s h 0) [] j o) ≡ crowds s o

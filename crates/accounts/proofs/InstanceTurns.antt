@@ -17,10 +17,17 @@ use native.Mathlib.Omega.{arith}
 use borrow.Author.Tests.{eqb-true, eq-eqb, ne-eqb, not-true}
 use lib.Dec.{eqb}
 use lib.ListN.{length, length-append}
+use Rattle.model.specs.declared.Answer.{Answer}
 use Rattle.model.specs.declared.Guid.{Guid}
 use Rattle.model.specs.declared.Instance.{Instance}
 use Rattle.model.specs.declared.InstanceState.{InstanceState}
 use Rattle.model.specs.declared.MaybeTime.{MaybeTime}
+use Rattle.model.specs.declared.Reach.{Reach}
+use Rattle.model.specs.declared.Reach.the-variants.{ByKey as byKey, StartingByKey as startingByKey, StartingWithin as startingWithin, ByHandle as byHandle, Every as every}
+use Rattle.model.specs.declared.Report.{Report}
+use Rattle.model.specs.declared.Report.the-variants.{Nothing as Unreported, Left, Owner, Prefix, Purge}
+use Rattle.model.specs.declared.Says.{Says}
+use Rattle.model.specs.declared.Says.the-variants.{Nothing, Handle, Known, Samples, Info, Accepted, Released}
 use Rattle.model.specs.declared.Sheet.{Sheet}
 use Rattle.model.specs.declared.InstanceCall.{InstanceCall}
 use Rattle.model.specs.declared.TrackerCall.{TrackerCall}
@@ -30,46 +37,65 @@ use Rattle.model.specs.declared.JoinedCall.the-variants.{Admit as admit}
 use Rattle.model.specs.Calls.{Call, instances, tracker, joined}
 use Rattle.model.specs.Guids.{num}
 use Rattle.model.specs.Handles.{handle, notNil, allocated}
-use Rattle.model.specs.InstanceCalls.{known, begins, begun, nextAfter, kept, acts, instancesAfter, handleAnswer, samplesAnswer, infoAnswer, told, instanceTurn}
+use Rattle.model.specs.InstanceCalls.{known, begins, begun, nextAfter, kept, acts, instancesAfter, handleAnswer, samplesAnswer, infoAnswer, reached, answerOf, reported, told, instanceTurn}
 use Rattle.model.specs.InstanceRecord.{bit}
-use Rattle.model.specs.Instances.{effect, Reach, byKey, startingByKey, startingWithin, byHandle, every, rule, hasKey, reachesBy, reaches, startsBy, limitedBy, started}
+use Rattle.model.specs.Instances.{effect, rule, hasKey, reachesBy, reaches, startsBy, limitedBy, isEvery, onEvery, started}
 use Rattle.model.specs.Joined.{admitted, leftWithoutAll, loses}
 use Rattle.model.specs.State.{State, instanceKey}
-use Rattle.model.specs.Tables.{isSome, sift}
+use Rattle.model.specs.Tables.{isSome, find, sift}
 use Rattle.model.specs.Times.{ifPresent}
+use Rattle.model.proofs.CallLaws.{told-one, told-every}
+use Rattle.model.proofs.Keeps.{lasting}
 use Rattle.model.proofs.Fits.{FitsGuid}
-use Rattle.model.proofs.RowLaws.{both}
+use Rattle.model.proofs.Tests.{both, split}
 use Rattle.accounts.specs.InstanceAccounts as S
 use Rattle.accounts.specs.InstanceAccounts.{wayOf, reachedBy, isKeyed, Event, onPresent, onAbsent, onInstance, InstanceAccounts, startsAt}
 use Rattle.accounts.specs.Ranges.{bound, upFrom}
-use Rattle.accounts.proofs.Basics.{missing, split, eqb-sym, never}
+use Rattle.accounts.proofs.Basics.{missing, eqb-sym, never}
 use Rattle.accounts.proofs.RangeLaws.{num-below, up-more}
 use Rattle.accounts.proofs.TurnLaws.{bind, lookup, Within, Keeps, lookup-key, any-lookup, begin, begunAt, Below, lookup-begin, within-begin, lookup-sift, within-sift, turn-at}
 
--- ---- how a call reaches
+-- ---- how a call reaches, and whether it answers a handle
+
+abbrev hands : Says → Bool
+hands Nothing = false
+hands Handle = true
+hands Known = false
+hands Samples = true
+hands Info = false
+hands Accepted = false
+hands Released = false
+
+-- section 6's reading of the table of the calls: the way is its reach, and what may start an instance answers a handle
+record Read (c : InstanceCall) : Type 0 where
+  way : (s : Sheet) (x : Instance) → reaches c s x ≡ reachedBy (wayOf c) s (instanceKey x) x
+  handed : hands (rule c .says) ≡ startsBy (rule c .reach)
+
+read : (c : InstanceCall) → Read c
+read register = record { way = λ s x. refl; handed = refl }
+read ensureRegisteredLimited = record { way = λ s x. refl; handed = refl }
+read dispose = record { way = λ s x. refl; handed = refl }
+read unregister = record { way = λ s x. refl; handed = refl }
+read unregisterWriter = record { way = λ s x. refl; handed = refl }
+read noteWriter = record { way = λ s x. refl; handed = refl }
+read dropWriter = record { way = λ s x. refl; handed = refl }
+read observeLifecycle = record { way = λ s x. refl; handed = refl }
+read observeAdmitted = record { way = λ s x. refl; handed = refl }
+read noteAdmitted = record { way = λ s x. refl; handed = refl }
+read recordDelivery = record { way = λ s x. refl; handed = refl }
+read noteTaken = record { way = λ s x. refl; handed = refl }
+read markViewSeen = record { way = λ s x. refl; handed = refl }
+read markViewNew = record { way = λ s x. refl; handed = refl }
+read drainSamples = record { way = λ s x. refl; handed = refl }
+read acceptUnderExclusiveOwnership = record { way = λ s x. refl; handed = refl }
+read updateOwnerStrength = record { way = λ s x. refl; handed = refl }
+read clearOwnerForWriter = record { way = λ s x. refl; handed = refl }
+read clearOwnerForWriterPrefix = record { way = λ s x. refl; handed = refl }
+read releaseOwnerOf = record { way = λ s x. refl; handed = refl }
+read autopurge = record { way = λ s x. refl; handed = refl }
 
 reach-is : (c : InstanceCall) (s : Sheet) (x : Instance) → reaches c s x ≡ reachedBy (wayOf c) s (instanceKey x) x
-reach-is register s x = refl
-reach-is ensureRegisteredLimited s x = refl
-reach-is dispose s x = refl
-reach-is unregister s x = refl
-reach-is unregisterWriter s x = refl
-reach-is noteWriter s x = refl
-reach-is dropWriter s x = refl
-reach-is observeLifecycle s x = refl
-reach-is observeAdmitted s x = refl
-reach-is noteAdmitted s x = refl
-reach-is recordDelivery s x = refl
-reach-is noteTaken s x = refl
-reach-is markViewSeen s x = refl
-reach-is markViewNew s x = refl
-reach-is drainSamples s x = refl
-reach-is acceptUnderExclusiveOwnership s x = refl
-reach-is updateOwnerStrength s x = refl
-reach-is clearOwnerForWriter s x = refl
-reach-is clearOwnerForWriterPrefix s x = refl
-reach-is releaseOwnerOf s x = refl
-reach-is autopurge s x = refl
+reach-is c s x = read c .way s x
 
 -- a call that may start an instance reaches by key
 starting-reach : (r : Reach) (s : Sheet) (x : Instance) → startsBy r ≡ true → reachesBy r s x ≡ hasKey (s .key) x
@@ -78,6 +104,20 @@ starting-reach startingByKey s x e = refl
 starting-reach startingWithin s x e = refl
 starting-reach byHandle s x e = never (sym e)
 starting-reach every s x e = never (sym e)
+
+starting-find : (r : Reach) (s : Sheet) (xs : List Instance) → startsBy r ≡ true → find (reachesBy r s) xs ≡ lookup instanceKey (num (s .key)) xs
+starting-find byKey s xs e = refl
+starting-find startingByKey s xs e = refl
+starting-find startingWithin s xs e = refl
+starting-find byHandle s xs e = never (sym e)
+starting-find every s xs e = never (sym e)
+
+starting-one : (r : Reach) → startsBy r ≡ true → isEvery r ≡ false
+starting-one byKey e = refl
+starting-one startingByKey e = refl
+starting-one startingWithin e = refl
+starting-one byHandle e = refl
+starting-one every e = never (sym e)
 
 limited-starts : (r : Reach) → limitedBy r ≡ true → startsBy r ≡ true
 limited-starts byKey e = never (sym e)
@@ -155,39 +195,67 @@ info-answer : (o : Option Instance) → infoAnswer o .handle .0 ≡ 0
 info-answer none = refl
 info-answer (some x) = refl
 
--- code 9 finds after it acts what it found before, by its handle
-observed-handle : (s : Sheet) (o : Option Instance) → handleIn (bind (acts observeAdmitted s) o) ≡ handleIn o
-observed-handle s none = refl
-observed-handle s (some x) = split (hasKey (s .key) x) (λ e. rw e) (λ e. rw e)
+answer-handle : (y : Says) (s : Sheet) (before after : Option Instance) → (hands y ≡ true → handleIn after ≡ handleIn before) →
+    answerOf y s before after .handle .0 ≡ cond (hands y) (handleIn before) 0
+answer-handle Nothing s before after e = refl
+answer-handle Handle s before after e = handle-answer before
+answer-handle Known s before after e = refl
+answer-handle Samples s before after e = samples-answer after ∙ e refl
+answer-handle Info s before after e = info-answer after
+answer-handle Accepted s before after e = refl
+answer-handle Released s before after e = refl
 
-told-handle : (c : InstanceCall) (s : Sheet) (before : List Instance) → Within instanceKey 0 bound before →
-    told c s before (sift (acts c s) before) .handle .0
-    ≡ cond (startsBy (rule c .reach)) (handleIn (lookup instanceKey (num (s .key)) before)) 0
-told-handle register s before w = handle-answer (lookup instanceKey (num (s .key)) before)
-told-handle ensureRegisteredLimited s before w = handle-answer (lookup instanceKey (num (s .key)) before)
-told-handle dispose s before w = refl
-told-handle unregister s before w = refl
-told-handle unregisterWriter s before w = refl
-told-handle noteWriter s before w = refl
-told-handle dropWriter s before w = refl
-told-handle observeLifecycle s before w = handle-answer (lookup instanceKey (num (s .key)) before)
-told-handle observeAdmitted s before w =
-    samples-answer (lookup instanceKey (num (s .key)) (sift (acts observeAdmitted s) before))
-    ∙ ap handleIn
-    (lookup-sift instanceKey (num (s .key)) 0 bound (acts observeAdmitted s) before (acts-keeps observeAdmitted s) w)
-    ∙ observed-handle s (lookup instanceKey (num (s .key)) before)
-told-handle noteAdmitted s before w = info-answer (lookup instanceKey (num (s .key)) (sift (acts noteAdmitted s) before))
-told-handle recordDelivery s before w = refl
-told-handle noteTaken s before w = refl
-told-handle markViewSeen s before w = refl
-told-handle markViewNew s before w = refl
-told-handle drainSamples s before w = refl
-told-handle acceptUnderExclusiveOwnership s before w = refl
-told-handle updateOwnerStrength s before w = refl
-told-handle clearOwnerForWriter s before w = refl
-told-handle clearOwnerForWriterPrefix s before w = refl
-told-handle releaseOwnerOf s before w = refl
-told-handle autopurge s before w = refl
+report-handle : (k : Report) (s : Sheet) (before : List Instance) → reported k s before .handle .0 ≡ 0
+report-handle Unreported s before = refl
+report-handle Left s before = refl
+report-handle Owner s before = refl
+report-handle Prefix s before = refl
+report-handle Purge s before = refl
+
+kept-handle : (x : Instance) (o : Option InstanceState) → isSome o ≡ true → handleIn (kept x o) ≡ x .handle .0
+kept-handle x none e = never (sym e)
+kept-handle x (some y) e = refl
+
+-- a call on one instance finds after it acts what it found before, by its handle
+acted-handle : (c : InstanceCall) (s : Sheet) → onEvery c ≡ false → (o : Option Instance) → handleIn (bind (acts c s) o) ≡ handleIn o
+acted-handle c s e none = refl
+acted-handle c s e (some x) =
+    split (reaches c s x) (λ r. rw r (kept-handle x (effect c s (x .state)) (lasting c s (x .state) e))) (λ r. rw r)
+
+module _ (c : InstanceCall) (s : Sheet) (before : List Instance) (w : Within instanceKey 0 bound before) where
+  abbrev after : List Instance
+  after = sift (acts c s) before
+
+  -- a call that may start an instance
+  starting-handle : startsBy (rule c .reach) ≡ true → handleIn (reached c s after) ≡ handleIn (reached c s before)
+  starting-handle e =
+      ap handleIn (starting-find (rule c .reach) s after e)
+      ∙ ap handleIn (lookup-sift instanceKey (num (s .key)) 0 bound (acts c s) before (acts-keeps c s) w)
+      ∙ acted-handle c s (starting-one (rule c .reach) e) (lookup instanceKey (num (s .key)) before)
+      ∙ sym (ap handleIn (starting-find (rule c .reach) s before e))
+
+  answer-is : answerOf (rule c .says) s (reached c s before) (reached c s after) .handle .0
+      ≡ cond (startsBy (rule c .reach)) (handleIn (reached c s before)) 0
+  answer-is =
+      answer-handle (rule c .says) s (reached c s before) (reached c s after) (λ e. starting-handle (sym (read c .handed) ∙ e))
+      ∙ ap (λ (b : Bool). cond b (handleIn (reached c s before)) 0) (read c .handed)
+
+  told-handle : told c s before after .handle .0
+      ≡ cond (startsBy (rule c .reach)) (handleIn (lookup instanceKey (num (s .key)) before)) 0
+  told-handle = split (startsBy (rule c .reach)) (λ e. starting e) (λ e. idle e)
+    where
+      starting : startsBy (rule c .reach) ≡ true →
+          told c s before after .handle .0 ≡ cond (startsBy (rule c .reach)) (handleIn (lookup instanceKey (num (s .key)) before)) 0
+      starting e =
+          ap (λ (a : Answer). a .handle .0) (told-one c s before after (starting-one (rule c .reach) e)) ∙ answer-is
+          ∙ ap (λ (o : Option Instance). cond (startsBy (rule c .reach)) (handleIn o) 0) (starting-find (rule c .reach) s before e)
+
+      idle : startsBy (rule c .reach) ≡ false →
+          told c s before after .handle .0 ≡ cond (startsBy (rule c .reach)) (handleIn (lookup instanceKey (num (s .key)) before)) 0
+      idle e =
+          split (onEvery c)
+          (λ d. rw e (ap (λ (a : Answer). a .handle .0) (told-every c s before after d) ∙ report-handle (rule c .reports) s before))
+          (λ d. rw e (ap (λ (a : Answer). a .handle .0) (told-one c s before after d) ∙ (rw e at answer-is)))
 
 -- a call that may start an instance, at its own key or not
 abbrev pub eventBy : Sheet → ℕ → ℕ → Event

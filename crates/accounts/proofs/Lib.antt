@@ -10,6 +10,6 @@ pub mod SheetLaws
 pub mod EffectLaws
 pub mod WriterSound
 pub mod InstanceSound
-pub mod Held
+pub mod InStep
 pub mod Demand3
 pub mod Refusals

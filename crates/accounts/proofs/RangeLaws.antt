@@ -23,7 +23,7 @@ use Rattle.model.specs.Writers.{lastAfter}
 use Rattle.model.proofs.Fits.{FitsGuid}
 use Rattle.accounts.specs.Ranges.{bound, guidNumbered, between, sumOver, greatest, upFrom}
 use Rattle.accounts.specs.WriterAccounts.{lastOr}
-use Rattle.accounts.proofs.Basics.{split}
+use Rattle.model.proofs.Tests.{split}
 
 -- ---- sums
 

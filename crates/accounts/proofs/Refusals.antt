@@ -11,16 +11,18 @@ use mathlib.Core.List.{List, [], _∷_}
 use mathlib.Core.Logic.{_≢_}
 use mathlib.Core.Option.{Option, none, some}
 use mathlib.Core.Path.{_≡_, refl, sym, ap, _∙_, subst}
-use Prim.Native.Nat.{ℕ, _+_, _*_}
+use Prim.Native.Nat.{ℕ, _*_}
 use native.Mathlib.Nat.{mul-le-mul-right}
 use native.Mathlib.Omega.{arith}
 use borrow.Author.Tests.{eqb-true, eqb-false, eq-eqb}
-use lib.Dec.{eqb, leb, ltb}
-use lib.IntN.{_+ℤ_}
+use lib.Dec.{eqb, leb}
 use lib.ListN.{length}
 use mir.Syntax.{w32}
 use mir.Val.{toZ}
-use Rattle.octets.specs.Lay.{All, length-lay}
+use Rattle.octets.specs.Lay.{All}
+use Rattle.octets.proofs.LayLaws.{length-lay}
+use Rattle.model.specs.declared.AcknowledgeUse.{AcknowledgeUse}
+use Rattle.model.specs.declared.AcknowledgeUse.the-variants.{Nothing, Whole, Part}
 use Rattle.model.specs.declared.Guid.{Guid}
 use Rattle.model.specs.declared.Instance.{Instance}
 use Rattle.model.specs.declared.Sheet.{Sheet}
@@ -28,12 +30,11 @@ use Rattle.model.specs.Call.{turn, settle, judged, coded, callIn}
 use Rattle.model.specs.declared.InstanceCall.{InstanceCall}
 use Rattle.model.specs.declared.TrackerCall.{TrackerCall}
 use Rattle.model.specs.declared.JoinedCall.{JoinedCall}
-use Rattle.model.specs.declared.InstanceCall.the-variants.{Register as register, EnsureRegisteredLimited as ensureRegisteredLimited, Dispose as dispose, Unregister as unregister, UnregisterWriter as unregisterWriter, NoteWriter as noteWriter, DropWriter as dropWriter, ObserveLifecycle as observeLifecycle, ObserveAdmitted as observeAdmitted, NoteAdmitted as noteAdmitted, RecordDelivery as recordDelivery, NoteTaken as noteTaken, MarkViewSeen as markViewSeen, MarkViewNew as markViewNew, DrainSamples as drainSamples, AcceptUnderExclusiveOwnership as acceptUnderExclusiveOwnership, UpdateOwnerStrength as updateOwnerStrength, ClearOwnerForWriter as clearOwnerForWriter, ClearOwnerForWriterPrefix as clearOwnerForWriterPrefix, ReleaseOwnerOf as releaseOwnerOf, Autopurge as autopurge}
-use Rattle.model.specs.declared.TrackerCall.the-variants.{Matched as matched, Unmatched as unmatched, LostWithParticipant as lostWithParticipant, WriterAsserted as writerAsserted, ParticipantAsserted as participantAsserted, Expire as expire, TakeLost as takeLost, TakeStatus as takeStatus, Acknowledge as acknowledge}
+use Rattle.model.specs.declared.TrackerCall.the-variants.{Unmatched as unmatched, LostWithParticipant as lostWithParticipant, Expire as expire, Acknowledge as acknowledge}
 use Rattle.model.specs.declared.JoinedCall.the-variants.{Admit as admit, Lapse as lapse, Part as part, Depart as depart}
 use Rattle.model.specs.Calls.{Call, instances, tracker, joined, callOfCode}
 use Rattle.model.specs.Guids.{num, guidBytes}
-use Rattle.model.specs.InstanceCalls.{Turned, known, begins, full, spent, crowds, accepted, atLimit, reached, lateRefusal, instanceTurn, instanceCall, told, handleAnswer, samplesAnswer, infoAnswer}
+use Rattle.model.specs.InstanceCalls.{Turned, known, begins, full, spent, crowds, accepted, atLimit, reached, lateRefusal, instanceTurn, instanceCall}
 use Rattle.model.specs.InstanceRecord.{instanceBytes}
 use Rattle.model.specs.Instances.{rule, limitedBy, hasKey}
 use Rattle.model.specs.Joined.{inOrder, passesFilter, admitted, admitWith, afterLoss, lossCall}
@@ -41,75 +42,32 @@ use Rattle.model.specs.Refusals.{lengthsOk, timesUsed, clocksUsed, holderFits, 
 use Rattle.model.specs.Sheets.{sheetOf}
 use Rattle.model.specs.State.{Lent, State, fresh, instanceKey, layOut}
 use Rattle.model.specs.Tables.{all, isSome, find}
-use Rattle.model.specs.WellFormed.{clockOk, within}
+use Rattle.model.specs.WellFormed.{clockOk}
 use Rattle.model.specs.WriterRecord.{writerBytes}
-use Rattle.model.specs.Writers.{acknowledgeable, hasGuid, movers, trackerTold, trackerLate, trackerTurn, trackerCall}
+use Rattle.model.specs.Writers.{movers, trackerLate, trackerRule, acknowledgeableWith, noPlace, appends, tooMany}
+use Rattle.model.proofs.CallLaws.{told-accepts}
 use Rattle.model.proofs.Fits.{FitsGuid, FitsInstance, FitsWriter}
 use Rattle.model.proofs.GuidLaws.{length-guid}
 use Rattle.model.proofs.InstanceLaws.{length-instance}
 use Rattle.model.proofs.StateLaws.{Fitting, read-back}
+use Rattle.model.proofs.TrackerLaws.{late-number}
 use Rattle.model.proofs.WriterLaws.{length-writer}
 use Rattle.accounts.specs.Accounts.{Accounts, accountsOf, Lending, withOut, next, final, history, SheetBytes}
-use Rattle.accounts.specs.Busy.{Ordered, lateNumber, acknowledges, acknowledgesIn, allowed, busyInstance, busyTracker, busyMatch, busyExpire, busyAdmit, busyJoined, busy}
-use Rattle.accounts.proofs.Basics.{split, either, never}
+use Rattle.accounts.specs.Busy.{Ordered, lateNumber, acknowledges, allowed, busyInstance, busyTracker, busyMatch, busyExpire, busyAdmit, busyJoined, busy, inPart, busyAcknowledge}
+use Rattle.model.proofs.Tests.{split}
+use Rattle.accounts.proofs.Basics.{either, never}
 use Rattle.accounts.proofs.Demand3.{formed, out-replaced, After, after-fresh, instances-are, writers-are}
-use Rattle.accounts.proofs.Held.{Held, held-fits}
+use Rattle.accounts.proofs.InStep.{InStep, held-fits}
 use Rattle.accounts.proofs.SheetLaws.{SheetFits, sheet-fits}
 use Rattle.accounts.proofs.TurnLaws.{any-lookup}
 use Rattle.accounts.proofs.WriterSound.{all-plain}
-use Rattle.accounts.proofs.WriterTurns.{expired-are}
+use Rattle.accounts.proofs.WriterTurns.{only-expire, expired-are}
 
 -- ---- accepted calls answer 0
 
-handle-accepted : (o : Option Instance) → handleAnswer o .number ≡ 0
-handle-accepted none = refl
-handle-accepted (some x) = refl
-
-samples-accepted : (o : Option Instance) → samplesAnswer o .number ≡ 0
-samples-accepted none = refl
-samples-accepted (some x) = refl
-
-info-accepted : (o : Option Instance) → infoAnswer o .number ≡ 0
-info-accepted none = refl
-info-accepted (some x) = refl
-
-told-accepted : (c : InstanceCall) (s : Sheet) (before after : List Instance) → told c s before after .number ≡ 0
-told-accepted register s before after = handle-accepted (reached register s before)
-told-accepted ensureRegisteredLimited s before after = handle-accepted (reached ensureRegisteredLimited s before)
-told-accepted dispose s before after = refl
-told-accepted unregister s before after = refl
-told-accepted unregisterWriter s before after = refl
-told-accepted noteWriter s before after = refl
-told-accepted dropWriter s before after = refl
-told-accepted observeLifecycle s before after = handle-accepted (reached observeLifecycle s before)
-told-accepted observeAdmitted s before after = samples-accepted (reached observeAdmitted s after)
-told-accepted noteAdmitted s before after = info-accepted (reached noteAdmitted s after)
-told-accepted recordDelivery s before after = refl
-told-accepted noteTaken s before after = refl
-told-accepted markViewSeen s before after = refl
-told-accepted markViewNew s before after = refl
-told-accepted drainSamples s before after = refl
-told-accepted acceptUnderExclusiveOwnership s before after = refl
-told-accepted updateOwnerStrength s before after = refl
-told-accepted clearOwnerForWriter s before after = refl
-told-accepted clearOwnerForWriterPrefix s before after = refl
-told-accepted releaseOwnerOf s before after = refl
-told-accepted autopurge s before after = refl
-
 turn-accepted : (c : InstanceCall) (s : Sheet) (st : State) → instanceTurn c s st .answer .number ≡ 0
 unfolding instanceTurn
-turn-accepted c s st = told-accepted c s _ _
-
-tracker-accepted : (c : TrackerCall) (s : Sheet) (st : State) → trackerTold c s st .number ≡ 0
-tracker-accepted matched s st = refl
-tracker-accepted unmatched s st = refl
-tracker-accepted lostWithParticipant s st = refl
-tracker-accepted writerAsserted s st = refl
-tracker-accepted participantAsserted s st = refl
-tracker-accepted expire s st = refl
-tracker-accepted takeLost s st = refl
-tracker-accepted takeStatus s st = refl
-tracker-accepted acknowledge s st = refl
+turn-accepted c s st = told-accepts c s _ _
 
 -- ---- the number of a turn, from the state
 
@@ -123,13 +81,6 @@ instance-number places c s st =
     (λ l. split (eqb (lateRefusal places c s st) 0)
     (λ e. rw (l, e) (turn-accepted c s st ∙ sym (eqb-true (lateRefusal places c s st) 0 e)))
     (λ e. rw (l, e)))
-
-tracker-number : (c : TrackerCall) (s : Sheet) (st : State) → trackerCall c s st .answer .number ≡ trackerLate c s st
-unfolding trackerCall trackerTurn
-tracker-number c s st =
-    split (eqb (trackerLate c s st) 0)
-    (λ e. rw e (tracker-accepted c s st ∙ sym (eqb-true (trackerLate c s st) 0 e)))
-    (λ e. rw e)
 
 loss-number : (c : TrackerCall) (gs : List Guid) (s : Sheet) (st : State) →
     lossCall c gs s st .answer .number ≡ trackerLate c s st
@@ -171,7 +122,7 @@ passing s st c o = rw (o .times, o .clocks, o .holder, o .kind)
 
 -- ---- the same, from the accounts
 
-module _ (places : ℕ) (s : Sheet) (st : State) (acc : Accounts) (fits : SheetFits s) (m : Held places st acc) where
+module _ (places : ℕ) (s : Sheet) (st : State) (acc : Accounts) (fits : SheetFits s) (m : InStep places st acc) where
   known-is : known s st ≡ isSome (acc .instances .at (num (s .key)))
   known-is = any-lookup instanceKey (num (s .key)) (st .instances) ∙ ap isSome (m .sim .instances .agree (num (s .key)))
 
@@ -185,7 +136,7 @@ module _ (places : ℕ) (s : Sheet) (st : State) (acc : Accounts) (fits : SheetF
       admit-number places s st (find (hasKey (s .key)) (st .instances))
       ∙ rw (known-is, m .sim .instances .agree (num (s .key)), instances-are places st acc m, m .sim .instances .next)
 
-  expire-busy : trackerLate expire s st ≡ busyExpire s acc
+  expire-busy : tooMany (movers expire s (st .writers)) st ≡ busyExpire expire s acc
   expire-busy =
       rw (
         expired-are s (st .writers) (acc .writers .at) (fits .guid)
@@ -193,8 +144,17 @@ module _ (places : ℕ) (s : Sheet) (st : State) (acc : Accounts) (fits : SheetF
         m .sim .writers .lost,
       )
 
-  match-busy : trackerLate matched s st ≡ busyMatch s acc
+  match-busy : noPlace s st ≡ busyMatch s acc
   match-busy = rw (m .sim .writers .agree (num (s .guid)), writers-are places st acc m)
+
+  late-busy : (c : TrackerCall) → trackerLate c s st ≡ cond (trackerRule c .matches && busyMatch s acc) 11 (cond (appends (trackerRule c .lost) && busyExpire c s acc) 12 0)
+  late-busy c = rw (match-busy, appended)
+    where
+      appended : (appends (trackerRule c .lost) && tooMany (movers c s (st .writers)) st) ≡ (appends (trackerRule c .lost) && busyExpire c s acc)
+      appended =
+          split (appends (trackerRule c .lost))
+          (λ e. rw e (subst (λ (d : TrackerCall). tooMany (movers d s (st .writers)) st ≡ busyExpire d s acc) (sym (only-expire c e)) expire-busy))
+          (λ e. rw e)
 
   -- the number of a call that is judged
   abbrev judgedNumber : Call → ℕ
@@ -204,35 +164,23 @@ module _ (places : ℕ) (s : Sheet) (st : State) (acc : Accounts) (fits : SheetF
       judgedNumber c ≡ turn places c s st .answer .number
   ordered-number c o a = rw (passing s st c o, a)
 
+  acknowledge-busy : (u : AcknowledgeUse) → not (acknowledgeableWith u s st) ≡ (inPart u && busyAcknowledge s acc)
+  acknowledge-busy Nothing = refl
+  acknowledge-busy Whole = refl
+  acknowledge-busy Part = rw (m .sim .writers .acknowledgedAlive, m .sim .writers .acknowledgedNotAlive)
+
   tracker-busy : (c : TrackerCall) → Ordered (tracker c) s → judgedNumber (tracker c) ≡ busyTracker c s acc
-  tracker-busy matched o = ordered-number (tracker matched) o refl ∙ tracker-number matched s st ∙ match-busy
-  tracker-busy unmatched o = ordered-number (tracker unmatched) o refl ∙ tracker-number unmatched s st
-  tracker-busy lostWithParticipant o =
-      ordered-number (tracker lostWithParticipant) o refl ∙ tracker-number lostWithParticipant s st
-  tracker-busy writerAsserted o = ordered-number (tracker writerAsserted) o refl ∙ tracker-number writerAsserted s st
-  tracker-busy participantAsserted o =
-      ordered-number (tracker participantAsserted) o refl ∙ tracker-number participantAsserted s st
-  tracker-busy expire o = ordered-number (tracker expire) o refl ∙ tracker-number expire s st ∙ expire-busy
-  tracker-busy takeLost o = ordered-number (tracker takeLost) o refl ∙ tracker-number takeLost s st
-  tracker-busy takeStatus o = ordered-number (tracker takeStatus) o refl ∙ tracker-number takeStatus s st
-  tracker-busy acknowledge o =
-      rw (
-        passing s st (tracker acknowledge) o,
-        tracker-number acknowledge s st,
-        m .sim .writers .acknowledgedAlive,
-        m .sim .writers .acknowledgedNotAlive,
-      )
-      (eight (not
-      (within (acc .writers .acknowledgedAlive +ℤ toZ w32 (s .first)) && within
-      (acc .writers .acknowledgedNotAlive +ℤ toZ w32 (s .second)))))
+  tracker-busy c o =
+      rw (passing s st (tracker c) o, late-number c s st, acknowledge-busy (trackerRule c .acknowledges), late-busy c)
+      (eight (inPart (trackerRule c .acknowledges) && busyAcknowledge s acc) _)
     where
-      eight : (b : Bool) → _≡_ {A = ℕ} (cond (eqb (cond b 8 0) 0) 0 (cond b 8 0)) (cond b 8 0)
-      eight true = refl
-      eight false = refl
+      eight : (b : Bool) (n : ℕ) → _≡_ {A = ℕ} (cond (eqb (cond b 8 0) 0) n (cond b 8 0)) (cond b 8 n)
+      eight true n = refl
+      eight false n = refl
 
   joined-busy : (c : JoinedCall) → turn places (joined c) s st .answer .number ≡ busyJoined places c s acc
   joined-busy admit = admit-busy
-  joined-busy lapse = loss-number expire (movers expire s (st .writers)) s st ∙ expire-busy
+  joined-busy lapse = loss-number expire (movers expire s (st .writers)) s st ∙ late-busy expire
   joined-busy part = loss-number unmatched (s .guid ∷ []) s st
   joined-busy depart = loss-number lostWithParticipant (s .guid ∷ []) s st
 
@@ -271,7 +219,7 @@ judged-number places c s st out f =
     (λ e. rw e))
 
 call-number : (places : ℕ) (sheet : List ℕ) (st : State) (out : List ℕ) (acc : Accounts) (c : Call) →
-    length sheet ≡ 256 → length out ≡ 4096 → callOfCode (sheetOf sheet .code) ≡ some c → Held places st acc →
+    length sheet ≡ 256 → length out ≡ 4096 → callOfCode (sheetOf sheet .code) ≡ some c → InStep places st acc →
     callIn places sheet (layOut places st out) .answer .number
     ≡ cond (eqb (sheetRefusal c (sheetOf sheet) st) 0) (turn places c (sheetOf sheet) st .answer .number)
     (sheetRefusal c (sheetOf sheet) st)
@@ -317,17 +265,9 @@ late-link : (b : Bool) (n m : ℕ) → lateNumber n ≡ true → Passes lateNumb
 late-link b n m e q = link lateNumber b n m e q
 
 tracker-late : (c : TrackerCall) (s : Sheet) (st : State) → Passes lateNumber (trackerLate c s st)
-tracker-late matched s st =
-    late-link (not (isSome (find (hasGuid (s .guid)) (st .writers))) && leb 128 (length (st .writers))) 11 0 refl zero-late
-tracker-late unmatched s st = zero-late
-tracker-late lostWithParticipant s st = zero-late
-tracker-late writerAsserted s st = zero-late
-tracker-late participantAsserted s st = zero-late
-tracker-late expire s st =
-    late-link (ltb 256 (length (st .lost) + length (movers expire s (st .writers)))) 12 0 refl zero-late
-tracker-late takeLost s st = zero-late
-tracker-late takeStatus s st = zero-late
-tracker-late acknowledge s st = zero-late
+tracker-late c s st =
+    late-link (trackerRule c .matches && noPlace s st) 11 _ refl
+    (late-link (appends (trackerRule c .lost) && tooMany (movers c s (st .writers)) st) 12 0 refl zero-late)
 
 instance-late : (places : ℕ) (c : InstanceCall) (s : Sheet) (st : State) →
     Passes lateNumber (instanceCall places c s st .answer .number)
@@ -337,7 +277,7 @@ instance-late places c s st =
     (late-link (limitedBy (rule c .reach) && atLimit s st) 0 _ refl
     (late-link (begins c s st && full places st) 9 _ refl
     (late-link (begins c s st && spent st) 13 _ refl
-    (late-link (rule c .addsWriter && crowds s (reached c s (st .instances))) 10 0 refl zero-late))))
+    (late-link (rule c .«adds_writer» && crowds s (reached c s (st .instances))) 10 0 refl zero-late))))
 
 admit-late : (places : ℕ) (s : Sheet) (st : State) (x : Option Instance) →
     Passes lateNumber (admitWith places s st x .answer .number)
@@ -363,7 +303,7 @@ joined-late places depart s st = loss-late lostWithParticipant (s .guid ∷ []) 
 
 turn-late : (places : ℕ) (c : Call) (s : Sheet) (st : State) → Passes lateNumber (turn places c s st .answer .number)
 turn-late places (instances c) s st = instance-late places c s st
-turn-late places (tracker c) s st = subst (Passes lateNumber) (sym (tracker-number c s st)) (tracker-late c s st)
+turn-late places (tracker c) s st = subst (Passes lateNumber) (sym (late-number c s st)) (tracker-late c s st)
 turn-late places (joined c) s st = joined-late places c s st
 
 -- the numbers of a sheet: 0, or 4 to 8
@@ -384,7 +324,7 @@ sheet-early c s st =
 not-3 : (p : ℕ → Bool) (n : ℕ) → p 3 ≡ false → Passes p n → eqb n 3 ≡ false
 not-3 p n e q = split (eqb n 3) (λ d. never (sym (q .is) ∙ ap p (eqb-true n 3 d) ∙ e)) (λ d. d)
 
-coded-other : (places : ℕ) (o : Option Call) (s : Sheet) (st : State) (out : List ℕ) (acc : Accounts) → Held places st acc →
+coded-other : (places : ℕ) (o : Option Call) (s : Sheet) (st : State) (out : List ℕ) (acc : Accounts) → InStep places st acc →
     eqb (coded places o s (layOut places st out) .answer .number) 3 ≡ false
 coded-other places none s st out acc m = refl
 coded-other places (some c) s st out acc m =
@@ -393,7 +333,7 @@ coded-other places (some c) s st out acc m =
     (sheetRefusal c s st)
     (λ e. not-3 lateNumber _ refl (turn-late places c s st)) (λ e. not-3 early _ refl (sheet-early c s st)))
 
-call-other : (places : ℕ) (sheet : List ℕ) (st : State) (out : List ℕ) (acc : Accounts) → Held places st acc →
+call-other : (places : ℕ) (sheet : List ℕ) (st : State) (out : List ℕ) (acc : Accounts) → InStep places st acc →
     eqb (callIn places sheet (layOut places st out) .answer .number) 3 ≡ false
 unfolding callIn
 call-other places sheet st out acc m =
@@ -411,20 +351,14 @@ never-3 places is out i b =
 
 -- ---- 8 stands in code 40 alone
 
-only-40 : (c : TrackerCall) (s : Sheet) (st : State) → acknowledgeable c s st ≡ false → acknowledgesIn c ≡ true
-only-40 matched s st e = never e
-only-40 unmatched s st e = never e
-only-40 lostWithParticipant s st e = never e
-only-40 writerAsserted s st e = never e
-only-40 participantAsserted s st e = never e
-only-40 expire s st e = never e
-only-40 takeLost s st e = never e
-only-40 takeStatus s st e = never e
-only-40 acknowledge s st e = refl
+only-40 : (u : AcknowledgeUse) (s : Sheet) (st : State) → acknowledgeableWith u s st ≡ false → inPart u ≡ true
+only-40 Nothing s st e = never e
+only-40 Whole s st e = never e
+only-40 Part s st e = refl
 
 acknowledge-40 : (c : Call) (s : Sheet) (st : State) → acknowledgeOk c s st ≡ false → acknowledges c ≡ true
 acknowledge-40 (instances c) s st e = never e
-acknowledge-40 (tracker c) s st e = only-40 c s st e
+acknowledge-40 (tracker c) s st e = only-40 (trackerRule c .acknowledges) s st e
 acknowledge-40 (joined c) s st e = never e
 
 judged-allowed : (places : ℕ) (c : Call) (s : Sheet) (st : State) → Ordered c s →

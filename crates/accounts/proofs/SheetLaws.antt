@@ -1,7 +1,7 @@
 -- What a sheet of 256 bytes has, and the times and clocks that a call takes from it.
 --     sheet-fits             every field fits
---     given-time, taken-time, used-time, absent-time     times that go to a record
---     taken-holder, used-holder     the holder
+--     taken-time, used-time, absent-time     times that go to a record
+--     taken-holder           the holder
 -- Assumes nothing.
 use mathlib.Core.Bool.{true}
 use mathlib.Core.List.{List, [], _∷_, _++_}
@@ -11,19 +11,21 @@ use native.Mathlib.Omega.{arith}
 use borrow.Author.Tests.{le-leb}
 use lib.ListN.{length, take, drop, replicate, length-append, length-replicate, length-drop}
 use lib.Seq.{drop-at, length-take-le}
-use Rattle.octets.specs.Bounds.{Bytes, be-lt}
+use Rattle.octets.specs.Bounds.{Bytes}
+use Rattle.octets.proofs.BoundLaws.{be-lt}
 use Rattle.octets.specs.Octets.{be}
 use Rattle.model.specs.declared.MaybeTime.{MaybeTime}
 use Rattle.model.specs.declared.Sheet.{Sheet}
 use Rattle.model.specs.Refusals.{optional, nanosecondsOk}
 use Rattle.model.specs.Sheets.{padded, sheetOf}
 use Rattle.model.specs.Tables.{all}
-use Rattle.model.specs.Times.{noTime, always, ifPresent, given}
-use Rattle.octets.specs.Zeros.{allZero, allZero-zeros}
+use Rattle.model.specs.Times.{noTime, always, ifPresent}
+use Rattle.octets.specs.Zeros.{allZero}
+use Rattle.octets.proofs.ZeroLaws.{allZero-zeros}
 use Rattle.model.specs.WellFormed.{timeOk, holderOk}
 use Rattle.model.proofs.Fits.{FitsGuid, FitsTime}
 use Rattle.model.proofs.GuidLaws.{bytes-take, bytes-drop}
-use Rattle.model.proofs.RowLaws.{both}
+use Rattle.model.proofs.Tests.{both}
 use Rattle.accounts.proofs.Basics.{either}
 use Rattle.accounts.proofs.Sound.{SoundTime, SoundHolder}
 
@@ -97,9 +99,6 @@ used-time t f e =
     nano : t .present ≡ true → nanosecondsOk t ≡ true
     nano p = unfold all in both (nanosecondsOk t) true (rw p at e) .0
 
-pub given-time : (new old : MaybeTime) → SoundTime new → SoundTime old → SoundTime (given new old)
-given-time new old n o = either SoundTime (new .present) new old (λ e. n) (λ e. o)
-
 -- ---- the holder
 
 pub taken-holder : (s : Sheet) → SheetFits s → s .holder .len ≤ 144 →
@@ -112,15 +111,4 @@ taken-holder s f l =
       bytes = f .holderBytes;
       ok = rw
           (le-leb (s .holder .len) 144 l, f .holderZeros l);
-    }
-
-pub used-holder : (s : Sheet) → SheetFits s → s .holder .len ≤ 144 → s .holder .present ≡ true → SoundHolder (s .holder)
-unfolding holderOk
-used-holder s f l p =
-    record {
-      len = l;
-      size = f .holderSize;
-      bytes = f .holderBytes;
-      ok = rw
-          (p, le-leb (s .holder .len) 144 l, f .holderZeros l);
     }

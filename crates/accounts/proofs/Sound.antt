@@ -10,9 +10,10 @@ use native.Mathlib.Omega.{arith}
 use borrow.Author.Tests.{eqb-true, lt-ltb, le-leb}
 use lib.Dec.{eqb, leb, ltb}
 use lib.ListN.{length, drop, replicate, length-append, length-replicate}
-use lib.Seq.{take-at, drop-at}
+use lib.Seq.{drop-at}
 use Rattle.octets.specs.Bounds.{Bytes}
-use Rattle.octets.specs.Lay.{All, all-append}
+use Rattle.octets.specs.Lay.{All}
+use Rattle.octets.proofs.LayLaws.{all-append}
 use Rattle.model.specs.declared.Guid.{Guid}
 use Rattle.model.specs.declared.Holder.{Holder}
 use Rattle.model.specs.declared.InstanceState.{InstanceState}
@@ -26,10 +27,14 @@ use Rattle.model.specs.Sets.{members, setOf, has, insert, remove}
 use Rattle.model.specs.Tables.{all, isSome, find, put}
 use Rattle.model.specs.WellFormed.{timeOk, timesOk, ownerOk, holderOk, isNil, setOk, lifeOk, instanceStateOk}
 use Rattle.model.proofs.Fits.{FitsGuid, FitsTime, FitsSet, FitsState}
+use Rattle.model.proofs.SetLaws.{members-of, remove-le}
+use Rattle.model.proofs.Keeps.{Lives, Timed, Each}
 use Rattle.accounts.specs.Ranges.{bound, guidNumbered}
-use Rattle.accounts.proofs.Basics.{split, one-more}
+use Rattle.model.proofs.Tests.{split}
+use Rattle.accounts.proofs.Basics.{one-more}
 use Rattle.accounts.proofs.RangeLaws.{num-below, numbered-num}
-use Rattle.accounts.proofs.TurnLaws.{lookup, Within, within-weaken, within-put, within-rises, all-put, length-put}
+use Rattle.accounts.proofs.TurnLaws.{lookup, Within, within-weaken, within-put, within-rises, length-put}
+use Rattle.model.proofs.TableLaws.{all-put}
 
 -- ---- the groups of an instance
 
@@ -37,20 +42,6 @@ pub record SoundTime (t : MaybeTime) : Type 0 where
   pub sec : t .sec < 256 ^ 4
   pub nanosec : t .nanosec < 256 ^ 4
   pub ok : timeOk t ≡ true
-
-pub record SoundTimes (t : Times) : Type 0 where
-  pub sample : SoundTime (t .«last_sample»)
-  pub delivered : SoundTime (t .«last_delivered»)
-  pub filter : SoundTime (t .«last_filter»)
-  pub disposed : SoundTime (t .«disposed_at»)
-  pub noWriters : SoundTime (t .«no_writers_at»)
-  pub owner : SoundTime (t .«owner_at»)
-
-pub record SoundLife (l : Life) : Type 0 where
-  pub disposed : l .«disposed_generations» < 2 ^ 31
-  pub noWriters : l .«no_writers_generations» < 2 ^ 31
-  pub count : l .«writer_count» < 256 ^ 4
-  pub samples : l .samples < 256 ^ 4
 
 pub record SoundOwner (o : MaybeOwner) : Type 0 where
   pub guid : FitsGuid (o .guid)
@@ -71,12 +62,20 @@ pub record SoundSet (w : WriterSet) : Type 0 where
   pub rises : Within num 0 bound list
   pub fits : All FitsGuid list
 
-pub record SoundState (x : InstanceState) : Type 0 where
-  pub life : SoundLife (x .life)
-  pub times : SoundTimes (x .times)
-  pub owner : SoundOwner (x .owner)
-  pub holder : SoundHolder (x .holder)
-  pub writers : SoundSet (x .writers)
+abbrev pub Generation : ℕ → Type 0
+Generation n = n < 2 ^ 31
+
+abbrev pub Count : ℕ → Type 0
+Count n = n < 256 ^ 4
+
+abbrev pub SoundLife : Life → Type 0
+SoundLife l = Lives Generation Count SoundTime SoundOwner SoundHolder SoundSet l
+
+abbrev pub SoundTimes : Times → Type 0
+SoundTimes t = Timed Generation Count SoundTime SoundOwner SoundHolder SoundSet t
+
+abbrev pub SoundState : InstanceState → Type 0
+SoundState x = Each Generation Count SoundTime SoundOwner SoundHolder SoundSet x
 
 -- ---- sound values are well formed and fit
 
@@ -95,10 +94,6 @@ ok-life l m =
       lt-ltb (l .«no_writers_generations») (2 ^ 31)
           (m .noWriters),
     )
-
-members-set : (xs : List Guid) → members (setOf xs) ≡ xs
-unfolding setOf
-members-set xs = take-at xs (replicate (16 - length xs) nil) (length xs) refl
 
 nils-are : (n : ℕ) → all isNil (replicate n nil) ≡ true
 unfolding all num
@@ -122,7 +117,7 @@ unfolding setOk
 ok-list xs few rises =
     rw (
       behind-set xs,
-      members-set xs,
+      members-of xs,
       length-set xs,
       le-leb (length xs) 16 few,
       within-rises num 0 bound xs rises,
@@ -175,7 +170,7 @@ fits-state x m =
 -- ---- sets of writers
 
 set-members : (w : WriterSet) (m : SoundSet w) → members w ≡ m .list
-set-members w m = ap members (m .is) ∙ members-set (m .list)
+set-members w m = ap members (m .is) ∙ members-of (m .list)
 
 same-guid : (a b : Guid) → FitsGuid a → FitsGuid b → num a ≡ num b → a ≡ b
 same-guid a b f g e = sym (numbered-num a f) ∙ ap guidNumbered e ∙ numbered-num b g
@@ -202,12 +197,6 @@ remove-within lo hi g (x ∷ xs) w =
     (λ e. rw e (within-weaken num (suc (num x)) lo hi xs (omega (arith, w .0)) (w .2)))
     (λ e. rw e (w .0, w .1, remove-within (suc (num x)) hi g xs (w .2)))
 
-remove-length : (g : Guid) (xs : List Guid) → length (remove g xs) ≤ length xs
-unfolding remove
-remove-length g [] = omega arith
-remove-length g (x ∷ xs) =
-    split (eqb (num x) (num g)) (λ e. rw e (omega arith)) (λ e. rw e (omega (arith, remove-length g xs)))
-
 remove-fits : (g : Guid) (xs : List Guid) → All FitsGuid xs → All FitsGuid (remove g xs)
 unfolding remove
 remove-fits g [] a = tt
@@ -218,7 +207,7 @@ set-without g w m =
     record {
       list = remove g (m .list);
       is = ap (λ (l : List Guid). setOf (remove g l)) (set-members w m);
-      few = omega (arith, remove-length g (m .list), m .few);
+      few = omega (arith, remove-le g (m .list), m .few);
       rises = remove-within 0 bound g (m .list) (m .rises);
       fits = remove-fits g (m .list) (m .fits);
     }

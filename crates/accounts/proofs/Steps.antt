@@ -21,7 +21,7 @@ use Rattle.model.specs.Call.{turn}
 use Rattle.model.specs.declared.InstanceCall.{InstanceCall}
 use Rattle.model.specs.declared.TrackerCall.{TrackerCall}
 use Rattle.model.specs.declared.JoinedCall.{JoinedCall}
-use Rattle.model.specs.declared.TrackerCall.the-variants.{Matched as matched, Unmatched as unmatched, LostWithParticipant as lostWithParticipant, WriterAsserted as writerAsserted, ParticipantAsserted as participantAsserted, Expire as expire, TakeLost as takeLost, TakeStatus as takeStatus, Acknowledge as acknowledge}
+use Rattle.model.specs.declared.TrackerCall.the-variants.{Unmatched as unmatched, LostWithParticipant as lostWithParticipant, Expire as expire}
 use Rattle.model.specs.declared.JoinedCall.the-variants.{Admit as admit, Lapse as lapse, Part as part, Depart as depart}
 use Rattle.model.specs.Calls.{Call, instances, tracker, joined}
 use Rattle.model.specs.Guids.{num}
@@ -30,13 +30,14 @@ use Rattle.model.specs.Instances.{rule, limitedBy, hasKey}
 use Rattle.model.specs.Joined.{inOrder, passesFilter, admitted, admitWith, afterLoss, lossCall}
 use Rattle.model.specs.State.{State, instanceKey}
 use Rattle.model.specs.Tables.{isSome, find}
-use Rattle.model.specs.Writers.{movers, trackerTold, trackerLate, trackerState, trackerTurn, trackerCall}
+use Rattle.model.specs.Writers.{movers, trackerLate, trackerState, trackerTurn, trackerCall}
 use Rattle.model.proofs.Fits.{FitsGuid}
-use Rattle.model.proofs.RowLaws.{both}
+use Rattle.model.proofs.Tests.{both, split}
+use Rattle.model.proofs.TrackerLaws.{tracker-unhanded}
 use Rattle.accounts.specs.Accounts.{seenAs, goneBy, Accounts, advanceBy}
 use Rattle.accounts.specs.InstanceAccounts.{Event, onPresent, losing, reach}
 use Rattle.accounts.specs.WriterAccounts.{WriterAccounts, hear, heardBy, writersAfter, expiredIn}
-use Rattle.accounts.proofs.Basics.{split, never, either}
+use Rattle.accounts.proofs.Basics.{never, either}
 use Rattle.accounts.proofs.InstanceTurns.{InstanceSim, tracker-heard, limit-heard, stopped-heard, instance-heard, admit-heard, loss-heard}
 use Rattle.accounts.proofs.TurnLaws.{lookup, any-lookup}
 use Rattle.accounts.proofs.WriterTurns.{WriterSim, Plain, expired-are, writer-heard}
@@ -58,7 +59,7 @@ pub passed : (b : Bool) (n m : ℕ) → eqb n 0 ≡ false → eqb (cond b n m) 0
 passed true n m d e = never (sym e ∙ d)
 passed false n m d e = (refl, e)
 
-and-false : (a b : Bool) → (a && b) ≡ false → a ≡ true → b ≡ false
+pub and-false : (a b : Bool) → (a && b) ≡ false → a ≡ true → b ≡ false
 and-false true b e d = e
 and-false false b e d = never (sym d)
 
@@ -66,7 +67,7 @@ and-false false b e d = never (sym d)
 pub record Roomy (places : ℕ) (c : InstanceCall) (s : Sheet) (st : State) : Type 0 where
   pub roomForOne : begins c s st ≡ true → full places st ≡ false
   pub handles : begins c s st ≡ true → st .nextHandle < 2 ^ 63
-  pub writers : rule c .addsWriter ≡ true → crowds s (reached c s (st .instances)) ≡ false
+  pub writers : rule c .«adds_writer» ≡ true → crowds s (reached c s (st .instances)) ≡ false
 
 pub roomy : (places : ℕ) (c : InstanceCall) (s : Sheet) (st : State) → eqb (lateRefusal places c s st) 0 ≡ true →
     Roomy places c s st
@@ -74,11 +75,11 @@ unfolding lateRefusal
 roomy places c s st e =
     let p = passed (begins c s st && full places st) 9 _ refl e in
     let q = passed (begins c s st && spent st) 13 _ refl (p .1) in
-    let r = passed (rule c .addsWriter && crowds s (reached c s (st .instances))) 10 0 refl (q .1) in
+    let r = passed (rule c .«adds_writer» && crowds s (reached c s (st .instances))) 10 0 refl (q .1) in
     record {
       roomForOne = λ b. and-false (begins c s st) (full places st) (p .0) b;
       handles = λ b. leb-false (2 ^ 63) (st .nextHandle) (and-false (begins c s st) (spent st) (q .0) b);
-      writers = λ b. and-false (rule c .addsWriter) (crowds s (reached c s (st .instances))) (r .0) b;
+      writers = λ b. and-false (rule c .«adds_writer») (crowds s (reached c s (st .instances))) (r .0) b;
     }
 
 -- ---- instance calls
@@ -125,17 +126,6 @@ instance-turned places c s st acc f m ok =
 
 -- ---- tracker calls
 
-told-silent : (c : TrackerCall) (s : Sheet) (st : State) → trackerTold c s st .handle .0 ≡ 0
-told-silent matched s st = refl
-told-silent unmatched s st = refl
-told-silent lostWithParticipant s st = refl
-told-silent writerAsserted s st = refl
-told-silent participantAsserted s st = refl
-told-silent expire s st = refl
-told-silent takeLost s st = refl
-told-silent takeStatus s st = refl
-told-silent acknowledge s st = refl
-
 tracker-turned : (c : TrackerCall) (s : Sheet) (st : State) (acc : Accounts) → FitsGuid (s .guid) →
     All Plain (st .writers) → Sim st acc →
     eqb (trackerCall c s st .answer .number) 0 ≡ true →
@@ -148,7 +138,7 @@ tracker-turned c s st acc g f m ok =
       writers = writer-heard c s st (acc .writers) g f (m .writers);
       instances =
           unfold trackerState in tracker-heard st (trackerState c s st) (acc .instances) c _ [] refl refl
-          (told-silent c s st) (m .instances);
+          (tracker-unhanded c s st) (m .instances);
     })
     (λ e. never (sym (rw e at ok) ∙ e))
 

@@ -23,7 +23,8 @@ use Rattle.octets.specs.Lay.{All}
 use Rattle.model.specs.InstanceRecord.{bit}
 use Rattle.model.specs.Tables.{isSome, find, pick, any, kept, sift, put, above, rising}
 use Rattle.accounts.specs.Ranges.{between, present}
-use Rattle.accounts.proofs.Basics.{missing, split}
+use Rattle.accounts.proofs.Basics.{missing}
+use Rattle.model.proofs.Tests.{split}
 
 module _ {A : Type 0} where
   abbrev pub bind : (A → Option A) → Option A → Option A
@@ -171,16 +172,6 @@ module _ {A : Type 0} (key : A → ℕ) where
     pub turn-at : (j : ℕ) → lookup j (sift f (begin b xs)) ≡ bind f (begunAt b j (lookup j xs))
     turn-at j = lookup-sift j 0 n f (begin b xs) keeps (within-begin n b xs below w) ∙ ap (bind f) (lookup-begin b xs j)
 
-  -- ---- what holds of every record
-
-  pub all-put : (P : A → Type 0) (y : A) (xs : List A) → P y → All P xs → All P (put key y xs)
-  unfolding put
-  all-put P y [] p a = (p, tt)
-  all-put P y (x ∷ xs) p a =
-      split (ltb (key x) (key y))
-      (λ d. rw d (a .0, all-put P y xs p (a .1)))
-      (λ d. rw d (split (eqb (key x) (key y)) (λ e. rw e (p, a .1)) (λ e. rw e (p, a))))
-
   pub length-put : (lo hi : ℕ) (y : A) (xs : List A) → Within lo hi xs →
       length (put key y xs) ≡ length xs + bit (not (isSome (lookup (key y) xs)))
   unfolding put find
@@ -297,15 +288,6 @@ module _ {A : Type 0} where
   unfolding pick
   all-pick P p [] a = tt
   all-pick P p (x ∷ xs) a = split (p x) (λ e. rw e (a .0, all-pick P p xs (a .1))) (λ e. rw e (all-pick P p xs (a .1)))
-
-  length-kept : (o : Option A) (xs : List A) → length (kept o xs) ≤ suc (length xs)
-  length-kept none xs = omega arith
-  length-kept (some y) xs = omega arith
-
-  pub length-sift : (f : A → Option A) (xs : List A) → length (sift f xs) ≤ length xs
-  unfolding sift
-  length-sift f [] = omega arith
-  length-sift f (x ∷ xs) = omega (arith, length-kept (f x) (sift f xs), length-sift f xs)
 
   pub length-pick : (p : A → Bool) (xs : List A) → length (pick p xs) ≤ length xs
   unfolding pick

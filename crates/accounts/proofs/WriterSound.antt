@@ -15,10 +15,15 @@ use lib.IntN.{ℤ, pos, _+ℤ_}
 use lib.ListN.{length, length-append}
 use mir.Syntax.{w32}
 use mir.Val.{toZ}
-use Rattle.octets.specs.Lay.{All, all-append}
+use Rattle.octets.specs.Lay.{All}
+use Rattle.octets.proofs.LayLaws.{all-append}
+use Rattle.model.specs.declared.AcknowledgeUse.{AcknowledgeUse}
+use Rattle.model.specs.declared.AcknowledgeUse.the-variants.{Nothing, Whole, Part}
 use Rattle.model.specs.declared.Guid.{Guid}
 use Rattle.model.specs.declared.LivelinessKind.{LivelinessKind}
 use Rattle.model.specs.declared.LivelinessKind.the-variants.{Automatic, ManualByParticipant, ManualByTopic}
+use Rattle.model.specs.declared.LostUse.{LostUse}
+use Rattle.model.specs.declared.LostUse.the-variants.{Leaves, Appends, Empties}
 use Rattle.model.specs.declared.MaybeLease.{MaybeLease}
 use Rattle.model.specs.declared.Sheet.{Sheet}
 use Rattle.model.specs.declared.Writer.{Writer}
@@ -29,16 +34,17 @@ use Rattle.model.specs.declared.TrackerCall.the-variants.{Matched as matched, U
 use Rattle.model.specs.Guids.{num}
 use Rattle.model.specs.Refusals.{clocksUsedBy}
 use Rattle.model.specs.State.{State, writerKey, countsAlive, countsNotAlive, aliveCount, notAliveCount}
-use Rattle.model.specs.Tables.{all, isSome, find}
+use Rattle.model.specs.Tables.{all, isSome, find, put}
 use Rattle.model.specs.WellFormed.{clockOk, leaseOk, isDeparted, onlyState, writerOk, within}
-use Rattle.model.specs.Writers.{Assertion, assertion, tracked, withState, leaseOn, matchedFrom, matchedWriter, covers, renews, asserted, expires, expired, unmatchedFrom, departed, lostAs, hasGuid, writersBegun, writerStep, writerActs, writersAfter, matchAsserts, movers, lostAfter, acknowledgedAfter, trackerLate, trackerState, acknowledgeable}
+use Rattle.model.specs.Writers.{trackerRule, Assertion, assertion, tracked, withState, leaseOn, matchedFrom, matchedWriter, covers, renews, asserted, expires, expired, unmatchedFrom, departed, lostAs, hasGuid, writersBegun, writerStep, writerActs, writersAfter, matchAsserts, movers, lostWith, lostAfter, acknowledgedWith, noPlace, appends, tooMany, trackerLate, trackerState, acknowledgeable, acknowledgeableWith}
 use Rattle.model.specs.WriterRecord.{livelinessNumber}
 use Rattle.model.proofs.Fits.{FitsGuid, FitsWriter}
-use Rattle.model.proofs.RowLaws.{both}
+use Rattle.model.proofs.Tests.{both, split}
 use Rattle.accounts.specs.Ranges.{bound}
-use Rattle.accounts.proofs.Basics.{split, either, all-weaken, one-more, never}
-use Rattle.accounts.proofs.Steps.{passed}
-use Rattle.accounts.proofs.TurnLaws.{Within, lookup-all, all-put, all-sift, length-put, length-sift, length-pick}
+use Rattle.accounts.proofs.Basics.{either, all-weaken, one-more, never}
+use Rattle.accounts.proofs.Steps.{passed, and-false}
+use Rattle.accounts.proofs.TurnLaws.{Within, lookup-all, all-sift, length-put, length-pick}
+use Rattle.model.proofs.TableLaws.{all-put, length-sift}
 use Rattle.accounts.proofs.WriterTurns.{Plain, matched-guid, movers-fit}
 
 pub record SoundWriter (w : Writer) : Type 0 where
@@ -150,18 +156,25 @@ acts-sound takeLost s b w f m = m
 acts-sound takeStatus s b w f m = m
 acts-sound acknowledge s b w f m = m
 
+-- a call that matches uses clock and lease
+leased : (c : TrackerCall) (s : Sheet) → trackerRule c .matches ≡ true → ClockFits c s → ClockFits matched s
+leased matched s e f = f
+leased unmatched s e f = never (sym e)
+leased lostWithParticipant s e f = never (sym e)
+leased writerAsserted s e f = never (sym e)
+leased participantAsserted s e f = never (sym e)
+leased expire s e f = never (sym e)
+leased takeLost s e f = never (sym e)
+leased takeStatus s e f = never (sym e)
+leased acknowledge s e f = never (sym e)
+
 begun-sound : (c : TrackerCall) (s : Sheet) (ws : List Writer) → ClockFits c s → All SoundWriter ws →
     All SoundWriter (writersBegun c s ws)
-begun-sound matched s ws f a =
-    all-put writerKey SoundWriter (matchedWriter s (find (hasGuid (s .guid)) ws)) ws (matched-sound s ws f a) a
-begun-sound unmatched s ws f a = a
-begun-sound lostWithParticipant s ws f a = a
-begun-sound writerAsserted s ws f a = a
-begun-sound participantAsserted s ws f a = a
-begun-sound expire s ws f a = a
-begun-sound takeLost s ws f a = a
-begun-sound takeStatus s ws f a = a
-begun-sound acknowledge s ws f a = a
+begun-sound c s ws f a =
+    either (All SoundWriter) (trackerRule c .matches) (put writerKey (matchedWriter s (find (hasGuid (s .guid)) ws)) ws) ws
+    (λ e. all-put writerKey SoundWriter (matchedWriter s (find (hasGuid (s .guid)) ws)) ws
+    (matched-sound s ws (leased c s e f) a) a)
+    (λ e. a)
 
 after-sound : (c : TrackerCall) (s : Sheet) (ws : List Writer) → ClockFits c s → All SoundWriter ws →
     All SoundWriter (writersAfter c s ws)
@@ -175,19 +188,16 @@ after-sound c s ws f a =
 begun-few : (c : TrackerCall) (s : Sheet) (st : State) → Within writerKey 0 bound (st .writers) →
     eqb (trackerLate c s st) 0 ≡ true →
     length (st .writers) ≤ 128 → length (writersBegun c s (st .writers)) ≤ 128
-begun-few matched s st w e l =
+begun-few c s st w e l =
+    either (λ (ws : List Writer). length ws ≤ 128) (trackerRule c .matches)
+    (put writerKey (matchedWriter s (find (hasGuid (s .guid)) (st .writers))) (st .writers)) (st .writers)
+    (λ m.
     let k : num (matchedWriter s (find (hasGuid (s .guid)) (st .writers)) .guid) ≡ num (s .guid) =
     ap num (matched-guid s (find (hasGuid (s .guid)) (st .writers))) in
+    let room : noPlace s st ≡ false = and-false (trackerRule c .matches) (noPlace s st) (passed _ 11 _ refl e .0) m in
     rw (length-put writerKey 0 bound (matchedWriter s (find (hasGuid (s .guid)) (st .writers))) (st .writers) w, k)
-    (one-more 128 (isSome (find (hasGuid (s .guid)) (st .writers))) (length (st .writers)) l (passed _ 11 0 refl e .0))
-begun-few unmatched s st w e l = l
-begun-few lostWithParticipant s st w e l = l
-begun-few writerAsserted s st w e l = l
-begun-few participantAsserted s st w e l = l
-begun-few expire s st w e l = l
-begun-few takeLost s st w e l = l
-begun-few takeStatus s st w e l = l
-begun-few acknowledge s st w e l = l
+    (one-more 128 (isSome (find (hasGuid (s .guid)) (st .writers))) (length (st .writers)) l room))
+    (λ m. l)
 
 after-few : (c : TrackerCall) (s : Sheet) (st : State) → Within writerKey 0 bound (st .writers) →
     eqb (trackerLate c s st) 0 ≡ true →
@@ -196,31 +206,24 @@ unfolding writersAfter
 after-few c s st w e l =
     omega (arith, length-sift (writerStep c s (st .writers)) (writersBegun c s (st .writers)), begun-few c s st w e l)
 
+lost-within : (u : LostUse) (gone : List Guid) (st : State) → (appends u && tooMany gone st) ≡ false →
+    length (st .lost) ≤ 256 → length (lostWith u gone (st .lost)) ≤ 256
+lost-within Leaves gone st e l = l
+lost-within Appends gone st e l =
+    rw (length-append (st .lost) gone) (ltb-false 256 (length (st .lost) + length gone) e)
+lost-within Empties gone st e l = omega arith
+
 lost-few : (c : TrackerCall) (s : Sheet) (st : State) → eqb (trackerLate c s st) 0 ≡ true → length (st .lost) ≤ 256 →
     length (lostAfter c (movers c s (st .writers)) (st .lost)) ≤ 256
-lost-few matched s st e l = l
-lost-few unmatched s st e l = l
-lost-few lostWithParticipant s st e l = l
-lost-few writerAsserted s st e l = l
-lost-few participantAsserted s st e l = l
-lost-few expire s st e l =
-    rw (length-append (st .lost) (movers expire s (st .writers)))
-    (ltb-false 256 (length (st .lost) + length (movers expire s (st .writers))) (passed _ 12 0 refl e .0))
-lost-few takeLost s st e l = omega arith
-lost-few takeStatus s st e l = l
-lost-few acknowledge s st e l = l
+lost-few c s st e l =
+    let p = passed (trackerRule c .matches && noPlace s st) 11 _ refl e in
+    lost-within (trackerRule c .lost) (movers c s (st .writers)) st (passed _ 12 0 refl (p .1) .0) l
 
-lost-fit : (c : TrackerCall) (gone lost : List Guid) → All FitsGuid gone → All FitsGuid lost →
-    All FitsGuid (lostAfter c gone lost)
-lost-fit matched gone lost f l = l
-lost-fit unmatched gone lost f l = l
-lost-fit lostWithParticipant gone lost f l = l
-lost-fit writerAsserted gone lost f l = l
-lost-fit participantAsserted gone lost f l = l
-lost-fit expire gone lost f l = all-append FitsGuid lost gone l f
-lost-fit takeLost gone lost f l = tt
-lost-fit takeStatus gone lost f l = l
-lost-fit acknowledge gone lost f l = l
+lost-fit : (u : LostUse) (gone lost : List Guid) → All FitsGuid gone → All FitsGuid lost →
+    All FitsGuid (lostWith u gone lost)
+lost-fit Leaves gone lost f l = l
+lost-fit Appends gone lost f l = all-append FitsGuid lost gone l f
+lost-fit Empties gone lost f l = tt
 
 -- ---- what is acknowledged
 
@@ -228,18 +231,12 @@ near-count : (n : ℕ) → n ≤ 128 → within (pos n) ≡ true
 unfolding within
 near-count n l = le-leb n 1_073_741_824 (omega arith)
 
-near-after : (c : TrackerCall) (n part : ℕ) (z : ℤ) → n ≤ 128 → within z ≡ true →
-    (c ≡ acknowledge → within (z +ℤ toZ w32 part) ≡ true) →
-    within (acknowledgedAfter c n part z) ≡ true
-near-after matched n part z l e d = e
-near-after unmatched n part z l e d = e
-near-after lostWithParticipant n part z l e d = e
-near-after writerAsserted n part z l e d = e
-near-after participantAsserted n part z l e d = e
-near-after expire n part z l e d = e
-near-after takeLost n part z l e d = e
-near-after takeStatus n part z l e d = near-count n l
-near-after acknowledge n part z l e d = d refl
+near-after : (u : AcknowledgeUse) (n part : ℕ) (z : ℤ) → n ≤ 128 → within z ≡ true →
+    (u ≡ Part → within (z +ℤ toZ w32 part) ≡ true) →
+    within (acknowledgedWith u n part z) ≡ true
+near-after Nothing n part z l e d = e
+near-after Whole n part z l e d = near-count n l
+near-after Part n part z l e d = d refl
 
 -- ---- the writers' part of the state
 
@@ -292,21 +289,21 @@ unfolding trackerState aliveCount notAliveCount
 tracker-sound c s st f ok late w m =
     record {
       nearAlive =
-          near-after c _ (s .first) (st .acknowledgedAlive) (omega (arith, length-pick countsAlive (st .writers), m .few))
+          near-after (trackerRule c .acknowledges) _ (s .first) (st .acknowledgedAlive) (omega (arith, length-pick countsAlive (st .writers), m .few))
           (m .nearAlive)
           (λ e. parts e .0);
       nearNotAlive =
-          near-after c _ (s .second) (st .acknowledgedNotAlive)
+          near-after (trackerRule c .acknowledges) _ (s .second) (st .acknowledgedNotAlive)
           (omega (arith, length-pick countsNotAlive (st .writers), m .few)) (m .nearNotAlive)
           (λ e. parts e .1);
       few = after-few c s st w late (m .few);
       each = after-sound c s (st .writers) f (m .each);
       fewLost = lost-few c s st late (m .fewLost);
       lost =
-          lost-fit c _ (st .lost) (movers-fit c s (st .writers) (f .guid) (all-plain (st .writers) (m .each))) (m .lost);
+          lost-fit (trackerRule c .lost) _ (st .lost) (movers-fit c s (st .writers) (f .guid) (all-plain (st .writers) (m .each))) (m .lost);
     }
   where
-    parts : c ≡ acknowledge →
+    parts : trackerRule c .acknowledges ≡ Part →
         (within (st .acknowledgedAlive +ℤ toZ w32 (s .first)) ≡ true) ×
         (within (st .acknowledgedNotAlive +ℤ toZ w32 (s .second)) ≡ true)
-    parts e = both _ _ (subst (λ (d : TrackerCall). acknowledgeable d s st ≡ true) e ok)
+    parts e = both _ _ (subst (λ (u : AcknowledgeUse). acknowledgeableWith u s st ≡ true) e ok)

@@ -32,17 +32,18 @@ use Rattle.model.specs.declared.TrackerCall.the-variants.{Matched as matched, U
 use Rattle.model.specs.Guids.{num, prefix}
 use Rattle.model.specs.InstanceRecord.{bit}
 use Rattle.model.specs.State.{State, Class, alive, notAlive, neither, classOf, isAliveClass, isNotAliveClass, writerKey, aliveCount, notAliveCount}
-use Rattle.model.specs.Tables.{find, pick}
+use Rattle.model.specs.Tables.{find, pick, put}
 use Rattle.model.specs.WriterRecord.{livelinessNumbered}
 use Rattle.model.specs.Writers as M
-use Rattle.model.specs.Writers.{hasGuid, isTracked, covers, coversKind, renews, asserted, assertion, expires, expired, unmatchedFrom, lostAs, matchedWriter, writersBegun, writerStep, sameClass, classAfter, moves, guidIn, movers, lastAfter, lostAfter, acknowledgedAfter, trackerState}
+use Rattle.model.specs.Writers.{trackerRule, hasGuid, isTracked, covers, coversKind, renews, asserted, assertion, expires, expired, unmatchedFrom, lostAs, matchedWriter, writersBegun, writerStep, sameClass, classAfter, moves, guidIn, movers, lastAfter, lostAfter, acknowledgedAfter, appends, trackerState}
 use Rattle.model.proofs.Fits.{FitsGuid}
 use Rattle.accounts.specs.Ranges.{bound, guidNumbered, between, sumOver}
 use Rattle.accounts.specs.WriterAccounts as S
 use Rattle.accounts.specs.WriterAccounts.{trackedIn, became, matches, takingFrom, covered, automatic, byParticipant, timely, runOut, asserts, lapses, leaves, departs, departsFrom, isNamed, isNear, matchedAt, onWriter, Writers, writersAfter, classIn, class, isAlive, isNotAlive, differ, moved, movedAt, expiredAt, expiredIn, aliveAmong, notAliveAmong, WriterAccounts, lastIn, lostBy, acknowledgedBy, changeOf, heardBy}
-use Rattle.accounts.proofs.Basics.{missing, all-weaken, split, and-assoc, eqb-sym}
+use Rattle.accounts.proofs.Basics.{missing, all-weaken, and-assoc, eqb-sym, never, split, either}
 use Rattle.accounts.proofs.RangeLaws.{sum-add, length-between, length-map, last-greatest, num-below, renumbered}
-use Rattle.accounts.proofs.TurnLaws.{lookup-all, bind, test, lookup, Within, Keeps, lookup-key, begin, begunAt, Below, lookup-begin, within-begin, turn-within, turn-at, between-ext, pick-between, all-put, all-pick}
+use Rattle.accounts.proofs.TurnLaws.{lookup-all, bind, test, lookup, Within, Keeps, lookup-key, begin, begunAt, Below, lookup-begin, within-begin, turn-within, turn-at, between-ext, pick-between, all-pick}
+use Rattle.model.proofs.TableLaws.{all-put}
 
 -- ---- one writer
 
@@ -144,26 +145,10 @@ automatic-is ManualByTopic = refl
 
 -- the record that a match puts in
 abbrev pub start : TrackerCall → Sheet → List Writer → Option Writer
-start matched s ws = some (matchedWriter s (find (hasGuid (s .guid)) ws))
-start unmatched s ws = none
-start lostWithParticipant s ws = none
-start writerAsserted s ws = none
-start participantAsserted s ws = none
-start expire s ws = none
-start takeLost s ws = none
-start takeStatus s ws = none
-start acknowledge s ws = none
+start c s ws = cond (trackerRule c .matches) (some (matchedWriter s (find (hasGuid (s .guid)) ws))) none
 
 pub begun-is : (c : TrackerCall) (s : Sheet) (ws : List Writer) → writersBegun c s ws ≡ begin writerKey (start c s ws) ws
-begun-is matched s ws = refl
-begun-is unmatched s ws = refl
-begun-is lostWithParticipant s ws = refl
-begun-is writerAsserted s ws = refl
-begun-is participantAsserted s ws = refl
-begun-is expire s ws = refl
-begun-is takeLost s ws = refl
-begun-is takeStatus s ws = refl
-begun-is acknowledge s ws = refl
+begun-is c s ws = split (trackerRule c .matches) (λ e. rw e) (λ e. rw e)
 
 pub matched-guid : (s : Sheet) (o : Option Writer) → matchedWriter s o .guid ≡ s .guid
 matched-guid s none = refl
@@ -176,15 +161,9 @@ matched-guid s (some w) = go (w .liveliness .state)
     go Departed = refl
 
 start-below : (c : TrackerCall) (s : Sheet) (ws : List Writer) → FitsGuid (s .guid) → Below writerKey bound (start c s ws)
-start-below matched s ws f = rw (matched-guid s (find (hasGuid (s .guid)) ws)) (num-below (s .guid) f)
-start-below unmatched s ws f = tt
-start-below lostWithParticipant s ws f = tt
-start-below writerAsserted s ws f = tt
-start-below participantAsserted s ws f = tt
-start-below expire s ws f = tt
-start-below takeLost s ws f = tt
-start-below takeStatus s ws f = tt
-start-below acknowledge s ws f = tt
+start-below c s ws f =
+    either (Below writerKey bound) (trackerRule c .matches) (some (matchedWriter s (find (hasGuid (s .guid)) ws))) none
+    (λ e. rw (matched-guid s (find (hasGuid (s .guid)) ws)) (num-below (s .guid) f)) (λ e. tt)
 
 asserted-key : (a : M.Assertion) (w : Writer) → asserted a w .guid ≡ w .guid
 unfolding asserted
@@ -353,17 +332,13 @@ matches-class s (some w) = taking-class s (w .liveliness .state) (w .liveliness 
 
 quiet : (c : TrackerCall) (s : Sheet) (ws : List Writer) (j : ℕ) →
     class (begunAt writerKey (start c s ws) j (lookup writerKey j ws)) ≡ class (lookup writerKey j ws)
-quiet matched s ws j =
-    ap class (matched-at s j ws)
-    ∙ split (isNamed s j) (λ e. rw e (matches-class s (lookup writerKey j ws))) (λ e. rw e)
-quiet unmatched s ws j = refl
-quiet lostWithParticipant s ws j = refl
-quiet writerAsserted s ws j = refl
-quiet participantAsserted s ws j = refl
-quiet expire s ws j = refl
-quiet takeLost s ws j = refl
-quiet takeStatus s ws j = refl
-quiet acknowledge s ws j = refl
+quiet c s ws j =
+    either
+    (λ (o : Option Writer). class (begunAt writerKey o j (lookup writerKey j ws)) ≡ class (lookup writerKey j ws))
+    (trackerRule c .matches) (some (matchedWriter s (find (hasGuid (s .guid)) ws))) none
+    (λ e. ap class (matched-at s j ws)
+    ∙ split (isNamed s j) (λ d. rw d (matches-class s (lookup writerKey j ws))) (λ d. rw d))
+    (λ e. refl)
 
 -- ---- the table and all accounts
 
@@ -386,17 +361,11 @@ guids-fit (w ∷ ws) f = (f .0, guids-fit ws (f .1))
 
 begun-fit : (c : TrackerCall) (s : Sheet) (ws : List Writer) → FitsGuid (s .guid) → All FitGuid ws →
     All FitGuid (writersBegun c s ws)
-begun-fit matched s ws g f =
-    all-put writerKey FitGuid (matchedWriter s (find (hasGuid (s .guid)) ws)) ws
-    (rw (matched-guid s (find (hasGuid (s .guid)) ws)) g) f
-begun-fit unmatched s ws g f = f
-begun-fit lostWithParticipant s ws g f = f
-begun-fit writerAsserted s ws g f = f
-begun-fit participantAsserted s ws g f = f
-begun-fit expire s ws g f = f
-begun-fit takeLost s ws g f = f
-begun-fit takeStatus s ws g f = f
-begun-fit acknowledge s ws g f = f
+begun-fit c s ws g f =
+    either (All FitGuid) (trackerRule c .matches) (put writerKey (matchedWriter s (find (hasGuid (s .guid)) ws)) ws) ws
+    (λ e. all-put writerKey FitGuid (matchedWriter s (find (hasGuid (s .guid)) ws)) ws
+    (rw (matched-guid s (find (hasGuid (s .guid)) ws)) g) f)
+    (λ e. f)
 
 pub movers-fit : (c : TrackerCall) (s : Sheet) (ws : List Writer) → FitsGuid (s .guid) → All Plain ws →
     All FitsGuid (movers c s ws)
@@ -482,6 +451,18 @@ lapsed-is clock (some w) =
     unmoved alive = refl
     unmoved notAlive = refl
     unmoved neither = refl
+
+-- and that call alone puts those into Lost
+pub only-expire : (c : TrackerCall) → appends (trackerRule c .lost) ≡ true → c ≡ expire
+only-expire matched e = never (sym e)
+only-expire unmatched e = never (sym e)
+only-expire lostWithParticipant e = never (sym e)
+only-expire writerAsserted e = never (sym e)
+only-expire participantAsserted e = never (sym e)
+only-expire expire e = refl
+only-expire takeLost e = never (sym e)
+only-expire takeStatus e = never (sym e)
+only-expire acknowledge e = never (sym e)
 
 pub expired-are : (s : Sheet) (ws : List Writer) (acc : Writers) → FitsGuid (s .guid) → All Plain ws →
     Within writerKey 0 bound ws → ((j : ℕ) → lookup writerKey j ws ≡ acc j) →

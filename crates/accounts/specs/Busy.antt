@@ -8,11 +8,13 @@ use lib.IntN.{_+ℤ_}
 use lib.ListN.{length}
 use mir.Syntax.{w32}
 use mir.Val.{toZ}
+use Rattle.model.specs.declared.AcknowledgeUse.{AcknowledgeUse}
+use Rattle.model.specs.declared.AcknowledgeUse.the-variants.{Nothing, Whole, Part}
 use Rattle.model.specs.declared.Sheet.{Sheet}
 use Rattle.model.specs.declared.InstanceCall.{InstanceCall}
 use Rattle.model.specs.declared.TrackerCall.{TrackerCall}
 use Rattle.model.specs.declared.JoinedCall.{JoinedCall}
-use Rattle.model.specs.declared.TrackerCall.the-variants.{Matched as matched, Unmatched as unmatched, LostWithParticipant as lostWithParticipant, WriterAsserted as writerAsserted, ParticipantAsserted as participantAsserted, Expire as expire, TakeLost as takeLost, TakeStatus as takeStatus, Acknowledge as acknowledge}
+use Rattle.model.specs.declared.TrackerCall.the-variants.{Expire as expire}
 use Rattle.model.specs.declared.JoinedCall.the-variants.{Admit as admit, Lapse as lapse, Part as part, Depart as depart}
 use Rattle.model.specs.Calls.{Call, instances, tracker, joined}
 use Rattle.model.specs.Guids.{num}
@@ -23,6 +25,7 @@ use Rattle.model.specs.Refusals.{nanosecondsOk, timesUsed, clocksUsed, holderFi
 use Rattle.model.specs.Tables.{all, isSome}
 use Rattle.model.specs.Times.{negative}
 use Rattle.model.specs.WellFormed.{clockOk, within}
+use Rattle.model.specs.Writers.{trackerRule, appends}
 use Rattle.accounts.specs.Accounts.{Accounts, instancesIn, writersIn}
 use Rattle.accounts.specs.WriterAccounts.{expiredIn, writersAfter}
 
@@ -37,21 +40,15 @@ pub record Ordered (c : Call) (s : Sheet) : Type 0 where
 
 -- ---- the numbers that are left: 8 in code 40 alone, and 9 to 13
 
--- code 40
-abbrev pub acknowledgesIn : TrackerCall → Bool
-acknowledgesIn matched = false
-acknowledgesIn unmatched = false
-acknowledgesIn lostWithParticipant = false
-acknowledgesIn writerAsserted = false
-acknowledgesIn participantAsserted = false
-acknowledgesIn expire = false
-acknowledgesIn takeLost = false
-acknowledgesIn takeStatus = false
-acknowledgesIn acknowledge = true
+-- a part: code 40
+abbrev pub inPart : AcknowledgeUse → Bool
+inPart Nothing = false
+inPart Whole = false
+inPart Part = true
 
 abbrev pub acknowledges : Call → Bool
 acknowledges (instances c) = false
-acknowledges (tracker c) = acknowledgesIn c
+acknowledges (tracker c) = inPart (trackerRule c .acknowledges)
 acknowledges (joined c) = false
 
 -- accepted, or refused by 9 to 13
@@ -86,37 +83,32 @@ busyInstance places c s acc =
     cond (limitedBy (rule c .reach) && limitMet s acc) 0
     (cond ((startsBy (rule c .reach) && isNew s acc) && placesTaken places acc) 9
     (cond ((startsBy (rule c .reach) && isNew s acc) && handlesSpent acc) 13
-    (cond (rule c .addsWriter && crowds s (reached c s (instancesIn acc))) 10 0)))
+    (cond (rule c .«adds_writer» && crowds s (reached c s (instancesIn acc))) 10 0)))
 
 -- ---- 11, 12 and 8
 
 -- 11: new GUID, 128 writer records
-abbrev pub busyMatch : Sheet → Accounts → ℕ
-busyMatch s acc = cond (not (isSome (acc .writers .at (num (s .guid)))) && leb 128 (length (writersIn acc))) 11 0
+abbrev pub busyMatch : Sheet → Accounts → Bool
+busyMatch s acc = not (isSome (acc .writers .at (num (s .guid)))) && leb 128 (length (writersIn acc))
 
 -- 12: expiries beyond 256 in Lost
-abbrev pub busyExpire : Sheet → Accounts → ℕ
-busyExpire s acc =
-    cond (ltb 256
-    (length (acc .writers .lost) + length (expiredIn (acc .writers .at) (writersAfter expire s (acc .writers .at))))) 12 0
+abbrev pub busyExpire : TrackerCall → Sheet → Accounts → Bool
+busyExpire c s acc =
+    ltb 256
+    (length (acc .writers .lost) + length (expiredIn (acc .writers .at) (writersAfter c s (acc .writers .at))))
 
 -- 8: acknowledge taking count minus change beyond ±2^30
-abbrev pub busyAcknowledge : Sheet → Accounts → ℕ
+abbrev pub busyAcknowledge : Sheet → Accounts → Bool
 busyAcknowledge s acc =
-    cond (not (within (acc .writers .acknowledgedAlive +ℤ toZ w32 (s .first))
-    && within (acc .writers .acknowledgedNotAlive +ℤ toZ w32 (s .second)))) 8 0
+    not (within (acc .writers .acknowledgedAlive +ℤ toZ w32 (s .first))
+    && within (acc .writers .acknowledgedNotAlive +ℤ toZ w32 (s .second)))
 
 -- tracker calls
 abbrev pub busyTracker : TrackerCall → Sheet → Accounts → ℕ
-busyTracker matched s acc = busyMatch s acc
-busyTracker unmatched s acc = 0
-busyTracker lostWithParticipant s acc = 0
-busyTracker writerAsserted s acc = 0
-busyTracker participantAsserted s acc = 0
-busyTracker expire s acc = busyExpire s acc
-busyTracker takeLost s acc = 0
-busyTracker takeStatus s acc = 0
-busyTracker acknowledge s acc = busyAcknowledge s acc
+busyTracker c s acc =
+    cond (inPart (trackerRule c .acknowledges) && busyAcknowledge s acc) 8
+    (cond (trackerRule c .matches && busyMatch s acc) 11
+    (cond (appends (trackerRule c .lost) && busyExpire c s acc) 12 0))
 
 -- ---- joined calls
 
@@ -133,7 +125,7 @@ busyAdmit places s acc =
 -- codes 49 to 51 meet what 37, 33 and 34 meet
 abbrev pub busyJoined : ℕ → JoinedCall → Sheet → Accounts → ℕ
 busyJoined places admit s acc = busyAdmit places s acc
-busyJoined places lapse s acc = busyExpire s acc
+busyJoined places lapse s acc = cond (busyExpire expire s acc) 12 0
 busyJoined places part s acc = 0
 busyJoined places depart s acc = 0
 

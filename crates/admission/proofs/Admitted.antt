@@ -20,19 +20,19 @@ use Rattle.model.specs.declared.Sheet.{Sheet}
 use Rattle.model.specs.Answers.{both}
 use Rattle.model.specs.Guids.{num}
 use Rattle.model.specs.Handles.{allocated}
-use Rattle.model.specs.InstanceCalls.{Turned, withInstances, begins, samplesAnswer, infoAnswer, instanceTurn}
+use Rattle.model.specs.InstanceCalls.{Turned, withInstances, begins, samplesAnswer, infoAnswer, answerOf, instanceTurn}
 use Rattle.model.specs.Instances.{effect, rule, hasKey, reaches, ownershipTried, admittedObserved, admittedNoted, writerNoted, started}
 use Rattle.model.specs.Joined.{admitted}
 use Rattle.model.specs.State.{State, instanceKey}
 use Rattle.model.specs.Tables.{rising}
 use Rattle.tables.specs.declared.Found.the-variants.{Missing}
 use Rattle.tables.specs.Found.{foundIn}
-use Rattle.turns.specs.Places.{Only, Nowhere}
-use Rattle.turns.proofs.Finds.{any-only, only-insert, only-set}
-use Rattle.turns.proofs.Keys.{missing-nowhere, missing-le}
-use Rattle.instance_tracker.specs.Rules.{single, saysOf, answerOf}
-use Rattle.instance_tracker.specs.Turned.{withState}
-use Rattle.instance_tracker.proofs.Turns.{turn-found, turn-none, turn-started}
+use Rattle.tables.specs.Places.{Only, Nowhere}
+use Rattle.tables.proofs.Finds.{any-only, only-insert, only-set}
+use Rattle.tables.proofs.Puts.{missing-nowhere, missing-le}
+use Rattle.instance_reach.specs.Rules.{single}
+use Rattle.instance_reach.specs.Turned.{withState}
+use Rattle.instance_reach.proofs.Turns.{turn-found, turn-none, turn-started}
 
 -- the turn that leaves the instances ys
 abbrev pub leaving : Answer → List Instance → ℕ → State → Turned
@@ -53,11 +53,11 @@ module _ (s : Sheet) (d : Instance) where
   turn-at : (c : InstanceCall) (st : State) (i : ℕ) (x : Instance) (z : InstanceState) → single (rule c .reach) ≡ true → begins c s st ≡ false →
       Only (reaches c s) (st .instances) i d → getD (st .instances) i d ≡ x → effect c s (x .state) ≡ some z →
       instanceTurn c s st
-      ≡ leaving (answerOf (saysOf c) s (some x) (some (withState x z))) (set (st .instances) i (withState x z)) (st .nextHandle) st
+      ≡ leaving (answerOf (rule c .says) s (some x) (some (withState x z))) (set (st .instances) i (withState x z)) (st .nextHandle) st
   turn-at c st i x z h old o is e =
       subst
       (λ (y : Instance). instanceTurn c s st
-      ≡ leaving (answerOf (saysOf c) s (some y) (some (withState y z))) (set (st .instances) i (withState y z)) (st .nextHandle) st) is
+      ≡ leaving (answerOf (rule c .says) s (some y) (some (withState y z))) (set (st .instances) i (withState y z)) (st .nextHandle) st) is
       (turn-found c s st old i d z h o (rw is e))
 
   module _ (st : State) (i : ℕ) where

@@ -2,7 +2,7 @@
 --     known-read, known-place, known-usable, known-room    what a known instance gives
 --     order-left, filter-left, crowded-left, weaker-left   a known key: nothing is written
 --     admitted-left                                        the instance is replaced
---     limited-left, full-left, spent-left                  a new key: nothing is written
+--     limited-left, refused-left                           a new key: nothing is written
 --     new-within, first-left                               the instance is put in
 -- Assumes nothing.
 use Prim.Native.Nat.{ℕ, _+_, _*_, _≤_, _<_, _^_}
@@ -31,14 +31,14 @@ use Rattle.model.specs.State.{State, instanceKey, instancesIn}
 use Rattle.model.specs.Tables.{find}
 use Rattle.tables.specs.declared.Found.the-variants.{Missing}
 use Rattle.tables.specs.Found.{foundIn}
-use Rattle.turns.specs.Places.{Only}
-use Rattle.turns.proofs.Finds.{find-only, find-nowhere}
-use Rattle.turns.proofs.Keys.{missing-nowhere, missing-le}
+use Rattle.tables.specs.Places.{Only}
+use Rattle.tables.proofs.Finds.{find-only, find-nowhere}
+use Rattle.tables.proofs.Puts.{missing-nowhere, missing-le}
 use Rattle.instance_fields.specs.Usable.{Usable, Room}
 use Rattle.instance_table.specs.Laid.{Laid}
-use Rattle.instance_table.specs.TableCalls.{Ready, stateWith}
-use Rattle.instance_tracker.specs.Turned.{Left, blank, withState}
-use Rattle.instance_tracker.proofs.Table.{ready-length, ready-rises, ready-few, ready-laid, ready-place, ready-read, ready-usable, ready-room}
+use Rattle.instance_table.specs.TableCalls.{TableFormed, stateWith}
+use Rattle.instance_reach.specs.Turned.{LeavesTable, startRefusal, blank, withState}
+use Rattle.instance_reach.proofs.Table.{start-cases, ready-length, ready-rises, ready-few, ready-laid, ready-place, ready-read, ready-usable, ready-room}
 use Rattle.admission.specs.Admits.{Admits, Known, Timely, Noted, limited}
 use Rattle.admission.proofs.Admitted.{leaving, answersOf, admitted-known, admitted-new}
 use Rattle.admission.proofs.Tests.{out-of-order, filtered, crowded-out, weaker, admits-known, new-limited, new-full, new-spent, admits-new}
@@ -46,10 +46,10 @@ use Rattle.admission.proofs.Tests.{out-of-order, filtered, crowded-out,
 -- what the code leaves is what the turn leaves
 done-left : {places : ℕ} {T : Turned} {a : Answer} {ys : List Instance} {next : ℕ} {t : List ℕ} →
     T ≡ record { answer = a; state = stateWith ys next; list = [] } → (b : Answer) (n : ℕ) (h : InstanceHandle) → b ≡ a → n ≡ length ys →
-    h .0 ≡ next → Laid places ys t → Left places T (record { answer = b; count = n; «next_handle» = h }) t
+    h .0 ≡ next → Laid places ys t → LeavesTable places T (record { answer = b; count = n; «next_handle» = h }) t
 done-left q b n h e m k l = rw q (record { answer = e; count = m; next = k; laid = l; quiet = refl })
 
-module _ {places count next : ℕ} {t : List ℕ} (r : Ready places count next t) (s : Sheet) where
+module _ {places count next : ℕ} {t : List ℕ} (r : TableFormed places count next t) (s : Sheet) where
   abbrev xs : List Instance
   xs = instancesIn count t
 
@@ -124,7 +124,7 @@ module _ {places count next : ℕ} {t : List ℕ} (r : Ready places count next t
       limited-left l e same = same-left (stopping 3) b h (new-limited places s st nobody (counted ∙ l)) e same
 
       module _ (l : limited s count ≡ false) where
-        pub full-left : places ≤ count → b ≡ refusedWith 9 → h .0 ≡ next → Admits places s xs next (record { answer = b; count = count; «next_handle» = h }) t
+        full-left : places ≤ count → b ≡ refusedWith 9 → h .0 ≡ next → Admits places s xs next (record { answer = b; count = count; «next_handle» = h }) t
         full-left f e same =
             same-left (refusedWith 9) b h (new-full places s st nobody (counted ∙ l) (le-leb places (length xs) (omega (arith, ready-length r)))) e same
 
@@ -132,7 +132,7 @@ module _ {places count next : ℕ} {t : List ℕ} (r : Ready places count next t
           free : length xs < places
           free = omega (arith, ready-length r)
 
-          pub spent-left : 9223372036854775808 ≤ next → b ≡ refusedWith 13 → h .0 ≡ next →
+          spent-left : 9223372036854775808 ≤ next → b ≡ refusedWith 13 → h .0 ≡ next →
               Admits places s xs next (record { answer = b; count = count; «next_handle» = h }) t
           spent-left p e same =
               same-left (refusedWith 13) b h
@@ -150,6 +150,12 @@ module _ {places count next : ℕ} {t : List ℕ} (r : Ready places count next t
               (admits-new places s st nobody (counted ∙ l) (lt-leb places (length xs) free) (lt-leb (2 ^ 63) next p)
               ∙ admitted-new s blank st i (ready-rises r) m x new
               ∙ ap (λ (v : Instance). leaving (answersOf v) (take i xs ++ v ∷ drop i xs) (allocated next .counter) st) (sym (a .left))) b n h e o k (laid places xs (ready-laid r bytes) (ready-length r) f)
+
+        pub refused-left : (n : ℕ) → n ≡ startRefusal places count next → (n ≡ 0 → ⊥) → b ≡ refusedWith n → h .0 ≡ next →
+            Admits places s xs next (record { answer = b; count = count; «next_handle» = h }) t
+        refused-left n e z q same =
+            start-cases places count next n e (λ (k : ℕ). b ≡ refusedWith k → Admits places s xs next (record { answer = b; count = count; «next_handle» = h }) t)
+            (λ f d. full-left f d same) (λ f p d. spent-left f p d same) z q
 
   pub new-within : (i : ℕ) → foundIn (map instanceKey xs) (num (s .key)) ≡ Missing i → i ≤ count
   new-within i m = omega (arith, missing-le instanceKey xs blank (ready-rises r) (num (s .key)) i m, ready-length r)

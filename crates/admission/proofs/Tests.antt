@@ -17,7 +17,7 @@ use Rattle.model.specs.Joined.{inOrder, passesFilter, admitted, admitWith, admi
 use Rattle.model.specs.State.{State}
 use Rattle.model.specs.Tables.{isSome, find}
 use Rattle.model.specs.Times.{filterAdmits, orderAdmits}
-use Rattle.turns.proofs.Finds.{any-find}
+use Rattle.tables.proofs.Finds.{any-find}
 use Rattle.admission.specs.Admits.{Timely, limited}
 
 module _ (places : ℕ) (s : Sheet) (st : State) where

@@ -3,7 +3,6 @@
 --     Known, Timely     the instance of the key stands at a place; its sample passes order and filter
 --     Noted             what codes 9 and 10 leave of an instance
 --     limited           the limit of instances, for a new key
--- Rests on model's joined calls and on instance_tracker's turns.
 use Prim.Native.Nat.{ℕ, _<_}
 use mathlib.Core.Bool.{Bool, true, not, _&&_}
 use mathlib.Core.List.{List}
@@ -17,14 +16,14 @@ use Rattle.model.specs.declared.Sheet.{Sheet}
 use Rattle.model.specs.Instances.{hasKey, admittedObserved, admittedNoted}
 use Rattle.model.specs.Joined.{admitCall, inOrder, passesFilter}
 use Rattle.model.specs.Times.{negative}
-use Rattle.turns.specs.Places.{Only}
+use Rattle.tables.specs.Places.{Only}
 use Rattle.instance_table.specs.declared.TableCall.{TableCall}
 use Rattle.instance_table.specs.TableCalls.{stateWith}
-use Rattle.instance_tracker.specs.Turned.{Left, blank, withState}
+use Rattle.instance_reach.specs.Turned.{LeavesTable, blank, withState}
 
 -- r and t are what admit leaves of the instances xs
 abbrev pub Admits : ℕ → Sheet → List Instance → ℕ → TableCall → List ℕ → Type 0
-Admits places s xs next r t = Left places (admitCall places s (stateWith xs next)) r t
+Admits places s xs next r t = LeavesTable places (admitCall places s (stateWith xs next)) r t
 
 -- x, at place i, is the instance of the sheet's key
 pub record Known (s : Sheet) (xs : List Instance) (i : ℕ) (x : Instance) : Type 0 where

@@ -2,8 +2,6 @@
 // read once and written once. Outcomes: 1 out of order, 2 filtered, 3 a new instance at the limit, 4 a weaker writer, 0
 // admitted. Refused are 9, a new instance where every place is taken; 13, one where the next handle is 2^63; and 10, a new
 // writer where the instance has 16. Only outcome 0 writes.
-// Rests on answers, sample_time, instance_handle, instance_record, instance_samples, instance_ownership, instance_state,
-// instance_table and instance_tracker.
 //
 // Derives from instance_tracker.rs of ZeroDDS.
 // Copyright 2026 ZeroDDS Contributors. SPDX-License-Identifier: Apache-2.0. Changed: written anew in Rattle, with the
@@ -28,10 +26,10 @@ ghost use Rattle.model.specs.Joined.{admitCall, inOrder, passesFilter};
 ghost use Rattle.model.specs.State.{instanceKey, instancesIn};
 ghost use Rattle.tables.specs.declared.Found.the-variants.{Missing};
 ghost use Rattle.tables.specs.Found.{foundIn};
-ghost use Rattle.turns.specs.Places.{Only};
+ghost use Rattle.tables.specs.Places.{Only};
 ghost use Rattle.instance_fields.specs.Usable.{Usable, Room};
-ghost use Rattle.instance_table.specs.TableCalls.{Ready, stateWith};
-ghost use Rattle.instance_tracker.specs.Turned.{Left, blank};
+ghost use Rattle.instance_table.specs.TableCalls.{TableFormed, stateWith};
+ghost use Rattle.instance_reach.specs.Turned.{LeavesTable, blank};
 ghost use Rattle.admission.specs.Admits.{Admits, Known, Timely, Noted, limited};
 
 // ---- the answers
@@ -105,7 +103,7 @@ fn noted(s: Sheet, x: Instance, z: InstanceState) -> Instance
     }
 }
 
-// The instance x, at place i, takes the sample: ownership, then codes 9 and 10.
+// The instance x, at place i, takes the sample, whose writer takes over: ownership, then codes 9 and 10.
 fn admit_at(
     s: Sheet,
     pens: &mut [u8],
@@ -115,12 +113,12 @@ fn admit_at(
     count: u32,
     next: InstanceHandle,
 ) -> TableCall
-    requires { ⌜ Ready places count (next .0) (now pens) × Known s (instancesIn count (now pens)) i x × Timely s x × (crowds s (some x) ≡ false)
+    requires { ⌜ TableFormed places count (next .0) (now pens) × Known s (instancesIn count (now pens)) i x × Timely s x × (crowds s (some x) ≡ false)
         × (takesOver s (x .state) ≡ true) ⌝ }
     ensures { λ r. ⌜ Admits places s (instancesIn count (now (pens .entry))) (next .0) r (now (pens .exit)) ⌝ }
 {
     let before = x.state;
-    let owned = instance_ownership::ownership_tried(s, before);
+    let owned = instance_ownership::owned_from(s, before);
     let y = noted(s, x, owned);
     instance_table::replace(pens, i, y);
     TableCall {
@@ -139,14 +137,14 @@ fn admit_first(
     count: u32,
     next: InstanceHandle,
 ) -> TableCall
-    requires { ⌜ Ready places count (next .0) (now pens) × (foundIn (map instanceKey (instancesIn count (now pens))) (num (s .key)) ≡ Missing i)
+    requires { ⌜ TableFormed places count (next .0) (now pens) × (foundIn (map instanceKey (instancesIn count (now pens))) (num (s .key)) ≡ Missing i)
         × (limited s count ≡ false) × (count < places) × (next .0 < 9223372036854775808) ⌝ }
     ensures { λ r. ⌜ Admits places s (instancesIn count (now (pens .entry))) (next .0) r (now (pens .exit)) ⌝ }
 {
     let key = s.key;
     let a = instance_handle::allocate_step(next.0);
     let h = a.handle;
-    let x = instance_state::started(key, h.0);
+    let x = instance_effects::started(key, h.0);
     let z = x.state;
     let y = noted(s, x, z);
     instance_table::insert(pens, count as usize, i, y);
@@ -169,11 +167,11 @@ fn admit_timely(
     count: u32,
     next: InstanceHandle,
 ) -> TableCall
-    requires { ⌜ Ready places count (next .0) (now pens) × Known s (instancesIn count (now pens)) i x × Timely s x ⌝ }
+    requires { ⌜ TableFormed places count (next .0) (now pens) × Known s (instancesIn count (now pens)) i x × Timely s x ⌝ }
     ensures { λ r. ⌜ Admits places s (instancesIn count (now (pens .entry))) (next .0) r (now (pens .exit)) ⌝ }
 {
     let before = x.state;
-    let full = instance_tracker::crowds(s, x);
+    let full = instance_reach::crowds(s, x);
     let stronger = instance_ownership::takes_over(s, before);
     if full {
         return TableCall {
@@ -201,7 +199,7 @@ fn admit_known(
     count: u32,
     next: InstanceHandle,
 ) -> TableCall
-    requires { ⌜ Ready places count (next .0) (now pens) × Only (hasKey (s .key)) (instancesIn count (now pens)) i blank ⌝ }
+    requires { ⌜ TableFormed places count (next .0) (now pens) × Only (hasKey (s .key)) (instancesIn count (now pens)) i blank ⌝ }
     ensures { λ r. ⌜ Admits places s (instancesIn count (now (pens .entry))) (next .0) r (now (pens .exit)) ⌝ }
 {
     let x = instance_record::instance_at(pens, i);
@@ -234,28 +232,20 @@ fn admit_new(
     count: u32,
     next: InstanceHandle,
 ) -> TableCall
-    requires { ⌜ Ready places count (next .0) (now pens) × (foundIn (map instanceKey (instancesIn count (now pens))) (num (s .key)) ≡ Missing i) ⌝ }
+    requires { ⌜ TableFormed places count (next .0) (now pens) × (foundIn (map instanceKey (instancesIn count (now pens))) (num (s .key)) ≡ Missing i) ⌝ }
     ensures { λ r. ⌜ Admits places s (instancesIn count (now (pens .entry))) (next .0) r (now (pens .exit)) ⌝ }
 {
-    let used = count as usize;
-    let counter = next.0;
-    if instance_tracker::at_limit(s.first, count) {
+    if instance_reach::at_limit(s.first, count) {
         return TableCall {
             answer: stopped(0, 3),
             count: count,
             next_handle: next,
         };
     }
-    if places <= used {
+    let n = instance_reach::start_refusal(places, count, next);
+    if n != 0 {
         return TableCall {
-            answer: stopped(9, 0),
-            count: count,
-            next_handle: next,
-        };
-    }
-    if 9223372036854775808 <= counter {
-        return TableCall {
-            answer: stopped(13, 0),
+            answer: stopped(n, 0),
             count: count,
             next_handle: next,
         };
@@ -273,8 +263,8 @@ pub fn admit(
     count: u32,
     next: InstanceHandle,
 ) -> TableCall
-    requires { ⌜ Ready places count (next .0) (now pens) ⌝ }
-    ensures { λ r. ⌜ Left places (admitCall places s (stateWith (instancesIn count (now (pens .entry))) (next .0))) r (now (pens .exit)) ⌝ }
+    requires { ⌜ TableFormed places count (next .0) (now pens) ⌝ }
+    ensures { λ r. ⌜ LeavesTable places (admitCall places s (stateWith (instancesIn count (now (pens .entry))) (next .0))) r (now (pens .exit)) ⌝ }
 {
     let key = s.key;
     let f = instance_table::find_key(pens, count as usize, key);

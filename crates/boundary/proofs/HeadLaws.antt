@@ -16,10 +16,12 @@ use lib.Seq.{take-all}
 use mir.Facts.{toZ-ofZ, ofZ-toZ, fits-ofZ}
 use mir.Syntax.{w32}
 use mir.Val.{SFits, ofZ, toZ}
-use Rattle.octets.specs.Bounds.{Bytes, be-lt}
+use Rattle.octets.specs.Bounds.{Bytes}
+use Rattle.octets.proofs.BoundLaws.{be-lt}
 use Rattle.octets.specs.Fields.{reads, Fit}
 use Rattle.octets.specs.Octets.{be}
-use Rattle.octets.specs.Patch.{fields, length-fields}
+use Rattle.octets.specs.Patch.{fields}
+use Rattle.octets.proofs.PatchLaws.{length-fields}
 use Rattle.model.specs.declared.Guid.{Guid}
 use Rattle.model.specs.declared.Head.{Head}
 use Rattle.model.specs.declared.LastWriter.{LastWriter}
@@ -27,7 +29,7 @@ use Rattle.model.specs.declared.LastWriter.the-variants.{Nobody, Is}
 use Rattle.model.specs.Guids.{guidAt}
 use Rattle.model.proofs.FieldLaws.{reads-front, fields-reads}
 use Rattle.model.proofs.Fits.{FitsGuid}
-use Rattle.model.proofs.RowLaws.{both}
+use Rattle.model.proofs.Tests.{both}
 use Rattle.boundary.specs.Layouts.{lastPresent, lastGuid, lastWriter, headWidths, headValues, headBytes, headIn, headLaid}
 
 pub record FitsHead (h : Head) : Type 0 where

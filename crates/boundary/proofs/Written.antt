@@ -9,7 +9,8 @@ use mathlib.Core.List.{List, append-nil}
 use native.Mathlib.Omega.{arith}
 use lib.ListN.{length, drop-of-length-le}
 use Rattle.octets.specs.Fields.{puts}
-use Rattle.octets.specs.Patch.{patch, puts-patch}
+use Rattle.octets.specs.Patch.{patch}
+use Rattle.octets.proofs.PatchLaws.{puts-patch}
 use Rattle.model.specs.declared.Answer.{Answer}
 use Rattle.model.specs.declared.Head.{Head}
 use Rattle.boundary.specs.Layouts.{headWidths, headValues, headBytes, answerWidths, answerValues, answerBytes}

@@ -1,5 +1,5 @@
 // The head and the answer in bytes, as a recorded list holds them and as they cross the C boundary: 64 and 72 bytes, whose
-// layout stands in specs/Layouts. Rests on octets, model, guid and numbers.
+// layout stands in specs/Layouts.
 use model::Answer;
 use model::Guid;
 use model::Head;
@@ -155,7 +155,7 @@ pub fn head_laid(b: &[u8]) -> bool
 // ---- the answer
 
 // A yes as 1.
-fn bit_of(b: bool) -> u8
+pub fn bit_of(b: bool) -> u8
     ensures { λ r. ⌜ r ≡ bit b ⌝ }
 {
     if b { 1 } else { 0 }

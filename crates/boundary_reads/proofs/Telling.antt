@@ -9,7 +9,7 @@ use native.Mathlib.Omega.{arith}
 use borrow.Author.Tests.{eq-eqb, ne-eqb}
 use lib.ListN.{length}
 use Rattle.octets.specs.Fields.{puts}
-use Rattle.octets.specs.Patch.{puts-patch}
+use Rattle.octets.proofs.PatchLaws.{puts-patch}
 use Rattle.boundary.proofs.Written.{whole}
 use Rattle.boundary_reads.specs.declared.ReadAnswer.{ReadAnswer}
 use Rattle.boundary_reads.specs.ReadAnswers.{readWidths, readValues, readBytes, bitWidths, bitValues, valueWidths, valueValues, toldOf, told}

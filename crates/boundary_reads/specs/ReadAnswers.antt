@@ -92,12 +92,12 @@ changesAnswer (changesIs n) = readOf 0 false false 0 n
 
 -- ---- what a read leaves: the number that is returned, and the answer's bytes. The answer's length belongs to refusal 1
 
-pub record Told : Type 0 where
+pub record AnswerTold : Type 0 where
   pub number : ℕ
   pub answer : List ℕ
 
-abbrev pub toldOf : ℕ → List ℕ → Told
+abbrev pub toldOf : ℕ → List ℕ → AnswerTold
 toldOf number answer = record { number = number; answer = answer }
 
-unfoldable pub told : ReadAnswer → List ℕ → Told
+unfoldable pub told : ReadAnswer → List ℕ → AnswerTold
 told a answer = cond (eqb (length answer) 24) (toldOf (a .number) (readBytes a)) (toldOf 1 answer)

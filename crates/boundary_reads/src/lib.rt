@@ -1,5 +1,4 @@
 // The answers of the reads in bytes, as they cross the C boundary: 24 bytes, whose layout stands in specs/ReadAnswers.
-// Rests on octets, model, numbers and boundary.
 use model::ChangesRead;
 use model::Decision;
 use model::FoundHandle;
@@ -8,7 +7,6 @@ use model::Listing;
 ghost use mathlib.Core.Path.{_≡_};
 ghost use lib.ListN.{length};
 ghost use Rattle.octets.specs.Fields.{puts};
-ghost use Rattle.model.specs.InstanceRecord.{bit};
 ghost use Rattle.boundary_reads.specs.ReadAnswers.{bitWidths, bitValues, valueWidths, valueValues, refusedAnswer, decisionAnswer, handleAnswer, timeAnswer, listingAnswer, holderAnswer, changesAnswer, toldOf, told};
 
 // What a read answers.
@@ -156,22 +154,15 @@ pub fn changes_answer(c: ChangesRead) -> ReadAnswer
 
 // ---- the bytes
 
-// A yes as 1.
-fn bit_of(b: bool) -> u8
-    ensures { λ r. ⌜ r ≡ bit b ⌝ }
-{
-    if b { 1 } else { 0 }
-}
-
 // Number, yes, present and stored, from 0.
 fn write_bits(b: &mut [u8], a: ReadAnswer)
     requires { ⌜ length (now b) ≡ 24 ⌝ }
     ensures { λ _. ⌜ now (b .exit) ≡ puts bitWidths (bitValues a) (now (b .entry)) 0 0 ⌝ }
 {
     octets::put_u8(b, 0, a.number);
-    octets::put_u8(b, 1, bit_of(a.yes));
-    octets::put_u8(b, 2, bit_of(a.present));
-    octets::put_u8(b, 3, bit_of(a.stored));
+    octets::put_u8(b, 1, boundary::bit_of(a.yes));
+    octets::put_u8(b, 2, boundary::bit_of(a.present));
+    octets::put_u8(b, 3, boundary::bit_of(a.stored));
 }
 
 // The numbers, from 4.

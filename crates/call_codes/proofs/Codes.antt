@@ -1,67 +1,48 @@
--- The codes of the calls.
---     past        a code that is none of those passed is beyond them
---     unknown     a code of no range is no call's
+-- A code of no range is no call's.
 -- Assumes nothing.
-use Prim.Native.Nat.{ℕ, suc, _≤_}
-use mathlib.Core.Bool.{false}
-use mathlib.Core.List.{[], _∷_}
+use Prim.Native.Nat.{ℕ, _≤_}
+use mathlib.Core.Bool.{Bool, true, false, _&&_, _||_}
+use mathlib.Core.List.{List, [], _∷_}
 use mathlib.Core.Option.{none}
-use mathlib.Core.Logic.{⊎-elim}
-use mathlib.Core.Path.{_≡_, sym}
-use native.Mathlib.Nat.{eq-or-lt-of-le}
+use mathlib.Core.Path.{_≡_, refl, sym, ap, _∙_}
 use native.Mathlib.Omega.{arith}
-use types.Run.{OneOf}
-use borrow.Author.Tests.{ne-eqb}
-use lib.Dec.{eqb}
-use Rattle.model.specs.Calls.{calls, amongst, callOfCode}
+use borrow.Author.Tests.{ne-eqb, leb-true}
+use lib.Dec.{leb, eqb}
+use Rattle.model.specs.Calls.{Numbered, lastInstance, lastTracker, lastJoined, calls, amongst, callOfCode}
+use Rattle.model.specs.Tables.{all}
+use Rattle.model.proofs.Tests.{both}
 
-pub past : (a n : ℕ) → a ≤ n → (OneOf (a ∷ []) n → ⊥) → suc a ≤ n
-past a n h other = ⊎-elim (λ (e : a ≡ n). absurd (other (sym e))) (λ (l : suc a ≤ n). l) (eq-or-lt-of-le {n = a} {m = n} h)
+-- the codes of the ranges
+ranged : ℕ → Bool
+ranged k = (leb 1 k && leb k lastInstance) || ((leb 32 k && leb k lastTracker) || (leb 48 k && leb k lastJoined))
 
--- ---- no other code is a call's
+-- every call's code is one of them
+abbrev isRanged : Numbered → Bool
+isRanged c = ranged (c .code)
 
-far : (low high k n : ℕ) → low ≤ k → k ≤ high → (low ≤ n → n ≤ high → ⊥) → eqb k n ≡ false
-far low high k n l h outside = ne-eqb k n (λ e. outside (omega (arith, e, l)) (omega (arith, e, h)))
+beyond : (a b n : ℕ) → (a ≤ n → n ≤ b → ⊥) → (leb a n && leb n b) ≡ false
+beyond a b n h = each (leb a n) (leb n b) (λ e f. h (leb-true a n e) (leb-true n b f))
+  where
+    each : (p q : Bool) → (p ≡ true → q ≡ true → ⊥) → (p && q) ≡ false
+    each true true f = absurd (f refl refl)
+    each true false f = refl
+    each false q f = refl
 
-pub unknown : (n : ℕ) → (1 ≤ n → n ≤ 21 → ⊥) → (32 ≤ n → n ≤ 40 → ⊥) → (48 ≤ n → n ≤ 51 → ⊥) → callOfCode n ≡ none
-unfolding callOfCode amongst calls
+never : {A : Type 0} → true ≡ false → A
+never e = let z : _≡_ {A = ℕ} 0 1 = cc in absurd (omega arith)
+
+module _ (n : ℕ) (out : ranged n ≡ false) where
+  other : (k : ℕ) → ranged k ≡ true → eqb k n ≡ false
+  other k r = ne-eqb k n (λ e. never (sym r ∙ ap ranged e ∙ out))
+
+  none-of : (cs : List Numbered) → all isRanged cs ≡ true → amongst n cs ≡ none
+  unfolding amongst all
+  none-of [] e = refl
+  none-of (c ∷ cs) e =
+      let p = both (isRanged c) (all isRanged cs) e in
+      rw (other (c .code) (p .0)) (none-of cs (p .1))
+
+pub unknown : (n : ℕ) → (1 ≤ n → n ≤ lastInstance → ⊥) → (32 ≤ n → n ≤ lastTracker → ⊥) → (48 ≤ n → n ≤ lastJoined → ⊥) → callOfCode n ≡ none
+unfolding callOfCode calls all ranged
 unknown n a b c =
-    let i : (k : ℕ) → 1 ≤ k → k ≤ 21 → eqb k n ≡ false = λ k l h. far 1 21 k n l h a in
-    let t : (k : ℕ) → 32 ≤ k → k ≤ 40 → eqb k n ≡ false = λ k l h. far 32 40 k n l h b in
-    let j : (k : ℕ) → 48 ≤ k → k ≤ 51 → eqb k n ≡ false = λ k l h. far 48 51 k n l h c in
-    rw (
-      i 1 (omega arith) (omega arith),
-      i 2 (omega arith) (omega arith),
-      i 3 (omega arith) (omega arith),
-      i 4 (omega arith) (omega arith),
-      i 5 (omega arith) (omega arith),
-      i 6 (omega arith) (omega arith),
-      i 7 (omega arith) (omega arith),
-      i 8 (omega arith) (omega arith),
-      i 9 (omega arith) (omega arith),
-      i 10 (omega arith) (omega arith),
-      i 11 (omega arith) (omega arith),
-      i 12 (omega arith) (omega arith),
-      i 13 (omega arith) (omega arith),
-      i 14 (omega arith) (omega arith),
-      i 15 (omega arith) (omega arith),
-      i 16 (omega arith) (omega arith),
-      i 17 (omega arith) (omega arith),
-      i 18 (omega arith) (omega arith),
-      i 19 (omega arith) (omega arith),
-      i 20 (omega arith) (omega arith),
-      i 21 (omega arith) (omega arith),
-      t 32 (omega arith) (omega arith),
-      t 33 (omega arith) (omega arith),
-      t 34 (omega arith) (omega arith),
-      t 35 (omega arith) (omega arith),
-      t 36 (omega arith) (omega arith),
-      t 37 (omega arith) (omega arith),
-      t 38 (omega arith) (omega arith),
-      t 39 (omega arith) (omega arith),
-      t 40 (omega arith) (omega arith),
-      j 48 (omega arith) (omega arith),
-      j 49 (omega arith) (omega arith),
-      j 50 (omega arith) (omega arith),
-      j 51 (omega arith) (omega arith),
-    )
+    none-of n (rw (beyond 1 lastInstance n a, beyond 32 lastTracker n b, beyond 48 lastJoined n c)) calls refl

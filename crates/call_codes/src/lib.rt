@@ -1,54 +1,34 @@
-// A call's code: the call that it is. And what the sheets of the joined calls decide.
-// Rests on model and call_sheet.
+// A call's code: the call that it is. A call's row: what is said of it as a call. And what the sheets of the joined calls
+// decide.
 //
 // Derives from instance_tracker.rs and liveliness_tracker.rs of ZeroDDS.
 // Copyright 2026 ZeroDDS Contributors. SPDX-License-Identifier: Apache-2.0. Changed: written anew in Rattle, with the state
 // lent as head and buffers.
-use model::InstanceCall;
+use model::AcknowledgeUse;
+use model::ClockUse;
 use model::JoinedCall;
+use model::LostUse;
 use model::Sheet;
 use model::TrackerCall;
+use model::TrackerReport;
+use model::TrackerRule;
 ghost use mathlib.Core.Option.{some};
 ghost use mathlib.Core.Path.{_≡_};
 ghost use Prim.Native.Nat.{_≤_};
+ghost use mathlib.Core.Bool.{false};
+ghost use Rattle.model.specs.declared.AcknowledgeUse.the-variants.{Nothing};
+ghost use Rattle.model.specs.declared.ClockUse.the-variants.{NoClock};
 ghost use Rattle.model.specs.declared.JoinedCall.the-variants.{Admit, Lapse, Part, Depart};
-ghost use Rattle.model.specs.Calls.{instances, tracker, joined, callOfCode};
+ghost use Rattle.model.specs.Calls.{tracker, joined, lastTracker, lastJoined, callOfCode};
+ghost use Rattle.model.specs.declared.LostUse.the-variants.{Leaves};
+ghost use Rattle.model.specs.declared.TrackerReport.the-variants.{Moved};
 ghost use Rattle.model.specs.Refusals.{sheetRefusal};
 ghost use Rattle.model.specs.State.{State};
-
-// The call on instances of a code from 1 to 21.
-pub fn instance_call(code: u8) -> InstanceCall
-    requires { ⌜ (1 ≤ code) × (code ≤ 21) ⌝ }
-    ensures { λ r. ⌜ callOfCode code ≡ some (instances r) ⌝ }
-{
-    match code {
-        1 => InstanceCall::Register,
-        2 => InstanceCall::EnsureRegisteredLimited,
-        3 => InstanceCall::Dispose,
-        4 => InstanceCall::Unregister,
-        5 => InstanceCall::UnregisterWriter,
-        6 => InstanceCall::NoteWriter,
-        7 => InstanceCall::DropWriter,
-        8 => InstanceCall::ObserveLifecycle,
-        9 => InstanceCall::ObserveAdmitted,
-        10 => InstanceCall::NoteAdmitted,
-        11 => InstanceCall::RecordDelivery,
-        12 => InstanceCall::NoteTaken,
-        13 => InstanceCall::MarkViewSeen,
-        14 => InstanceCall::MarkViewNew,
-        15 => InstanceCall::DrainSamples,
-        16 => InstanceCall::AcceptUnderExclusiveOwnership,
-        17 => InstanceCall::UpdateOwnerStrength,
-        18 => InstanceCall::ClearOwnerForWriter,
-        19 => InstanceCall::ClearOwnerForWriterPrefix,
-        20 => InstanceCall::ReleaseOwnerOf,
-        _ => InstanceCall::Autopurge,
-    }
-}
+ghost use Rattle.model.specs.Writers.{trackerRule};
 
 // The call on writers of a code from 32 to 40.
 pub fn tracker_call(code: u8) -> TrackerCall
-    requires { ⌜ (32 ≤ code) × (code ≤ 40) ⌝ }
+    requires { ⌜ (32 ≤ code) × (code ≤ lastTracker) ⌝ }
     ensures { λ r. ⌜ callOfCode code ≡ some (tracker r) ⌝ }
 {
     match code {
@@ -64,9 +44,69 @@ pub fn tracker_call(code: u8) -> TrackerCall
     }
 }
 
+// The row of a call on the writers alone: it tells whether a class changed.
+fn on_writers(clocks: ClockUse, matches: bool) -> TrackerRule
+    ensures { λ r. ⌜ r ≡ record { clocks = clocks; matches = matches; lost = Leaves; acknowledges = Nothing; report = Moved } ⌝ }
+{
+    TrackerRule {
+        clocks: clocks,
+        matches: matches,
+        lost: LostUse::Leaves,
+        acknowledges: AcknowledgeUse::Nothing,
+        report: TrackerReport::Moved,
+    }
+}
+
+// The row of a call on Lost.
+fn on_lost(clocks: ClockUse, lost: LostUse, report: TrackerReport) -> TrackerRule
+    ensures { λ r. ⌜ r ≡ record { clocks = clocks; matches = false; lost = lost; acknowledges = Nothing; report = report } ⌝ }
+{
+    TrackerRule {
+        clocks: clocks,
+        matches: false,
+        lost: lost,
+        acknowledges: AcknowledgeUse::Nothing,
+        report: report,
+    }
+}
+
+// The row of a call on the status.
+fn on_status(acknowledges: AcknowledgeUse, report: TrackerReport) -> TrackerRule
+    ensures { λ r. ⌜ r ≡ record { clocks = NoClock; matches = false; lost = Leaves; acknowledges = acknowledges; report = report } ⌝ }
+{
+    TrackerRule {
+        clocks: ClockUse::NoClock,
+        matches: false,
+        lost: LostUse::Leaves,
+        acknowledges: acknowledges,
+        report: report,
+    }
+}
+
+// The row of a call on writers.
+pub fn tracker_rule(c: TrackerCall) -> TrackerRule
+    ensures { λ r. ⌜ r ≡ trackerRule c ⌝ }
+{
+    match c {
+        TrackerCall::Matched => on_writers(ClockUse::ClockAndLease, true),
+        TrackerCall::Unmatched => on_writers(ClockUse::NoClock, false),
+        TrackerCall::LostWithParticipant => on_writers(ClockUse::NoClock, false),
+        TrackerCall::WriterAsserted => on_writers(ClockUse::Clock, false),
+        TrackerCall::ParticipantAsserted => on_writers(ClockUse::Clock, false),
+        TrackerCall::Expire => on_lost(
+            ClockUse::Clock,
+            LostUse::Appends,
+            TrackerReport::MovedAndDue,
+        ),
+        TrackerCall::TakeLost => on_lost(ClockUse::NoClock, LostUse::Empties, TrackerReport::Lost),
+        TrackerCall::TakeStatus => on_status(AcknowledgeUse::Whole, TrackerReport::Status),
+        TrackerCall::Acknowledge => on_status(AcknowledgeUse::Part, TrackerReport::Silent),
+    }
+}
+
 // The joined call of a code from 48 to 51.
 pub fn joined_call(code: u8) -> JoinedCall
-    requires { ⌜ (48 ≤ code) × (code ≤ 51) ⌝ }
+    requires { ⌜ (48 ≤ code) × (code ≤ lastJoined) ⌝ }
     ensures { λ r. ⌜ callOfCode code ≡ some (joined r) ⌝ }
 {
     match code {

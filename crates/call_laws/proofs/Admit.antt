@@ -20,11 +20,12 @@ use Rattle.model.specs.Answers.{both}
 use Rattle.model.specs.Guids.{num}
 use Rattle.model.specs.Handles.{allocated}
 use Rattle.model.specs.InstanceCalls.{Turned, known, atLimit, full, spent, crowds, begun, nextAfter, instancesAfter, lateRefusal, instanceTurn, instanceCall}
-use Rattle.model.specs.Instances.{hasKey, started, startedState, admittedObserved, ownershipTried, takesOver, ownedFrom, writersIn}
+use Rattle.model.specs.Instances.{hasKey, started, startedState, admittedObserved, ownershipTried}
 use Rattle.model.specs.Joined.{admitted}
 use Rattle.model.specs.Sets.{has}
 use Rattle.model.specs.State.{State, instanceKey}
 use Rattle.model.specs.Tables.{find, any, put, sift}
+use Rattle.model.proofs.Keeps.{tried-writers, observed-writers}
 
 -- ---- a sift that keeps every record and its key
 
@@ -98,20 +99,8 @@ found-started k h xs n = find-put (started k h) xs (eq-eqb (num k) (num k) refl)
 
 -- ---- refusal 10 asks for the writers alone, which codes 16 and 9 leave
 
-tried-writers : (s : Sheet) (x : InstanceState) → writersIn (ownershipTried s x) ≡ writersIn x
-unfolding ownershipTried
-tried-writers s x = each (takesOver s x)
-  where
-    each : (b : Bool) → writersIn (cond b (ownedFrom s x) x) ≡ writersIn x
-    each true = refl
-    each false = refl
-
-observed-writers : (s : Sheet) (x : InstanceState) → writersIn (admittedObserved s x) ≡ writersIn x
-unfolding admittedObserved
-observed-writers s x = refl
-
 module _ (s : Sheet) where
-  crowds-kept : (g : InstanceState → InstanceState) → ((x : InstanceState) → writersIn (g x) ≡ writersIn x) → (o : Option Instance) →
+  crowds-kept : (g : InstanceState → InstanceState) → ((x : InstanceState) → g x .writers ≡ x .writers) → (o : Option Instance) →
       crowds s (touchedFound g o) ≡ crowds s o
   crowds-kept g e none = refl
   crowds-kept g e (some x) = rw (e (x .state))

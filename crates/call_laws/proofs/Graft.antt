@@ -1,5 +1,5 @@
 -- A call on instances needs the instances and the next handle alone, and leaves the rest of the state as it is.
---     tableState       a state that has these instances and this next handle, and is fresh otherwise
+--     tableOf          a state of which the instances and the next handle are kept, fresh otherwise
 --     instance-graft   the call on a state is the call on its table, put back
 --     admitted-graft, admit-graft      so is code 48
 -- Assumes nothing.
@@ -7,7 +7,6 @@ use Prim.Native.Nat.{ℕ}
 use mathlib.Core.Bool.{Bool, true, false, not, _&&_, cond}
 use mathlib.Core.Option.{Option}
 use mathlib.Core.Path.{_≡_, refl}
-use mathlib.Core.List.{List}
 use lib.Dec.{eqb}
 use Rattle.model.specs.declared.Instance.{Instance}
 use Rattle.model.specs.declared.InstanceCall.{InstanceCall}
@@ -19,11 +18,8 @@ use Rattle.model.specs.Joined.{inOrder, passesFilter, admitted, admitWith, admi
 use Rattle.model.specs.State.{State, freshState}
 use Rattle.model.specs.Tables.{find}
 
-abbrev pub tableState : List Instance → ℕ → State
-tableState xs next = withInstances xs next freshState
-
 abbrev pub tableOf : State → State
-tableOf st = tableState (st .instances) (st .nextHandle)
+tableOf st = withInstances (st .instances) (st .nextHandle) freshState
 
 -- what the call left of the table, put back into the state
 abbrev pub graft : State → Turned → Turned

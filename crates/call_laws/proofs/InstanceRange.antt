@@ -1,5 +1,4 @@
 -- From what a call on the instance table leaves to what the call on head and buffers leaves.
---     told-accepts        an answer of an accepted call has number 0
 --     instance-outcome, admit-outcome     a call is accepted, or refused with nothing changed
 --     range-left          from what the code returns and leaves to the call on bytes
 --     graft-left          what such a call on the table leaves is, in head and buffers, what model says
@@ -14,7 +13,6 @@ use lib.ListN.{length}
 use Rattle.model.specs.declared.Head.{Head}
 use Rattle.model.specs.declared.Instance.{Instance}
 use Rattle.model.specs.declared.InstanceCall.{InstanceCall}
-use Rattle.model.specs.declared.InstanceCall.the-variants.{Register, EnsureRegisteredLimited, Dispose, Unregister, UnregisterWriter, NoteWriter, DropWriter, ObserveLifecycle, ObserveAdmitted, NoteAdmitted, RecordDelivery, NoteTaken, MarkViewSeen, MarkViewNew, DrainSamples, AcceptUnderExclusiveOwnership, UpdateOwnerStrength, ClearOwnerForWriter, ClearOwnerForWriterPrefix, ReleaseOwnerOf, Autopurge}
 use Rattle.model.specs.declared.InstanceHandle.{InstanceHandle}
 use Rattle.model.specs.declared.Sheet.{Sheet}
 use Rattle.model.specs.Answers.{refusedWith, silent, stopping}
@@ -22,54 +20,18 @@ use Rattle.model.specs.declared.Answer.{Answer}
 use Rattle.model.specs.Call.{Left, lentOf, settle, listIn, turn, judged}
 use Rattle.model.specs.Calls.{Call}
 use Rattle.model.specs.Handles.{handle}
-use Rattle.model.specs.InstanceCalls.{Turned, refused, unchanged, withInstances, atLimit, lateRefusal, handleAnswer, samplesAnswer, infoAnswer, reached, told, instanceTurn, instanceCall, known, full, spent, crowds, accepted}
+use Rattle.model.specs.InstanceCalls.{Turned, refused, unchanged, withInstances, atLimit, lateRefusal, instanceTurn, instanceCall, known, full, spent, crowds, accepted}
 use Rattle.model.specs.Instances.{rule, limitedBy, hasKey}
 use Rattle.model.specs.Joined.{inOrder, passesFilter, admitted, admitWith, admitCall}
 use Rattle.model.specs.State.{Lent, State, stateOf, layOut, headOf, pensOf}
 use Rattle.model.specs.Refusals.{sheetRefusal}
 use Rattle.model.specs.Tables.{find}
+use Rattle.model.proofs.CallLaws.{told-accepts}
 use Rattle.model.proofs.StateLaws.{Buffers, Formed, formed-facts, lay-back}
 use Rattle.call_laws.specs.Entered.{Entered}
 use Rattle.call_laws.specs.Heads.{headWith}
 use Rattle.call_laws.proofs.Chain.{judged-turn, buffers}
 use Rattle.call_laws.proofs.Graft.{tableOf, graft}
-
--- ---- numbers of answers
-
-handle-accepts : (x : Option Instance) → handleAnswer x .number ≡ 0
-handle-accepts none = refl
-handle-accepts (some x) = refl
-
-samples-accepts : (x : Option Instance) → samplesAnswer x .number ≡ 0
-samples-accepts none = refl
-samples-accepts (some x) = refl
-
-info-accepts : (x : Option Instance) → infoAnswer x .number ≡ 0
-info-accepts none = refl
-info-accepts (some x) = refl
-
-pub told-accepts : (c : InstanceCall) (s : Sheet) (before after : List Instance) → told c s before after .number ≡ 0
-told-accepts Register s b a = handle-accepts (reached Register s b)
-told-accepts EnsureRegisteredLimited s b a = handle-accepts (reached EnsureRegisteredLimited s b)
-told-accepts Dispose s b a = refl
-told-accepts Unregister s b a = refl
-told-accepts UnregisterWriter s b a = refl
-told-accepts NoteWriter s b a = refl
-told-accepts DropWriter s b a = refl
-told-accepts ObserveLifecycle s b a = handle-accepts (reached ObserveLifecycle s b)
-told-accepts ObserveAdmitted s b a = samples-accepts (reached ObserveAdmitted s a)
-told-accepts NoteAdmitted s b a = info-accepts (reached NoteAdmitted s a)
-told-accepts RecordDelivery s b a = refl
-told-accepts NoteTaken s b a = refl
-told-accepts MarkViewSeen s b a = refl
-told-accepts MarkViewNew s b a = refl
-told-accepts DrainSamples s b a = refl
-told-accepts AcceptUnderExclusiveOwnership s b a = refl
-told-accepts UpdateOwnerStrength s b a = refl
-told-accepts ClearOwnerForWriter s b a = refl
-told-accepts ClearOwnerForWriterPrefix s b a = refl
-told-accepts ReleaseOwnerOf s b a = refl
-told-accepts Autopurge s b a = refl
 
 -- ---- accepted, or refused with nothing changed
 

@@ -11,7 +11,6 @@ use Rattle.model.specs.declared.Answer.{Answer}
 use Rattle.model.specs.declared.Guid.{Guid}
 use Rattle.model.specs.declared.Sheet.{Sheet}
 use Rattle.model.specs.declared.TrackerCall.{TrackerCall}
-use Rattle.model.specs.declared.TrackerCall.the-variants.{Matched, Unmatched, LostWithParticipant, WriterAsserted, ParticipantAsserted, Expire, TakeLost, TakeStatus, Acknowledge}
 use Rattle.model.specs.Answers.{refusedWith}
 use Rattle.model.specs.Call.{settle, listIn, turn, judged}
 use Rattle.model.specs.Calls.{Call}
@@ -20,24 +19,14 @@ use Rattle.model.specs.Joined.{afterLoss, lossCall}
 use Rattle.model.specs.Refusals.{sheetRefusal}
 use Rattle.model.specs.State.{Lent, State, stateOf, layOut}
 use Rattle.model.specs.Times.{ifPresent}
-use Rattle.model.specs.Writers.{trackerTold, trackerTurn, trackerLate, trackerCall}
+use Rattle.model.specs.Writers.{trackerTurn, trackerLate, trackerCall}
 use Rattle.model.proofs.StateLaws.{formed-facts, lay-back}
+use Rattle.model.proofs.TrackerLaws.{tracker-accepts}
 use Rattle.call_laws.specs.Entered.{Entered}
 use Rattle.call_laws.proofs.Chain.{judged-turn, buffers}
 use Rattle.call_laws.proofs.InstanceRange.{Outcome, accepts, refuses, picked, unpicked, lefts}
 
 -- ---- accepted, or refused with nothing changed
-
-tracker-accepts : (c : TrackerCall) (s : Sheet) (st : State) → trackerTold c s st .number ≡ 0
-tracker-accepts Matched s st = refl
-tracker-accepts Unmatched s st = refl
-tracker-accepts LostWithParticipant s st = refl
-tracker-accepts WriterAsserted s st = refl
-tracker-accepts ParticipantAsserted s st = refl
-tracker-accepts Expire s st = refl
-tracker-accepts TakeLost s st = refl
-tracker-accepts TakeStatus s st = refl
-tracker-accepts Acknowledge s st = refl
 
 -- a turn that is taken where the number of its late refusal is 0
 late-outcome : (n : ℕ) (t : Turned) (st : State) → t .answer .number ≡ 0 → Outcome st (cond (eqb n 0) t (refused n st))

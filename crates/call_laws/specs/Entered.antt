@@ -2,7 +2,6 @@
 --     Entered            head and buffers that a call is lent past refusals 1 and 3
 --     InstancesJudged    a call on instances leaves what model says, whatever writers and Lost stand beside
 --     TrackerJudged      a call on writers does, whatever pens stand beside
--- Rests on model's call.
 use Prim.Native.Nat.{ℕ, _*_}
 use mathlib.Core.Bool.{true}
 use mathlib.Core.List.{List}

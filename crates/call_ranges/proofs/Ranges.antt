@@ -1,6 +1,5 @@
 -- A range of codes past the lengths: refused as 3, else the call of its code.
---     parts             well-formedness, part by part
---     formed-parts      the same, from its test
+--     formed-parts      well-formedness, part by part, from its test
 --     entered           what a call past 3 is lent
 --     refused-3, by-code
 --                       refused as 3; else the call of its code
@@ -19,30 +18,11 @@ use Rattle.model.specs.declared.Sheet.{Sheet}
 use Rattle.model.specs.Answers.{refusedWith}
 use Rattle.model.specs.Call.{Left, judged, coded, lentOf, leftOf}
 use Rattle.model.specs.Calls.{Call, callOfCode}
-use Rattle.model.specs.State.{Lent, writersIn}
-use Rattle.model.specs.WellFormed.{headOk, instanceTableOk, writerTableOk, lostOk, countsOk, wellFormed}
-use Rattle.model.proofs.RowLaws.{both}
+use Rattle.model.specs.WellFormed.{wellFormed}
+use Rattle.lent_state.proofs.Formed.{Parts, parts}
 use Rattle.call_laws.specs.Entered.{Entered}
 use Rattle.call_laws.specs.Heads.{called}
 use Rattle.call_laws.proofs.Chain.{refused-left, coded-3, coded-judged}
-
--- ---- well-formedness, part by part
-
-pub record Parts (places : ℕ) (l : Lent) : Type 0 where
-  pub head : headOk (l .head) ≡ true
-  pub pens : instanceTableOk places (l .head .«instance_count») (l .head .«next_handle» .0) (l .pens) ≡ true
-  pub writers : writerTableOk (l .head .«writer_count») (l .writers) ≡ true
-  pub lost : lostOk (l .head .«lost_count») (l .lost) ≡ true
-  pub counts : countsOk (l .head) (writersIn (l .head .«writer_count») (l .writers)) ≡ true
-
-pub parts : (places : ℕ) (l : Lent) → wellFormed places l ≡ true → Parts places l
-unfolding wellFormed
-parts places l e =
-    let p = both _ _ e in
-    let q = both _ _ (p .1) in
-    let r = both _ _ (q .1) in
-    let s = both _ _ (r .1) in
-    record { head = p .0; pens = q .0; writers = r .0; lost = s .0; counts = s .1 }
 
 -- ---- a range of codes: refused as 3, else the call of its code
 

@@ -1,5 +1,4 @@
 // The calls by the range of their code, on buffers of their lengths: refusal 3, then the call of the code.
-// Rests on call_codes, lent_state, instance_calls, tracker_calls and joined_calls.
 //
 // Derives from instance_tracker.rs and liveliness_tracker.rs of ZeroDDS.
 // Copyright 2026 ZeroDDS Contributors. SPDX-License-Identifier: Apache-2.0. Changed: written anew in Rattle, with the state
@@ -11,7 +10,7 @@ ghost use mathlib.Core.Path.{_≡_};
 ghost use Prim.Native.Nat.{_≤_};
 ghost use lib.ListN.{length};
 ghost use Rattle.model.specs.Call.{coded, lentOf, leftOf};
-ghost use Rattle.model.specs.Calls.{callOfCode};
+ghost use Rattle.model.specs.Calls.{lastInstance, lastTracker, lastJoined, callOfCode};
 
 // Codes 1 to 21: calls on the instances.
 pub fn instances(
@@ -23,11 +22,11 @@ pub fn instances(
     out: &mut [u8],
 ) -> Called
     requires { ⌜ (length (now pens) ≡ 65536) × (length (now writers) ≡ 5120) × (length (now lost) ≡ 4096) × (length (now out) ≡ 4096)
-        × (1 ≤ s .code) × (s .code ≤ 21) ⌝ }
+        × (1 ≤ s .code) × (s .code ≤ lastInstance) ⌝ }
     ensures { λ r. ⌜ leftOf r (now (pens .exit)) (now (writers .entry)) (now (lost .entry)) (now (out .exit))
         ≡ coded 128 (callOfCode (s .code)) s (lentOf head (now (pens .entry)) (now (writers .entry)) (now (lost .entry)) (now (out .entry))) ⌝ }
 {
-    let c = call_codes::instance_call(s.code);
+    let c = instance_rules::instance_call(s.code);
     if !lent_state::state_ok(head, pens, writers, lost, 128) {
         return answers::refused(3, head);
     }
@@ -44,7 +43,7 @@ pub fn tracker(
     out: &mut [u8],
 ) -> Called
     requires { ⌜ (length (now pens) ≡ 65536) × (length (now writers) ≡ 5120) × (length (now lost) ≡ 4096) × (length (now out) ≡ 4096)
-        × (32 ≤ s .code) × (s .code ≤ 40) ⌝ }
+        × (32 ≤ s .code) × (s .code ≤ lastTracker) ⌝ }
     ensures { λ r. ⌜ leftOf r (now (pens .entry)) (now (writers .exit)) (now (lost .exit)) (now (out .exit))
         ≡ coded 128 (callOfCode (s .code)) s (lentOf head (now (pens .entry)) (now (writers .entry)) (now (lost .entry)) (now (out .entry))) ⌝ }
 {
@@ -52,7 +51,7 @@ pub fn tracker(
     if !lent_state::state_ok(head, pens, writers, lost, 128) {
         return answers::refused(3, head);
     }
-    tracker_calls::tracker_turn(c, s, head, writers, lost, out)
+    writer_calls::tracker_turn(c, s, head, writers, lost, out)
 }
 
 // Codes 48 to 51: the joined calls.
@@ -65,7 +64,7 @@ pub fn joined(
     out: &mut [u8],
 ) -> Called
     requires { ⌜ (length (now pens) ≡ 65536) × (length (now writers) ≡ 5120) × (length (now lost) ≡ 4096) × (length (now out) ≡ 4096)
-        × (48 ≤ s .code) × (s .code ≤ 51) ⌝ }
+        × (48 ≤ s .code) × (s .code ≤ lastJoined) ⌝ }
     ensures { λ r. ⌜ leftOf r (now (pens .exit)) (now (writers .exit)) (now (lost .exit)) (now (out .exit))
         ≡ coded 128 (callOfCode (s .code)) s (lentOf head (now (pens .entry)) (now (writers .entry)) (now (lost .entry)) (now (out .entry))) ⌝ }
 {

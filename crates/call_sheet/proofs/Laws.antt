@@ -1,11 +1,12 @@
 -- Laws that the proofs cite.
 --     paste-padded     bytes copied over zeros are the bytes, zeros behind them
 --     all-first, all-none      a test of all of a list, by its first
+--     times-on, times-off      the times of a call, one after the other
 --     refuses-4, refuses-6, refuses-none      the chain of refusals
 --     sheet-made       fields that were read make the sheet
 -- Assumes nothing.
 use Prim.Native.Nat.{ℕ, _+_, _-_, _%_, _≤_}
-use mathlib.Core.Bool.{Bool, true, false, _&&_}
+use mathlib.Core.Bool.{Bool, true, false, _&&_, cond}
 use mathlib.Core.Path.{_≡_, refl, sym, ap, _∙_}
 use mathlib.Core.List.{List, [], _∷_}
 use native.Mathlib.Nat.{zero-add}
@@ -16,13 +17,15 @@ use Rattle.octets.specs.Octets.{be}
 use Rattle.model.specs.declared.Guid.{Guid}
 use Rattle.model.specs.declared.Holder.{Holder}
 use Rattle.model.specs.declared.MaybeTime.{MaybeTime}
+use Rattle.model.specs.declared.Rule.{Rule}
 use Rattle.model.specs.declared.Sheet.{Sheet}
 use Rattle.model.specs.Guids.{guidAt}
 use Rattle.model.specs.Handles.{handle}
 use Rattle.model.specs.InstanceRecord.{flag, timeAt}
 use Rattle.model.specs.declared.InstanceCall.{InstanceCall}
 use Rattle.model.specs.Calls.{instances}
-use Rattle.model.specs.Refusals.{timesUsedBy, nanosecondsOk, holderFits, sheetRefusal}
+use Rattle.model.specs.Instances.{rule}
+use Rattle.model.specs.Refusals.{used, withTime, timesUsedBy, nanosecondsOk, holderFits, sheetRefusal}
 use Rattle.model.specs.State.{State}
 use Rattle.model.specs.Tables.{all}
 use Rattle.model.specs.Sheets.{padded, holderOn, sheetOf}
@@ -48,6 +51,22 @@ all-first p x xs r e f = f ∙ rw (sym (and-true (p x)) ∙ e)
 pub all-none : {A : Type 0} (p : A → Bool) (x : A) (xs : List A) → all p (x ∷ []) ≡ false → false ≡ all p (x ∷ xs)
 unfolding all
 all-none p x xs e = rw (sym (and-true (p x)) ∙ e)
+
+-- a time that is used or not, before others
+with-first : {A : Type 0} (p : A → Bool) (b : Bool) (x : A) (xs : List A) → all p (cond b (x ∷ xs) xs) ≡ (all p (cond b (x ∷ []) []) && all p xs)
+unfolding all
+with-first p true x xs = rw (and-true (p x))
+with-first p false x xs = refl
+
+-- the times of a call, by its row
+module _ (c : InstanceCall) (s : Sheet) (r : Rule) (row : r ≡ rule c) where
+  pub times-on : (b : Bool) → all nanosecondsOk (withTime (r .«time_1») (s .«time_1») []) ≡ true →
+      b ≡ all nanosecondsOk (withTime (r .«time_2») (s .«time_2») []) → b ≡ all nanosecondsOk (timesUsedBy c s)
+  times-on b e f =
+      rw (← row) (f ∙ sym (with-first nanosecondsOk (used (r .«time_1») (s .«time_1» .present)) (s .«time_1») _ ∙ rw e))
+
+  pub times-off : all nanosecondsOk (withTime (r .«time_1») (s .«time_1») []) ≡ false → false ≡ all nanosecondsOk (timesUsedBy c s)
+  times-off e = rw (← row) (sym (with-first nanosecondsOk (used (r .«time_1») (s .«time_1» .present)) (s .«time_1») _ ∙ rw e))
 
 -- the chain of refusals of a call on instances
 module _ (c : InstanceCall) (s : Sheet) (st : State) where

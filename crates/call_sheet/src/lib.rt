@@ -1,19 +1,20 @@
-// A call's sheet: its 256 bytes as fields, and the refusals that the sheet alone decides. Rests on octets, guid and model.
+// A call's sheet: its 256 bytes as fields, and the refusals that the sheet alone decides.
+use model::ClockUse;
+use model::FieldUse;
 use model::Holder;
 use model::InstanceCall;
 use model::InstanceHandle;
 use model::MaybeTime;
 use model::Sheet;
-use model::TrackerCall;
 ghost use mathlib.Core.Path.{_≡_};
 ghost use mathlib.Core.Bool.{true};
 ghost use mathlib.Core.List.{[], _∷_};
 ghost use Prim.Native.Nat.{_+_, _≤_, _<_, min};
 ghost use lib.ListN.{length, take, drop};
 ghost use Rattle.model.specs.InstanceRecord.{flag, timeAt};
-ghost use Rattle.model.specs.declared.TrackerCall.the-variants.{Matched};
-ghost use Rattle.model.specs.Calls.{instances, tracker};
-ghost use Rattle.model.specs.Refusals.{optional, timesUsedBy, nanosecondsOk, holderUsedBy, holderFits, clocksUsedBy, kindOk, sheetRefusal};
+ghost use Rattle.model.specs.Calls.{instances};
+ghost use Rattle.model.specs.Refusals.{used, withTime, optional, timesUsedBy, nanosecondsOk, holderUsedBy, holderFits, sheetRefusal, clocksWith, kindWith};
+ghost use Rattle.model.specs.declared.ClockUse.the-variants.{ClockAndLease};
 ghost use Rattle.model.specs.Sheets.{padded, holderOn, sheetOf};
 ghost use Rattle.model.specs.State.{State};
 ghost use Rattle.model.specs.Tables.{all};
@@ -134,66 +135,50 @@ pub fn both_ok(t: MaybeTime, u: MaybeTime) -> bool
     false
 }
 
+// A field is used, as the call's row says of it and its presence bit.
+fn is_used(k: FieldUse, present: bool) -> bool
+    ensures { λ r. ⌜ r ≡ used k present ⌝ }
+{
+    match k {
+        FieldUse::Never => false,
+        FieldUse::IfPresent => present,
+        FieldUse::Always => true,
+    }
+}
+
+// Nanoseconds below 10^9 where the time is used.
+fn time_ok(k: FieldUse, t: MaybeTime) -> bool
+    ensures { λ r. ⌜ r ≡ all nanosecondsOk (withTime k t []) ⌝ }
+{
+    if is_used(k, t.present) {
+        return nanoseconds_ok(t);
+    }
+    true
+}
+
 // The times that a call on instances uses.
 pub fn times_ok(c: InstanceCall, s: Sheet) -> bool
     ensures { λ r. ⌜ r ≡ all nanosecondsOk (timesUsedBy c s) ⌝ }
 {
+    let r = instance_rules::rule_of(c);
+    let k = r.time_1;
+    let l = r.time_2;
     let t = s.time_1;
     let u = s.time_2;
-    match c {
-        InstanceCall::Register => optional_ok(t),
-        InstanceCall::EnsureRegisteredLimited => true,
-        InstanceCall::Dispose => optional_ok(t),
-        InstanceCall::Unregister => optional_ok(t),
-        InstanceCall::UnregisterWriter => optional_ok(t),
-        InstanceCall::NoteWriter => true,
-        InstanceCall::DropWriter => optional_ok(t),
-        InstanceCall::ObserveLifecycle => optional_ok(t),
-        InstanceCall::ObserveAdmitted => nanoseconds_ok(t),
-        InstanceCall::NoteAdmitted => both_ok(t, u),
-        InstanceCall::RecordDelivery => nanoseconds_ok(t),
-        InstanceCall::NoteTaken => true,
-        InstanceCall::MarkViewSeen => true,
-        InstanceCall::MarkViewNew => true,
-        InstanceCall::DrainSamples => true,
-        InstanceCall::AcceptUnderExclusiveOwnership => nanoseconds_ok(u),
-        InstanceCall::UpdateOwnerStrength => true,
-        InstanceCall::ClearOwnerForWriter => true,
-        InstanceCall::ClearOwnerForWriterPrefix => true,
-        InstanceCall::ReleaseOwnerOf => true,
-        InstanceCall::Autopurge => nanoseconds_ok(u),
+    if time_ok(k, t) {
+        return time_ok(l, u);
     }
+    false
 }
 
-// A call on instances takes the holder: codes 1 and 9 in any case, code 8 by its presence bit.
+// A call on instances takes the holder.
 fn holder_used(c: InstanceCall, s: Sheet) -> bool
     ensures { λ r. ⌜ r ≡ holderUsedBy c s ⌝ }
 {
+    let r = instance_rules::rule_of(c);
+    let k = r.holder;
     let h = s.holder;
-    let present = h.present;
-    match c {
-        InstanceCall::Register => true,
-        InstanceCall::EnsureRegisteredLimited => false,
-        InstanceCall::Dispose => false,
-        InstanceCall::Unregister => false,
-        InstanceCall::UnregisterWriter => false,
-        InstanceCall::NoteWriter => false,
-        InstanceCall::DropWriter => false,
-        InstanceCall::ObserveLifecycle => present,
-        InstanceCall::ObserveAdmitted => true,
-        InstanceCall::NoteAdmitted => false,
-        InstanceCall::RecordDelivery => false,
-        InstanceCall::NoteTaken => false,
-        InstanceCall::MarkViewSeen => false,
-        InstanceCall::MarkViewNew => false,
-        InstanceCall::DrainSamples => false,
-        InstanceCall::AcceptUnderExclusiveOwnership => false,
-        InstanceCall::UpdateOwnerStrength => false,
-        InstanceCall::ClearOwnerForWriter => false,
-        InstanceCall::ClearOwnerForWriterPrefix => false,
-        InstanceCall::ReleaseOwnerOf => false,
-        InstanceCall::Autopurge => false,
-    }
+    is_used(k, h.present)
 }
 
 // A holder that the call takes has at most 144 bytes.
@@ -227,9 +212,9 @@ pub fn clock_ok(clock: u64) -> bool
     clock < 0x4000_0000_0000_0000
 }
 
-// The clock and the lease of a match.
-pub fn lease_ok(s: Sheet) -> bool
-    ensures { λ r. ⌜ r ≡ all clockOk (clocksUsedBy Matched s) ⌝ }
+// Clock A, and the lease in B where its bit is set.
+fn lease_ok(s: Sheet) -> bool
+    ensures { λ r. ⌜ r ≡ all clockOk (clocksWith ClockAndLease s) ⌝ }
 {
     if !clock_ok(s.a) {
         return false;
@@ -240,36 +225,23 @@ pub fn lease_ok(s: Sheet) -> bool
     true
 }
 
-// The clocks and leases that a call on writers uses.
-pub fn clocks_ok(c: TrackerCall, s: Sheet) -> bool
-    ensures { λ r. ⌜ r ≡ all clockOk (clocksUsedBy c s) ⌝ }
+// The clocks and leases that a call on writers uses, by its column.
+pub fn clocks_ok(used: ClockUse, s: Sheet) -> bool
+    ensures { λ r. ⌜ r ≡ all clockOk (clocksWith used s) ⌝ }
 {
-    match c {
-        TrackerCall::Matched => lease_ok(s),
-        TrackerCall::Unmatched => true,
-        TrackerCall::LostWithParticipant => true,
-        TrackerCall::WriterAsserted => clock_ok(s.a),
-        TrackerCall::ParticipantAsserted => clock_ok(s.a),
-        TrackerCall::Expire => clock_ok(s.a),
-        TrackerCall::TakeLost => true,
-        TrackerCall::TakeStatus => true,
-        TrackerCall::Acknowledge => true,
+    match used {
+        ClockUse::NoClock => true,
+        ClockUse::Clock => clock_ok(s.a),
+        ClockUse::ClockAndLease => lease_ok(s),
     }
 }
 
 // Kind 3 in a match is none.
-pub fn kind_ok(c: TrackerCall, s: Sheet) -> bool
-    ensures { λ r. ⌜ r ≡ kindOk (tracker c) s ⌝ }
+pub fn kind_ok(matches: bool, s: Sheet) -> bool
+    ensures { λ r. ⌜ r ≡ kindWith matches s ⌝ }
 {
-    match c {
-        TrackerCall::Matched => s.kind != 3,
-        TrackerCall::Unmatched => true,
-        TrackerCall::LostWithParticipant => true,
-        TrackerCall::WriterAsserted => true,
-        TrackerCall::ParticipantAsserted => true,
-        TrackerCall::Expire => true,
-        TrackerCall::TakeLost => true,
-        TrackerCall::TakeStatus => true,
-        TrackerCall::Acknowledge => true,
+    if matches {
+        return s.kind != 3;
     }
+    true
 }

@@ -18,7 +18,7 @@ use Rattle.model.specs.declared.Called.{Called}
 use Rattle.model.specs.Answers.{refusedWith}
 use Rattle.model.specs.Call.{leftOf}
 use Rattle.model.specs.State.{fresh}
-use Rattle.model.proofs.RowLaws.{both}
+use Rattle.model.proofs.Tests.{both}
 use Rattle.call_laws.specs.Heads.{called}
 use Rattle.dcps.specs.Fresh.{freshHead, roomOk, freshOf}
 

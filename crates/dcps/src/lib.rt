@@ -1,6 +1,5 @@
 // The public entries: every call on lent head and buffers, the fresh state, and the reads. None has a `requires`: any bytes
 // are answered, or refused with a number of the scope document and nothing written.
-// Rests on all crates of the two trackers.
 //
 // Derives from instance_tracker.rs and liveliness_tracker.rs of ZeroDDS.
 // Copyright 2026 ZeroDDS Contributors. SPDX-License-Identifier: Apache-2.0. Changed: written anew in Rattle, with the state
@@ -216,12 +215,12 @@ pub fn left_writerless(pens: &[u8], gone: &[u8], view_states: u32, out: &mut [u8
 pub fn status(head: Head) -> StatusRead
     ensures { λ r. ⌜ r ≡ statusRead 128 head ⌝ }
 {
-    tracker_state::status(head)
+    writer_validity::status(head)
 }
 
 // How many changes of class the head has counted.
 pub fn changes(head: Head) -> ChangesRead
     ensures { λ r. ⌜ r ≡ changesRead 128 head ⌝ }
 {
-    tracker_state::changes(head)
+    writer_validity::changes(head)
 }

@@ -17,7 +17,7 @@ use Rattle.model.specs.Reads.{statusRead, changesRead, leftRead, leftOut, looku
 use Rattle.model.specs.State.{instancePlaces}
 use Rattle.boundary.specs.Layouts.{headIn, headLaid, answerBytes}
 use Rattle.boundary_reads.specs.declared.ReadAnswer.{ReadAnswer}
-use Rattle.boundary_reads.specs.ReadAnswers.{Told, toldOf, told, refusedAnswer, changesAnswer, handleAnswer, listingAnswer, holderAnswer}
+use Rattle.boundary_reads.specs.ReadAnswers.{AnswerTold, toldOf, told, refusedAnswer, changesAnswer, handleAnswer, listingAnswer, holderAnswer}
 use Rattle.instance_reads.specs.declared.HolderPlace.{HolderPlace}
 use Rattle.dcps_c.specs.Boundary.{headSize, answerSize}
 
@@ -39,7 +39,7 @@ statusOf head =
     cond (eqb (length head) headSize)
     (cond (headLaid head) (statusAnswer (statusRead instancePlaces (headIn head))) (refusedWith 3)) (refusedWith 1)
 
-unfoldable pub boundaryStatus : List ℕ → List ℕ → Told
+unfoldable pub boundaryStatus : List ℕ → List ℕ → AnswerTold
 boundaryStatus head answer =
     cond (eqb (length answer) answerSize) (toldOf (statusOf head .number) (answerBytes (statusOf head))) (toldOf 1 answer)
 
@@ -51,7 +51,7 @@ changesOf head =
 -- ---- left_writerless: Out is written where the answer has its length
 
 pub record ToldList : Type 0 where
-  pub told : Told
+  pub told : AnswerTold
   pub out : List ℕ
 
 abbrev pub toldList : ℕ → List ℕ → List ℕ → ToldList

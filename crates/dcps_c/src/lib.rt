@@ -1,6 +1,5 @@
 // The C boundary: every entry of dcps on bytes alone, numbers most significant byte first (include/dcps.h). None has a
 // `requires`: any bytes are answered, or refused with a number of the scope document and nothing written but the answer.
-// Rests on boundary and dcps.
 use boundary_reads::ReadAnswer;
 use model::Answer;
 use model::Called;

@@ -1,9 +1,9 @@
-// Keys and GUIDs: their bytes, their order, their equality and their prefix, as model's definitions say. Rests on octets and
-// model.
+// Keys and GUIDs: their bytes, their order, their equality and their prefix, as model's definitions say.
 use model::Guid;
 ghost use mathlib.Core.Path.{_≡_};
 ghost use Prim.Native.Nat.{_+_, _≤_};
 ghost use lib.ListN.{length};
+ghost use Rattle.octets.specs.Octets.{put};
 ghost use Rattle.model.specs.Guids.{guidAt, less, same, samePrefix, nil};
 
 // The GUID of the 16 bytes from at.
@@ -14,6 +14,15 @@ pub fn guid_at(s: &[u8], at: usize) -> Guid
     let hi = octets::get_u64(s, at);
     let lo = octets::get_u64(s, at + 8);
     Guid { hi: hi, lo: lo }
+}
+
+// The 16 bytes of g are written from at.
+pub fn put_guid(s: &mut [u8], at: usize, g: Guid)
+    requires { ⌜ at + 16 ≤ length (now s) ⌝ }
+    ensures { λ _. ⌜ now (s .exit) ≡ put 8 (put 8 (now (s .entry)) at (g .hi)) (at + 8) (g .lo) ⌝ }
+{
+    octets::put_u64(s, at, g.hi);
+    octets::put_u64(s, at + 8, g.lo);
 }
 
 // Whether a stands before b in byte order.

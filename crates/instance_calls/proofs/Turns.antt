@@ -7,44 +7,40 @@
 use Prim.Native.Nat.{ℕ}
 use mathlib.Core.Bool.{true, false}
 use mathlib.Core.List.{List, []}
-use mathlib.Core.Path.{_≡_, refl}
-use native.Mathlib.Omega.{arith}
+use mathlib.Core.Path.{_≡_}
 use lib.ListN.{length}
 use Rattle.model.specs.declared.Answer.{Answer}
 use Rattle.model.specs.declared.Called.{Called}
 use Rattle.model.specs.declared.Head.{Head}
 use Rattle.model.specs.declared.InstanceCall.{InstanceCall}
 use Rattle.model.specs.declared.InstanceHandle.{InstanceHandle}
+use Rattle.model.specs.declared.Reach.{Reach}
 use Rattle.model.specs.declared.Sheet.{Sheet}
 use Rattle.model.specs.Answers.{refusedWith}
 use Rattle.model.specs.Call.{lentOf, listIn}
 use Rattle.model.specs.Calls.{instances}
 use Rattle.model.specs.InstanceCalls.{Turned, instanceCall}
-use Rattle.model.specs.Instances.{Reach, byKey, startingByKey, startingWithin, byHandle, every}
+use Rattle.model.specs.Instances.{isEvery}
 use Rattle.model.specs.Refusals.{sheetRefusal}
 use Rattle.model.specs.State.{Lent, State, stateOf, instancesIn}
 use Rattle.instance_table.specs.declared.TableCall.{TableCall}
 use Rattle.instance_table.specs.Laid.{Laid}
-use Rattle.instance_tracker.specs.Rules.{single}
-use Rattle.instance_tracker.specs.Turned.{Left as SingleLeft}
-use Rattle.instance_pass.specs.EveryCalls.{Left as EveryLeft}
-use Rattle.instance_pass.specs.Steps.{isEvery}
+use Rattle.instance_reach.specs.Rules.{single}
+use Rattle.instance_reach.specs.Turned.{LeavesTable as SingleLeft}
+use Rattle.instance_pass.specs.EveryCalls.{LeavesTableAndOut as EveryLeft}
 use Rattle.call_laws.specs.Entered.{InstancesJudged}
 use Rattle.call_laws.specs.Heads.{called, headWith}
 use Rattle.call_laws.proofs.Chain.{judged-refuses}
-use Rattle.call_laws.proofs.Graft.{tableState, instance-graft}
+use Rattle.instance_table.specs.TableCalls.{stateWith}
+use Rattle.call_laws.proofs.Graft.{instance-graft}
 use Rattle.call_laws.proofs.InstanceRange.{instance-outcome, range-left}
 
 pub by-reach : (r : Reach) → isEvery r ≡ false → single r ≡ true
-by-reach byKey e = refl
-by-reach startingByKey e = refl
-by-reach startingWithin e = refl
-by-reach byHandle e = refl
-by-reach every e = let z : _≡_ {A = ℕ} 0 1 = cc in absurd (omega arith)
+by-reach r e = rw e
 
 -- the instances that are lent, with the next handle
 abbrev lentTable : Head → List ℕ → State
-lentTable head pens = tableState (instancesIn (head .«instance_count») pens) (head .«next_handle» .0)
+lentTable head pens = stateWith (instancesIn (head .«instance_count») pens) (head .«next_handle» .0)
 
 -- a turn that lists nothing leaves Out as it is
 quiet-out : (list out : List ℕ) → list ≡ [] → out ≡ listIn list out

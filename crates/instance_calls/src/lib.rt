@@ -1,5 +1,4 @@
 // Codes 1 to 21 on head and buffers, past refusals 1 to 3: what the sheet decides, then the call on the instances.
-// Rests on call_sheet, instance_tracker, instance_pass, lent_state and call_laws.
 //
 // Derives from instance_tracker.rs of ZeroDDS.
 // Copyright 2026 ZeroDDS Contributors. SPDX-License-Identifier: Apache-2.0. Changed: written anew in Rattle, with the state
@@ -12,37 +11,17 @@ ghost use mathlib.Core.Bool.{true};
 ghost use mathlib.Core.Path.{_≡_};
 ghost use Prim.Native.Nat.{_*_, _≤_};
 ghost use lib.ListN.{length};
+ghost use Rattle.model.specs.Instances.{onEvery};
 ghost use Rattle.model.specs.WellFormed.{instanceTableOk};
-ghost use Rattle.instance_pass.specs.Steps.{onEvery};
 ghost use Rattle.call_laws.specs.Entered.{InstancesJudged};
 
 // Whether a call is one on every instance.
 fn on_every(c: InstanceCall) -> bool
     ensures { λ r. ⌜ r ≡ onEvery c ⌝ }
 {
-    match c {
-        InstanceCall::Register => false,
-        InstanceCall::EnsureRegisteredLimited => false,
-        InstanceCall::Dispose => false,
-        InstanceCall::Unregister => false,
-        InstanceCall::UnregisterWriter => false,
-        InstanceCall::NoteWriter => false,
-        InstanceCall::DropWriter => true,
-        InstanceCall::ObserveLifecycle => false,
-        InstanceCall::ObserveAdmitted => false,
-        InstanceCall::NoteAdmitted => false,
-        InstanceCall::RecordDelivery => false,
-        InstanceCall::NoteTaken => false,
-        InstanceCall::MarkViewSeen => false,
-        InstanceCall::MarkViewNew => false,
-        InstanceCall::DrainSamples => false,
-        InstanceCall::AcceptUnderExclusiveOwnership => false,
-        InstanceCall::UpdateOwnerStrength => true,
-        InstanceCall::ClearOwnerForWriter => true,
-        InstanceCall::ClearOwnerForWriterPrefix => true,
-        InstanceCall::ReleaseOwnerOf => false,
-        InstanceCall::Autopurge => true,
-    }
+    let r = instance_rules::rule_of(c);
+    let k = r.reach;
+    instance_rules::is_every(k)
 }
 
 // A call on instances.
@@ -70,7 +49,7 @@ pub fn instance_turn(
         let n = r.next_handle;
         return lent_state::with_instances(a, head, r.count, n);
     }
-    let r = instance_tracker::single_call(c, s, pens, places, count, next);
+    let r = instance_reach::single_call(c, s, pens, places, count, next);
     let a = r.answer;
     let n = r.next_handle;
     lent_state::with_instances(a, head, r.count, n)

@@ -1,5 +1,5 @@
 // One instance by value: with one group of its fields changed, and the parts that the calls of several families are made of.
-// Each function gives what the definition of its name in model's Instances says. Rests on model, numbers and writer_set.
+// Each function gives what the definition of its name in model's Instances says.
 //
 // Derives from instance_tracker.rs of ZeroDDS.
 // Copyright 2026 ZeroDDS Contributors. SPDX-License-Identifier: Apache-2.0. Changed: written anew in Rattle; an instance is
@@ -17,7 +17,7 @@ ghost use mathlib.Core.Bool.{cond};
 ghost use mathlib.Core.Path.{_≡_};
 ghost use Rattle.model.specs.Instances.{withLife, withTimes, withOwner, withHolder, withWriters, withKind, withView, withGenerations, withWriterCount, withSamples, withLastSample, withDelivery, withDisposedAt, withNoWritersAt, withOwnerAt, isAlive, isDisposed, revived, revivedNew, sampledAt, stored, writerNoted};
 ghost use Rattle.model.specs.Times.{always, ifPresent, given};
-ghost use Rattle.writer_set.specs.Places.{Sound};
+ghost use Rattle.instance_writers.specs.Places.{Sound};
 ghost use Rattle.instance_fields.specs.Usable.{UsableLife, Room};
 
 // ---- an instance with one group of its fields changed
@@ -288,5 +288,5 @@ pub fn writer_noted(g: Guid, x: InstanceState) -> InstanceState
     ensures { λ r. ⌜ r ≡ writerNoted g x ⌝ }
 {
     let w = x.writers;
-    with_writers(writer_set::with_writer(w, g), x)
+    with_writers(instance_writers::with_writer(w, g), x)
 }

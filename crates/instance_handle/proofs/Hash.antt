@@ -10,7 +10,7 @@ use Rattle.model.specs.Guids.{guidBytes}
 use Rattle.model.specs.Handles.{fnvStep, fnvFrom}
 use Rattle.model.specs.declared.Guid.{Guid}
 use Rattle.octets.specs.Octets.{put}
-use Rattle.octets.specs.Patch.{puts-patch}
+use Rattle.octets.proofs.PatchLaws.{puts-patch}
 
 -- one byte more
 pub fnv-more : (h : ℕ) (s : List ℕ) (i : ℕ) → i < length s → fnvFrom h (drop i s) ≡ fnvFrom (fnvStep h (getD s i 0)) (drop (i + 1) s)

@@ -4,7 +4,6 @@
 // Copyright 2026 ZeroDDS Contributors. SPDX-License-Identifier: Apache-2.0. Changed: written anew in Rattle, with the
 // counter as a plain number; the hash is over a slice of any length.
 ghost use mathlib.Core.Path.{_≡_};
-ghost use lib.Dec.{eqb};
 ghost use Rattle.model.specs.Handles.{handle, notNil, allocated, fnvStep, fnv, fromGuid};
 use model::Allocated;
 use model::Guid;
@@ -15,13 +14,6 @@ pub fn nil() -> InstanceHandle
     ensures { λ r. ⌜ r ≡ handle 0 ⌝ }
 {
     InstanceHandle(0)
-}
-
-// Whether h is the nil handle.
-pub fn is_nil(h: InstanceHandle) -> bool
-    ensures { λ r. ⌜ r ≡ eqb (h .0) 0 ⌝ }
-{
-    h.0 == 0
 }
 
 // n, with 0, which is nil, replaced by 1.
@@ -64,11 +56,10 @@ pub fn fnv_1a(bytes: &[u8]) -> u64
 }
 
 // The handle of a GUID, as the ignore and discovery calls take it: never nil.
-pub fn from_guid(guid: Guid) -> InstanceHandle
-    ensures { λ r. ⌜ r ≡ fromGuid guid ⌝ }
+pub fn from_guid(g: Guid) -> InstanceHandle
+    ensures { λ r. ⌜ r ≡ fromGuid g ⌝ }
 {
     let mut bytes = [0u8; 16];
-    octets::put_u64(&mut bytes, 0, guid.hi);
-    octets::put_u64(&mut bytes, 8, guid.lo);
+    guid::put_guid(&mut bytes, 0, g);
     InstanceHandle(not_nil(fnv_1a(&bytes)))
 }

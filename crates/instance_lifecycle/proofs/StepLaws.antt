@@ -10,7 +10,7 @@ use mathlib.Core.List.{List, [], _∷_}
 use mathlib.Core.Path.{_≡_, refl, sym, ap, _∙_}
 use native.Mathlib.Omega.{arith}
 use borrow.Author.Tests.{ltb-false}
-use lib.ListN.{length, length-take}
+use lib.ListN.{length}
 use Rattle.model.specs.declared.Guid.{Guid}
 use Rattle.model.specs.declared.InstanceState.{InstanceState}
 use Rattle.model.specs.declared.MaybeTime.{MaybeTime}
@@ -18,16 +18,15 @@ use Rattle.model.specs.declared.WriterSet.{WriterSet}
 use Rattle.model.specs.Guids.{same}
 use Rattle.model.specs.Instances.{isAlive, writersIn, withWriters, without, leftBy, writerDropped}
 use Rattle.model.specs.Sets.{has, remove, isEmpty}
-use Rattle.writer_set.proofs.PlaceLaws.{has-passed, length-members, without-none}
-use Rattle.writer_set.proofs.SetLaws.{members-of, sound-of, sound-size, remove-le}
-use Rattle.writer_set.specs.Places.{Sound, stopsAt, passed}
+use Rattle.instance_fields.proofs.UsableLaws.{without-sound as still-sound}
+use Rattle.instance_writers.proofs.PlaceLaws.{has-passed, length-members, without-none}
+use Rattle.model.proofs.SetLaws.{members-of}
+use Rattle.instance_writers.proofs.SetLaws.{sound-size}
+use Rattle.instance_writers.specs.Places.{Sound, stopsAt, passed}
 
 module _ (g : Guid) (x y : InstanceState) (e : y ≡ without g x) where
   pub without-sound : Sound (x .writers) → Sound (y .writers)
-  without-sound s =
-      rw e
-      (sound-of (remove g (writersIn x))
-      (omega (arith, remove-le g (writersIn x), length-take (x .writers .len) (x .writers .items), s .few)))
+  without-sound s = rw e (still-sound g (x .writers) s)
 
   pub without-left : isEmpty (writersIn y) && isAlive (y .life .kind) ≡ isEmpty (remove g (writersIn x)) && isAlive (x .life .kind)
   without-left = rw (e, members-of)

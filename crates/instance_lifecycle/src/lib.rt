@@ -1,6 +1,6 @@
 // Codes 1 to 5 and 7 on one instance by value: it is registered, disposed and unregistered, and loses its writers. Each
-// function gives what the definition of its name in model's Instances says. Rests on model, numbers, writer_set and
-// instance_fields, which has code 6.
+// function gives what the definition of its name in model's Instances says. Code 6 is in
+// instance_fields.
 //
 // Derives from instance_tracker.rs of ZeroDDS.
 // Copyright 2026 ZeroDDS Contributors. SPDX-License-Identifier: Apache-2.0. Changed: written anew in Rattle; an instance is
@@ -33,7 +33,7 @@ ghost use lib.Dec.{eqb};
 ghost use Prim.Native.Nat.{_-_, max};
 ghost use Rattle.model.specs.Instances.{isAlive, isDisposed, writerless, writersIn, countedDown, without, registered, ensured, disposed, unregistered, writerUnregistered, leftBy, writerDropped};
 ghost use Rattle.model.specs.Sets.{isEmpty};
-ghost use Rattle.writer_set.specs.Places.{Sound};
+ghost use Rattle.instance_writers.specs.Places.{Sound};
 ghost use Rattle.instance_fields.specs.Usable.{UsableLife};
 
 // ---- the parts of which the calls are made
@@ -64,7 +64,7 @@ fn without(g: Guid, x: InstanceState) -> InstanceState
     ensures { λ r. ⌜ r ≡ without g x ⌝ }
 {
     let w = x.writers;
-    with_writers(writer_set::without_writer(w, g), x)
+    with_writers(instance_writers::without_writer(w, g), x)
 }
 
 // ---- codes 1 and 2
@@ -146,7 +146,7 @@ fn is_writerless(x: InstanceState) -> bool
     let w = x.writers;
     let l = x.life;
     let k = l.kind;
-    if writer_set::is_empty(w) {
+    if instance_writers::is_empty(w) {
         return is_alive(k);
     }
     false
@@ -177,7 +177,7 @@ pub fn left_by(g: Guid, x: InstanceState) -> bool
     if w.len != 1 {
         return false;
     }
-    if writer_set::holds(w, g) {
+    if instance_writers::holds(w, g) {
         return is_alive(k);
     }
     false

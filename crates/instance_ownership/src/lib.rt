@@ -1,5 +1,6 @@
 // Codes 16 to 20 on one instance by value: OWNERSHIP and OWNERSHIP_STRENGTH (DDS 1.4, 2.2.3.9, 2.2.3.10). Each function gives
-// what the definition of its name in model's Instances says. Rests on model, guid, numbers, sample_time and instance_fields.
+// what the definition of its name in model's Instances says. An owner is lost in four ways (2.2.3.9.2): to a stronger writer, by
+// a change of its own strength, with its liveliness, and by a missed deadline.
 //
 // Derives from instance_tracker.rs of ZeroDDS.
 // Copyright 2026 ZeroDDS Contributors. SPDX-License-Identifier: Apache-2.0. Changed: written anew in Rattle; an instance is
@@ -26,7 +27,8 @@ pub fn owns(g: Guid, o: MaybeOwner) -> bool
     false
 }
 
-// Whether o is the ownership of one of the participant's writers.
+// Whether o is the ownership of one of the participant's writers: where a participant's lease ends, its GUID prefix is all
+// that is known.
 pub fn owns_prefix(g: Guid, o: MaybeOwner) -> bool
     ensures { λ r. ⌜ r ≡ ownsPrefix g o ⌝ }
 {
@@ -37,7 +39,9 @@ pub fn owns_prefix(g: Guid, o: MaybeOwner) -> bool
     false
 }
 
-// No owner, the same, greater strength, or equal strength and lower GUID takes over.
+// No owner, the same, greater strength, or equal strength and lower GUID takes over. The owner's own sample is accepted
+// whatever strength it carries: one that lowered its strength would else be turned away by itself. On a tie the standard asks
+// only that all readers choose alike (2.2.3.9.2); the lower GUID is what other implementations take.
 pub fn outbids(g: Guid, strength: u32, o: MaybeOwner) -> bool
     ensures { λ r. ⌜ r ≡ outbids g strength o ⌝ }
 {
@@ -59,7 +63,8 @@ pub fn outbids(g: Guid, strength: u32, o: MaybeOwner) -> bool
     false
 }
 
-// So does a missed deadline of the owner.
+// So does a missed deadline of the owner: one that is silent for the period it committed to gives the instance up, to a
+// weaker writer too (2.2.3.9.2).
 pub fn takes_over(s: Sheet, x: InstanceState) -> bool
     ensures { λ r. ⌜ r ≡ takesOver s x ⌝ }
 {
@@ -77,8 +82,8 @@ pub fn takes_over(s: Sheet, x: InstanceState) -> bool
     false
 }
 
-// The sheet's writer owns the instance, from time 2 on.
-fn owned_from(s: Sheet, x: InstanceState) -> InstanceState
+// The sheet's writer owns the instance, with the strength that this sample carries. Its deadline counts from time 2.
+pub fn owned_from(s: Sheet, x: InstanceState) -> InstanceState
     ensures { λ r. ⌜ r ≡ ownedFrom s x ⌝ }
 {
     let g = s.guid;
@@ -103,7 +108,8 @@ pub fn ownership_tried(s: Sheet, x: InstanceState) -> InstanceState
     x
 }
 
-// The owner's strength changes.
+// The owner announces another strength (2.2.3.9.2). It stays the owner: a writer that is now stronger takes over with its next
+// sample.
 pub fn strength_updated(g: Guid, strength: u32, x: InstanceState) -> InstanceState
     ensures { λ r. ⌜ r ≡ strengthUpdated g strength x ⌝ }
 {
@@ -120,7 +126,8 @@ pub fn strength_updated(g: Guid, strength: u32, x: InstanceState) -> InstanceSta
     x
 }
 
-// The instance with no owner; the time of its last owner stays.
+// The instance with no owner: the next sample of any writer takes it over. The time of the last owner stays, as in the original;
+// nothing asks for it until there is an owner again.
 fn unowned(x: InstanceState) -> InstanceState
     ensures { λ r. ⌜ r ≡ withOwner noOwner x ⌝ }
 {
@@ -133,7 +140,7 @@ fn unowned(x: InstanceState) -> InstanceState
     with_owner(o, x)
 }
 
-// The writer's ownership is cleared.
+// The writer's ownership is cleared: it lost its liveliness, or unregistered the instance and gave it up (2.2.3.23.3).
 pub fn owner_cleared(g: Guid, x: InstanceState) -> InstanceState
     ensures { λ r. ⌜ r ≡ ownerCleared g x ⌝ }
 {
@@ -144,7 +151,7 @@ pub fn owner_cleared(g: Guid, x: InstanceState) -> InstanceState
     x
 }
 
-// The ownership of the participant's writers is cleared.
+// The ownership of the participant's writers is cleared: they are gone with it.
 pub fn prefix_cleared(g: Guid, x: InstanceState) -> InstanceState
     ensures { λ r. ⌜ r ≡ prefixCleared g x ⌝ }
 {

@@ -1,6 +1,6 @@
 -- The calls on every instance, and the loss of writers: what they leave of the state, from what a pass leaves.
 --     usable-all             the instances of a well-formed table are usable
---     Held, ready-held       what a pass asks of it
+--     TableFits, ready-held       what a pass asks of it
 --     Few, passed-few        a tally is no more than the instances allow
 --     Every, every-turn      model's call, by the steps of a pass
 --     every-few, every-left  the bounds of its tally; the call from its pass
@@ -27,26 +27,28 @@ use Rattle.model.specs.Guids.{guidOf}
 use Rattle.model.specs.InstanceCalls as calls
 use Rattle.model.specs.InstanceCalls.{begun, nextAfter, instancesAfter, lateRefusal, instanceTurn, instanceCall, handleBytes, ownedBy, prefixOwned, isPurged}
 use Rattle.model.specs.InstanceRecord.{instanceOf}
+use Rattle.model.specs.Instances.{rule, onEvery}
 use Rattle.model.specs.Joined.{afterLoss, clearings, clearingsIn}
 use Rattle.model.specs.Layout.{readRows}
 use Rattle.model.specs.State.{instancesIn}
 use Rattle.model.specs.Tables.{pick, sift, all}
 use Rattle.model.specs.Times.{ifPresent}
 use Rattle.model.specs.WellFormed.{instanceOk}
-use Rattle.model.proofs.RowLaws.{both, length-read}
-use Rattle.turns.proofs.Finds.{split}
-use Rattle.turns.proofs.Sifts.{length-sift}
-use Rattle.instance_laws.proofs.Valid.{usable}
+use Rattle.model.proofs.Keeps.{every-cases}
+use Rattle.model.proofs.RowLaws.{length-read}
+use Rattle.model.proofs.Tests.{both}
+use Rattle.model.proofs.Tests.{split}
+use Rattle.model.proofs.TableLaws.{length-sift}
+use Rattle.instance_fields.proofs.UsableLaws.{usable}
 use Rattle.instance_table.proofs.LaidOut.{table-formed, table-laid}
 use Rattle.instance_pass.specs.declared.Passing.{Passing}
 use Rattle.instance_pass.specs.declared.Passing.the-variants.{Call, Loss}
 use Rattle.instance_pass.specs.declared.Tally.{Tally}
-use Rattle.instance_pass.specs.Steps.{onEvery, reportOf}
 use Rattle.instance_pass.specs.Passes.{remaining, listing, amount, total, UsableIn, Passed}
-use Rattle.instance_table.specs.TableCalls.{Ready, stateWith}
-use Rattle.instance_pass.specs.EveryCalls.{answerAs, Left}
+use Rattle.instance_table.specs.TableCalls.{TableFormed, stateWith}
+use Rattle.instance_pass.specs.EveryCalls.{answerAs, LeavesTableAndOut}
 use Rattle.instance_pass.proofs.ListLaws.{total-pick}
-use Rattle.instance_pass.proofs.StepLaws.{every-cases, counted-le}
+use Rattle.instance_pass.proofs.StepLaws.{counted-le}
 
 -- ---- a well-formed table
 
@@ -58,12 +60,12 @@ usable-all (suc n) t e =
     (usable (instanceOf (take 512 t) .state) (length-read guidOf 16 16 (drop 256 (take 512 t))) (p .0), usable-all n (drop 512 t) (p .1))
 
 -- what a pass asks of it
-pub record Held (count : ℕ) (t : List ℕ) : Type 0 where
+pub record TableFits (count : ℕ) (t : List ℕ) : Type 0 where
   pub few : count ≤ 128
   pub room : count * 512 ≤ length t
   pub usable : All UsableIn (instancesIn count t)
 
-pub ready-held : (places count next : ℕ) (t : List ℕ) → Ready places count next t → Held count t
+pub ready-held : (places count next : ℕ) (t : List ℕ) → TableFormed places count next t → TableFits count t
 ready-held places count next t d =
     let f = table-formed places count next t (d .formed) in
     record {
@@ -101,7 +103,7 @@ passed-few p s gone xs t out t′ out′ r h d =
 -- ---- model's call
 
 pub record Every (places : ℕ) (s : Sheet) (gone : List Guid) (xs : List Instance) (next : ℕ) (c : InstanceCall) : Type 0 where
-  pub answer : answerAs (reportOf c) (length (pick (listing (Call c) s gone) xs)) (total (amount (Call c) s gone) xs) ≡ instanceCall places c s (stateWith xs next) .answer
+  pub answer : answerAs (rule c .reports) (length (pick (listing (Call c) s gone) xs)) (total (amount (Call c) s gone) xs) ≡ instanceCall places c s (stateWith xs next) .answer
   pub instances : sift (remaining (Call c) s gone) xs ≡ instanceCall places c s (stateWith xs next) .state .instances
   pub same : next ≡ instanceCall places c s (stateWith xs next) .state .nextHandle
   pub list : handleBytes (pick (listing (Call c) s gone) xs) ≡ instanceCall places c s (stateWith xs next) .list
@@ -117,7 +119,7 @@ every-turn places c s gone xs next e =
     record { answer = ap counting (total-pick (isPurged s) xs); instances = refl; same = refl; list = refl }
 
 -- the bounds of its tally
-pub every-few : (places count next : ℕ) (c : InstanceCall) (s : Sheet) (gone : List Guid) (t out t′ out′ : List ℕ) (r : Tally) → Ready places count next t →
+pub every-few : (places count next : ℕ) (c : InstanceCall) (s : Sheet) (gone : List Guid) (t out t′ out′ : List ℕ) (r : Tally) → TableFormed places count next t →
     Passed (Call c) s gone (instancesIn count t) t out t′ out′ r → Few r 128
 every-few places count next c s gone t out t′ out′ r d p =
     let h = ready-held places count next t d in
@@ -127,10 +129,10 @@ every-few places count next c s gone t out t′ out′ r d p =
 
 -- the call from its pass
 pub every-left : (places count : ℕ) (c : InstanceCall) (s : Sheet) (gone : List Guid) (next : InstanceHandle) (t out t′ out′ : List ℕ) (r : Tally) (a : Answer) → onEvery c ≡ true →
-    Bytes t → Ready places count (next .0) t →
+    Bytes t → TableFormed places count (next .0) t →
     Passed (Call c) s gone (instancesIn count t) t out t′ out′ r →
-    a ≡ answerAs (reportOf c) (r .listed) (r .counted) →
-    Left places (instanceCall places c s (stateWith (instancesIn count t) (next .0))) out record { answer = a; count = r .kept; «next_handle» = next } t′ out′
+    a ≡ answerAs (rule c .reports) (r .listed) (r .counted) →
+    LeavesTableAndOut places (instanceCall places c s (stateWith (instancesIn count t) (next .0))) out record { answer = a; count = r .kept; «next_handle» = next } t′ out′
 every-left places count c s gone next t out t′ out′ r a e b d p q =
     let v = every-turn places c s gone (instancesIn count t) (next .0) e in
     record {

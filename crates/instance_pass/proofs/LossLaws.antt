@@ -21,11 +21,13 @@ use Rattle.model.specs.InstanceRecord.{bit}
 use Rattle.model.specs.Instances.{leftBy, writerDropped, owns, ownerCleared}
 use Rattle.model.specs.Joined.{leftWithout, leftWithoutAll, leftByOne, clearings}
 use Rattle.model.specs.Layout.{readRows}
-use Rattle.writer_set.specs.Places.{Sound}
-use Rattle.instance_table.proofs.Rows.{be-in, read-left}
+use Rattle.instance_writers.specs.Places.{Sound}
+use Rattle.instance_fields.proofs.UsableLaws.{sound-loss}
+use Rattle.octets.proofs.Laws.{be-part}
+use Rattle.model.proofs.RowLaws.{read-cons}
 use Rattle.instance_pass.specs.declared.Step.{Step}
 use Rattle.instance_pass.specs.Steps.{Stepped, lostOne}
-use Rattle.instance_pass.proofs.StepLaws.{bit-le, lost-sound}
+use Rattle.instance_pass.proofs.StepLaws.{bit-le}
 
 -- of the GUIDs, those from i on are still to come
 abbrev ahead : ℕ → List ℕ → ℕ → List Guid
@@ -49,9 +51,9 @@ module _ (b : List ℕ) (at : MaybeTime) (x : InstanceState) (n : ℕ) where
   -- the GUID at place i
   next : (i : ℕ) → i < n → ahead n b i ≡ guidAt b (i * 16) ∷ ahead n b (i + 1)
   next i h =
-      let u : be 8 (take 16 (drop (i * 16) b)) 0 ≡ be 8 b (i * 16) = be-in 8 16 (i * 16) b 0 (omega arith) ∙ ap (λ (o : ℕ). be 8 b o) (omega arith) in
-      let v : be 8 (take 16 (drop (i * 16) b)) 8 ≡ be 8 b (i * 16 + 8) = be-in 8 16 (i * 16) b 8 (omega arith) in
-      read-left guidOf 16 n i b h ∙ rw (u, v)
+      let u : be 8 (take 16 (drop (i * 16) b)) 0 ≡ be 8 b (i * 16) = be-part 8 16 (i * 16) b 0 (omega arith) ∙ ap (λ (o : ℕ). be 8 b o) (omega arith) in
+      let v : be 8 (take 16 (drop (i * 16) b)) 8 ≡ be 8 b (i * 16 + 8) = be-part 8 16 (i * 16) b 8 (omega arith) in
+      read-cons guidOf 16 n i b h ∙ rw (u, v)
 
   module _ (i : ℕ) (r : Step) (l : Losing b at x n i r) where
     pub losing-turn : (g : Guid) (t : Step) → i < n → g ≡ guidAt b (i * 16) → t ≡ lostOne g at r → Losing b at x n (i + 1) t
@@ -63,7 +65,7 @@ module _ (b : List ℕ) (at : MaybeTime) (x : InstanceState) (n : ℕ) where
           below = omega arith;
           few = omega (arith, l .few, bit-le (owns g (writerDropped g at (r .state) .owner)));
           keep = refl;
-          sound = lost-sound g at (r .state) (l .sound);
+          sound = sound-loss g at (r .state) (l .sound);
           left = l .left ∙ ap (λ (z : List Guid). leftWithoutAll z at (r .state)) a;
           listed = l .listed ∙ ap (λ (z : List Guid). r .listed || leftByOne z at (r .state)) a
               ∙ sym (or-assoc (r .listed) (leftBy g (r .state)) (leftByOne (ahead n b (i + 1)) at (leftWithout g at (r .state))));

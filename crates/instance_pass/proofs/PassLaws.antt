@@ -17,9 +17,11 @@ use native.Mathlib.Nat.{mul-le-mul-right}
 use native.Mathlib.Omega.{arith}
 use lib.ListN.{length, getD, take, drop, take-append-drop}
 use lib.Seq.{take-all, drop-drop, paste}
-use Rattle.octets.specs.Lay.{All, all-get, lay-read}
+use Rattle.octets.specs.Lay.{All}
+use Rattle.octets.proofs.LayLaws.{all-get, lay-read}
 use Rattle.octets.specs.Octets.{put}
-use Rattle.octets.specs.Patch.{patch, drop-patch}
+use Rattle.octets.specs.Patch.{patch}
+use Rattle.octets.proofs.PatchLaws.{drop-patch}
 use Rattle.model.specs.declared.Guid.{Guid}
 use Rattle.model.specs.declared.Instance.{Instance}
 use Rattle.model.specs.declared.InstanceState.{InstanceState}
@@ -29,29 +31,29 @@ use Rattle.model.specs.InstanceCalls.{kept, handleBytes}
 use Rattle.model.specs.InstanceRecord.{bit, instanceOf, instanceBytes}
 use Rattle.model.specs.State.{instancesIn}
 use Rattle.model.specs.Tables.{isSome, pick, sift}
-use Rattle.model.proofs.RowLaws.{length-read}
-use Rattle.turns.specs.Places.{survivors, midway}
-use Rattle.turns.proofs.Finds.{pick-take, pick-more}
-use Rattle.turns.proofs.Passes.{survivors-keep, survivors-drop, midway-start, midway-end, length-midway, midway-keep, midway-drop, midway-get}
+use Rattle.model.proofs.RowLaws.{length-read, get-read}
+use Rattle.tables.proofs.Passes.{survivors}
+use Rattle.tables.proofs.Passes.{midway}
+use Rattle.tables.proofs.Finds.{pick-take, pick-more}
+use Rattle.tables.proofs.Passes.{survivors-keep, survivors-drop, midway-start, midway-end, length-midway, midway-keep, midway-drop, midway-get}
+use Rattle.instance_writers.specs.Places.{Sound}
 use Rattle.instance_table.specs.Laid.{Wide, Laid}
 use Rattle.instance_table.proofs.LaidOut.{patch-width, replaced}
-use Rattle.instance_table.proofs.Rows.{get-read}
 use Rattle.instance_record.specs.Parts.{recordAt}
 use Rattle.instance_pass.specs.declared.Passing.{Passing}
 use Rattle.instance_pass.specs.declared.Step.{Step}
 use Rattle.instance_pass.specs.declared.Tally.{Tally}
 use Rattle.instance_pass.specs.Steps.{Passable, leftIn, listedIn, countedIn, remains, Stepped}
-use Rattle.instance_pass.specs.Passes.{remaining, listing, amount, total, UsableIn, keptAt, withStep, Ahead, Turned, Spared, Passed}
-use Rattle.instance_pass.proofs.ListLaws.{list-start, list-more, total-take, drop-same}
-use Rattle.instance_pass.proofs.StepLaws.{SoundLeft, bit-le, counted-le}
+use Rattle.instance_pass.specs.Passes.{remaining, listing, amount, total, UsableIn, keptAt, withStep, Ahead, TookOne, Spared, Passed}
+use Rattle.instance_pass.proofs.ListLaws.{total-take, drop-same}
+use Rattle.model.proofs.HandleLists.{list-start, list-more}
+use Rattle.instance_pass.proofs.StepLaws.{bit-le, counted-le}
 
 -- ---- one record from its parts
 
-pub step-few : (r : Step) (left : Option InstanceState) → remains r ≡ left → SoundLeft left → r .keep ≡ true → r .state .writers .len < 32
-step-few r left e h k =
-    let s : SoundLeft (remains r) = rw e h in
-    let w = rw k at s in
-    omega (arith, w .few)
+pub step-few : (r : Step) (left : Option InstanceState) → remains r ≡ left → ((y : InstanceState) → left ≡ some y → Sound (y .writers)) → r .keep ≡ true →
+    r .state .writers .len < 32
+step-few r left e h k = omega (arith, h (r .state) (sym e ∙ rw k refl) .few)
 
 is-kept : (b : Bool) (x : Instance) (y : InstanceState) → b ≡ isSome (kept x (cond b (some y) none))
 is-kept true x y = refl
@@ -60,7 +62,7 @@ is-kept false x y = refl
 pub turned : (p : Passing) (s : Sheet) (gone : List Guid) (x y : Instance) (r : Step) (t out t′ out′ : List ℕ) (c c′ : Tally) → x ≡ y →
     Stepped (leftIn p s gone (x .state)) (listedIn p s gone (x .state)) (countedIn p s gone (x .state)) r →
     t′ ≡ keptAt t (c .kept) (kept x (remains r)) → out′ ≡ cond (r .listed) (put 8 out (c .listed * 8) (x .handle .0)) out → c′ ≡ withStep c r →
-    Turned p s gone y t out c t′ out′ c′
+    TookOne p s gone y t out c t′ out′ c′
 turned p s gone x y r t out t′ out′ c c′ e h a b d =
     rw (← e, d)
     record {
@@ -244,10 +246,10 @@ module _ (p : Passing) (s : Sheet) (gone : List Guid) (count : ℕ) (t₀ out₀
           }
 
       during-turn : (t′ out′ : List ℕ) (c′ : Tally) → length t′ ≡ length t → length out′ ≡ length out →
-          Turned p s gone (instanceOf (recordAt t i)) t out c t′ out′ c′ → During (i + 1) t′ out′ c′
+          TookOne p s gone (instanceOf (recordAt t i)) t out c t′ out′ c′ → During (i + 1) t′ out′ c′
       during-turn t′ out′ c′ n m w = go (instanceOf (recordAt t i)) (during-read h) w
         where
-          go : (x : Instance) → x ≡ getD xs i x → Turned p s gone x t out c t′ out′ c′ → During (i + 1) t′ out′ c′
+          go : (x : Instance) → x ≡ getD xs i x → TookOne p s gone x t out c t′ out′ c′ → During (i + 1) t′ out′ c′
           go x e w =
               told x e t′ out′ c′ n m (behind x e (f x) refl t′ (w .table) n)
               record { noted = w .list; kept = w .kept; listed = w .listed; counted = w .counted }
@@ -290,7 +292,7 @@ module _ (p : Passing) (s : Sheet) (gone : List Guid) (count : ℕ) (t₀ out₀
               }
 
       pub during-went : (t′ out′ : List ℕ) (c′ : Tally) → length t′ ≡ length t → length out′ ≡ length out →
-          Turned p s gone (instanceOf (recordAt t i)) t out c t′ out′ c′ ⊎ Spared p s gone (instanceOf (recordAt t i)) i t out c t′ out′ c′ →
+          TookOne p s gone (instanceOf (recordAt t i)) t out c t′ out′ c′ ⊎ Spared p s gone (instanceOf (recordAt t i)) i t out c t′ out′ c′ →
           During (i + 1) t′ out′ c′
       during-went t′ out′ c′ n m w = ⊎-elim (λ a. during-turn t′ out′ c′ n m a) (λ b. during-spared t′ out′ c′ n m b) w
 

@@ -9,15 +9,16 @@ use mathlib.Core.Path.{_≡_, refl}
 use native.Mathlib.Omega.{arith}
 use borrow.Author.Tests.{ltb-true, ltb-false, ne-eqb}
 use lib.ListN.{take}
-use Rattle.octets.specs.Lay.{All, all-append}
+use Rattle.octets.specs.Lay.{All}
+use Rattle.octets.proofs.LayLaws.{all-append}
 use Rattle.model.specs.declared.Guid.{Guid}
 use Rattle.model.specs.Guids.{num, less, same, guidAt, guidOf, guidsIn}
 use Rattle.model.specs.Layout.{readRows}
 use Rattle.model.specs.Sets.{has}
 use Rattle.model.specs.Tables.{all}
-use Rattle.model.proofs.RowLaws.{both}
-use Rattle.turns.proofs.Finds.{split}
-use Rattle.instance_record.proofs.Rows.{read-snoc, guid-part}
+use Rattle.model.proofs.Tests.{both, split}
+use Rattle.model.proofs.RowLaws.{read-snoc}
+use Rattle.model.proofs.GuidLaws.{guid-part}
 use Rattle.instance_watch.specs.declared.Span.{Span}
 use Rattle.instance_watch.specs.Watches.{outside}
 use Rattle.instance_pass.specs.Spares.{within, widened}
@@ -47,7 +48,7 @@ span-start w b = tt
 
 pub span-turn : (w v : Span) (g : Guid) (b : List ℕ) (i : ℕ) → All (within w) (guidsIn i b) → g ≡ guidAt b (i * 16) → v ≡ widened w g → All (within v) (guidsIn (i + 1) b)
 span-turn w v g b i h e f =
-    rw (f, read-snoc guidOf 16 i b, guid-part (i * 16) b, ← e)
+    rw (f, read-snoc guidOf 16 i b, guid-part 16 (i * 16) b (omega arith), ← e)
     (all-append (within (widened w g)) (guidsIn i b) (g ∷ []) (all-within w g (guidsIn i b) h) ((low-falls w g .1, high-rises w g .1), tt))
 
 -- ---- outside it

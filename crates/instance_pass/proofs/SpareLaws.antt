@@ -22,24 +22,24 @@ use Rattle.model.specs.declared.Sheet.{Sheet}
 use Rattle.model.specs.declared.Times.{Times}
 use Rattle.model.specs.Guids.{same, samePrefix, guidAt, guidsIn}
 use Rattle.model.specs.InstanceRecord.{bit, instanceOf}
-use Rattle.model.specs.Instances.{isAlive, leftBy, writersIn, writerDropped, owns, ownsPrefix, strengthUpdated, ownerCleared, prefixCleared, purged, purgedAs}
+use Rattle.model.specs.Instances.{rule, onEvery, isAlive, leftBy, writersIn, writerDropped, owns, ownsPrefix, strengthUpdated, ownerCleared, prefixCleared, purged, purgedAs}
 use Rattle.model.specs.Joined.{leftWithout, leftWithoutAll, leftByOne, clearings}
 use Rattle.model.specs.Sets.{has}
 use Rattle.model.specs.Tables.{all}
 use Rattle.model.specs.Times.{ifPresent}
-use Rattle.model.proofs.RowLaws.{both}
-use Rattle.turns.proofs.Finds.{clash}
+use Rattle.model.proofs.Keeps.{every-cases}
+use Rattle.model.proofs.Tests.{both}
+use Rattle.model.proofs.Tests.{clash}
 use Rattle.instance_watch.specs.declared.Span.{Span}
 use Rattle.instance_watch.specs.declared.Watch.{Watch}
 use Rattle.instance_watch.specs.declared.Watch.the-variants.{Writers}
 use Rattle.instance_watch.specs.Watches.{outside, clear}
 use Rattle.instance_pass.specs.declared.Passing.{Passing}
 use Rattle.instance_pass.specs.declared.Passing.the-variants.{Call, Loss}
-use Rattle.instance_pass.specs.declared.Report.{Report}
+use Rattle.model.specs.declared.Report.{Report}
 use Rattle.instance_pass.specs.Spares.{within, watchAs, Watches}
-use Rattle.instance_pass.specs.Steps.{onEvery, Passable, reportOf}
+use Rattle.instance_pass.specs.Steps.{Passable}
 use Rattle.instance_pass.proofs.SpanLaws.{differs, no-member, all-first}
-use Rattle.instance_pass.proofs.StepLaws.{every-cases}
 use lib.ListN.{drop}
 
 -- ---- one part of an instance
@@ -139,7 +139,7 @@ watches-loss s gone w h r e =
 module _ (s : Sheet) (gone : List Guid) where
   -- what is looked for in the call c
   abbrev Watched : InstanceCall → Type 0
-  Watched c = Watches (Call c) s gone (watchAs (reportOf c) (s .guid))
+  Watched c = Watches (Call c) s gone (watchAs (rule c .reports) (s .guid))
 
   drop-watched : Watched DropWriter
   drop-watched r e =
@@ -147,15 +147,15 @@ module _ (s : Sheet) (gone : List Guid) where
       let n = unheld record { low = s .guid; high = s .guid } (ifPresent (s .«time_1»)) x (apart record { low = s .guid; high = s .guid } r e) (s .guid) (omega arith, omega arith) in
       record { left = ap some (drop-none (s .guid) (ifPresent (s .«time_1»)) x n); unlisted = left-none (s .guid) x n; uncounted = refl }
 
-  other-owner : (r : List ℕ) → clear (watchAs (reportOf UpdateOwnerStrength) (s .guid)) r ≡ true → owns (s .guid) (instanceOf r .state .owner) ≡ false
+  other-owner : (r : List ℕ) → clear (watchAs (rule UpdateOwnerStrength .reports) (s .guid)) r ≡ true → owns (s .guid) (instanceOf r .state .owner) ≡ false
   unfolding instanceOf
   other-owner r e = own-none (s .guid) (instanceOf r .state .owner) (not-true (same (guidAt r 92) (s .guid)) e)
 
-  other-prefix : (r : List ℕ) → clear (watchAs (reportOf ClearOwnerForWriterPrefix) (s .guid)) r ≡ true → ownsPrefix (s .guid) (instanceOf r .state .owner) ≡ false
+  other-prefix : (r : List ℕ) → clear (watchAs (rule ClearOwnerForWriterPrefix .reports) (s .guid)) r ≡ true → ownsPrefix (s .guid) (instanceOf r .state .owner) ≡ false
   unfolding instanceOf
   other-prefix r e = prefix-none (s .guid) (instanceOf r .state .owner) (not-true (samePrefix (guidAt r 92) (s .guid)) e)
 
-  kind-alive : (r : List ℕ) → clear (watchAs (reportOf Autopurge) (s .guid)) r ≡ true → isAlive (instanceOf r .state .life .kind) ≡ true
+  kind-alive : (r : List ℕ) → clear (watchAs (rule Autopurge .reports) (s .guid)) r ≡ true → isAlive (instanceOf r .state .life .kind) ≡ true
   unfolding instanceOf
   kind-alive r e = e
 
@@ -167,7 +167,7 @@ module _ (s : Sheet) (gone : List Guid) where
       (λ r e. record { left = ap some (prefixes-none (s .guid) (instanceOf r .state) (other-prefix r e)); unlisted = refl; uncounted = ap bit (other-prefix r e) })
       (λ r e. record { left = stays (purged s (instanceOf r .state)) (instanceOf r .state) (alive-stays s (instanceOf r .state) (kind-alive r e)); unlisted = refl; uncounted = ap bit (alive-stays s (instanceOf r .state) (kind-alive r e)) })
 
-pub watch-call : (p : Passing) (c : InstanceCall) (k : Report) (w : Watch) (g : Guid) (gone : List Guid) → p ≡ Call c → Passable p → k ≡ reportOf c → w ≡ watchAs k g →
+pub watch-call : (p : Passing) (c : InstanceCall) (k : Report) (w : Watch) (g : Guid) (gone : List Guid) → p ≡ Call c → Passable p → k ≡ rule c .reports → w ≡ watchAs k g →
     (s : Sheet) → s .guid ≡ g → Watches p s gone w
 watch-call p c k w g gone e h a b s q = rw (e, b, a, ← q) (watches-call s gone c (rw e at h))
 

@@ -1,7 +1,6 @@
 -- What a call on every instance leaves.
 --     answerAs      the answer, from what was reported of the instances
---     Left          what comes back, the table and Out are what is left of a turn
--- Rests on model's calls and on instance_table's layout.
+--     LeavesTableAndOut          what comes back, the table and Out are what is left of a turn
 use Prim.Native.Nat.{ℕ}
 use mathlib.Core.List.{List}
 use mathlib.Core.Path.{_≡_}
@@ -12,8 +11,8 @@ use Rattle.model.specs.Call.{listIn}
 use Rattle.model.specs.InstanceCalls.{Turned}
 use Rattle.instance_table.specs.declared.TableCall.{TableCall}
 use Rattle.instance_table.specs.Laid.{Laid}
-use Rattle.instance_pass.specs.declared.Report.{Report}
-use Rattle.instance_pass.specs.declared.Report.the-variants.{Nothing, Left as IsLeft, Owner, Prefix, Purge}
+use Rattle.model.specs.declared.Report.{Report}
+use Rattle.model.specs.declared.Report.the-variants.{Nothing, Left as IsLeft, Owner, Prefix, Purge}
 
 -- how many are listed, or counted
 abbrev pub answerAs : Report → ℕ → ℕ → Answer
@@ -24,7 +23,7 @@ answerAs Prefix listed counted = counting counted
 answerAs Purge listed counted = counting counted
 
 -- r, the table t and out are what is left of the turn T, which was lent this Out
-pub record Left (places : ℕ) (T : Turned) (lent : List ℕ) (r : TableCall) (t out : List ℕ) : Type 0 where
+pub record LeavesTableAndOut (places : ℕ) (T : Turned) (lent : List ℕ) (r : TableCall) (t out : List ℕ) : Type 0 where
   pub answer : r .answer ≡ T .answer
   pub count : r .count ≡ length (T .state .instances)
   pub next : r .«next_handle» .0 ≡ T .state .nextHandle

@@ -3,9 +3,8 @@
 --     total                         the sum of the amounts
 --     UsableIn                      an instance that the steps can take
 --     keptAt, withStep              a table where what is left of an instance is written; a tally with one step more
---     Ahead, Turned, Spared         one record of a pass: what it asks, what it leaves, and that it was left alone
+--     Ahead, TookOne, Spared         one record of a pass: what it asks, what it leaves, and that it was left alone
 --     Passed                        the whole pass
--- Rests on model's calls and on instance_table's layout.
 use Prim.Native.Nat.{ℕ, _+_, _*_, _≤_, _<_}
 use mathlib.Core.Bool.{Bool, cond}
 use mathlib.Core.List.{List, [], _∷_}
@@ -76,7 +75,7 @@ pub record Ahead (p : Passing) (gone t out : List ℕ) (i : ℕ) (c : Tally) (x 
   pub usable : UsableIn x
 
 -- from the table t, Out and the tally so far to those behind the instance x
-pub record Turned (p : Passing) (s : Sheet) (gone : List Guid) (x : Instance) (t out : List ℕ) (c : Tally) (t′ out′ : List ℕ) (c′ : Tally) : Type 0 where
+pub record TookOne (p : Passing) (s : Sheet) (gone : List Guid) (x : Instance) (t out : List ℕ) (c : Tally) (t′ out′ : List ℕ) (c′ : Tally) : Type 0 where
   pub table : t′ ≡ keptAt t (c .kept) (remaining p s gone x)
   pub list : out′ ≡ cond (listing p s gone x) (put 8 out (c .listed * 8) (x .handle .0)) out
   pub kept : c′ .kept ≡ c .kept + bit (isSome (remaining p s gone x))

@@ -3,7 +3,6 @@
 --     watchAs             what a call looks for, by what it reports
 --     Untouched           the step leaves an instance as it is, lists it not and counts nothing
 --     Watches             it does so where nothing of what is looked for is in its record
--- Rests on model's calls and on instance_watch.
 use Prim.Native.Nat.{ℕ, _≤_}
 use mathlib.Core.Bool.{true, false, cond}
 use mathlib.Core.List.{List}
@@ -19,8 +18,8 @@ use Rattle.instance_watch.specs.declared.Watch.{Watch}
 use Rattle.instance_watch.specs.declared.Watch.the-variants.{Owner as OfOwner, Prefix as OfPrefix, Writers, NotAlive}
 use Rattle.instance_watch.specs.Watches.{clear}
 use Rattle.instance_pass.specs.declared.Passing.{Passing}
-use Rattle.instance_pass.specs.declared.Report.{Report}
-use Rattle.instance_pass.specs.declared.Report.the-variants.{Nothing, Left, Owner, Prefix, Purge}
+use Rattle.model.specs.declared.Report.{Report}
+use Rattle.model.specs.declared.Report.the-variants.{Nothing, Left, Owner, Prefix, Purge}
 use Rattle.instance_pass.specs.Steps.{leftIn, listedIn, countedIn}
 
 -- neither before the span nor behind it

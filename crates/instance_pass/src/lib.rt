@@ -1,8 +1,6 @@
 // The calls on every instance as one pass over the lent table, and the loss of several writers as another: record by record,
 // what is left of an instance is written behind the instances kept, and the handles of those listed go to the front of Out.
 // A record that the call leaves as it is, as few of its bytes tell, is not read whole, and moves only behind a purged one.
-// Rests on octets, model, turns, answers, instance_record, instance_writing, instance_watch, instance_fields,
-// instance_lifecycle, instance_ownership, instance_state and instance_table.
 //
 // Derives from instance_tracker.rs of ZeroDDS.
 // Copyright 2026 ZeroDDS Contributors. SPDX-License-Identifier: Apache-2.0. Changed: written anew in Rattle, with the
@@ -17,6 +15,7 @@ use model::InstanceCall;
 use model::InstanceHandle;
 use model::InstanceState;
 use model::MaybeTime;
+use model::Report;
 use model::Sheet;
 ghost use mathlib.Core.Bool.{true, cond, _&&_, _||_};
 ghost use mathlib.Core.Logic.{_⊎_};
@@ -27,33 +26,24 @@ ghost use lib.ListN.{length};
 ghost use Rattle.octets.specs.Lay.{All};
 ghost use Rattle.octets.specs.Octets.{put};
 ghost use Rattle.octets.specs.Patch.{patch};
-ghost use Rattle.model.specs.InstanceCalls.{kept, instanceCall};
+ghost use Rattle.model.specs.InstanceCalls.{kept, lists, instanceCall};
 ghost use Rattle.model.specs.InstanceRecord.{bit, instanceOf};
-ghost use Rattle.model.specs.Instances.{rule, effect, leftBy};
+ghost use Rattle.model.specs.Instances.{rule, onEvery, effect, leftBy};
 ghost use Rattle.model.specs.Joined.{leftWithoutAll, leftByOne, clearings};
 ghost use Rattle.model.specs.State.{instancesIn};
-ghost use Rattle.writer_set.specs.Places.{Sound};
+ghost use Rattle.instance_writers.specs.Places.{Sound};
 ghost use Rattle.instance_record.specs.Parts.{recordAt};
 ghost use Rattle.instance_fields.specs.Usable.{Usable};
-ghost use Rattle.instance_table.specs.TableCalls.{Ready, stateWith};
-ghost use Rattle.instance_pass.specs.EveryCalls.{answerAs, Left};
-ghost use Rattle.instance_pass.specs.Passes.{UsableIn, keptAt, withStep, Ahead, Turned, Spared, Passed};
+ghost use Rattle.instance_table.specs.TableCalls.{TableFormed, stateWith};
+ghost use Rattle.instance_pass.specs.EveryCalls.{answerAs, LeavesTableAndOut};
+ghost use Rattle.instance_pass.specs.Passes.{UsableIn, keptAt, withStep, Ahead, TookOne, Spared, Passed};
 ghost use Rattle.instance_pass.specs.Spares.{within, widened, watchAs, Watches};
-ghost use Rattle.instance_pass.specs.Steps.{onEvery, Passable, gonesIn, reportOf, countedAs, listedAs, counts, leftIn, listedIn, countedIn, remains, Stepped, lostOne};
+ghost use Rattle.instance_pass.specs.Steps.{Passable, gonesIn, countedAs, listedAs, counts, leftIn, listedIn, countedIn, remains, Stepped, lostOne};
 
 // What passes over the instances: a call on every one, or the loss of the writers of a list.
 pub enum Passing {
     Call(InstanceCall),
     Loss,
-}
-
-// What a call reports of an instance: that it is left writerless, that its owner is cleared, or that it is purged.
-pub enum Report {
-    Nothing,
-    Left,
-    Owner,
-    Prefix,
-    Purge,
 }
 
 // What becomes of one instance: whether it stays, is listed in Out, and how much it counts for the answer.
@@ -75,31 +65,11 @@ pub struct Tally {
 
 // What a call reports of an instance.
 fn report_of(c: InstanceCall) -> Report
-    ensures { λ r. ⌜ r ≡ reportOf c ⌝ }
+    ensures { λ r. ⌜ r ≡ rule c .reports ⌝ }
 {
-    match c {
-        InstanceCall::Register => Report::Nothing,
-        InstanceCall::EnsureRegisteredLimited => Report::Nothing,
-        InstanceCall::Dispose => Report::Nothing,
-        InstanceCall::Unregister => Report::Nothing,
-        InstanceCall::UnregisterWriter => Report::Nothing,
-        InstanceCall::NoteWriter => Report::Nothing,
-        InstanceCall::DropWriter => Report::Left,
-        InstanceCall::ObserveLifecycle => Report::Nothing,
-        InstanceCall::ObserveAdmitted => Report::Nothing,
-        InstanceCall::NoteAdmitted => Report::Nothing,
-        InstanceCall::RecordDelivery => Report::Nothing,
-        InstanceCall::NoteTaken => Report::Nothing,
-        InstanceCall::MarkViewSeen => Report::Nothing,
-        InstanceCall::MarkViewNew => Report::Nothing,
-        InstanceCall::DrainSamples => Report::Nothing,
-        InstanceCall::AcceptUnderExclusiveOwnership => Report::Nothing,
-        InstanceCall::UpdateOwnerStrength => Report::Nothing,
-        InstanceCall::ClearOwnerForWriter => Report::Owner,
-        InstanceCall::ClearOwnerForWriterPrefix => Report::Prefix,
-        InstanceCall::ReleaseOwnerOf => Report::Nothing,
-        InstanceCall::Autopurge => Report::Purge,
-    }
+    let r = instance_rules::rule_of(c);
+    let k = r.reports;
+    k
 }
 
 // 1 for yes, 0 for no.
@@ -135,16 +105,16 @@ fn is_counted(k: Report, s: Sheet, x: InstanceState) -> bool
         Report::Left => false,
         Report::Owner => instance_ownership::owns(g, o),
         Report::Prefix => instance_ownership::owns_prefix(g, o),
-        Report::Purge => instance_state::purged(s, x),
+        Report::Purge => instance_effects::purged(s, x),
     }
 }
 
 // What a call on every instance makes of one.
 pub fn call_step(c: InstanceCall, s: Sheet, x: InstanceState) -> Step
     requires { ⌜ (onEvery c ≡ true) × Usable x ⌝ }
-    ensures { λ r. ⌜ Stepped (effect c s x) (rule c .listsLeft && leftBy (s .guid) x) (bit (counts c s x)) r ⌝ }
+    ensures { λ r. ⌜ Stepped (effect c s x) (lists c && leftBy (s .guid) x) (bit (counts c s x)) r ⌝ }
 {
-    let e = instance_state::take_effect(c, s, x);
+    let e = instance_effects::take_effect(c, s, x);
     let k = report_of(c);
     let l = is_listed(k, s, x);
     let n = one(is_counted(k, s, x));
@@ -348,7 +318,7 @@ fn pass_at(
     gone: &[u8],
 ) -> Tally
     requires { ⌜ Ahead p (now gone) (now pens) (now out) i tally (instanceOf (recordAt (now pens) i)) ⌝ }
-    ensures { λ r. ⌜ Turned p s (gonesIn (now (gone .entry))) (instanceOf (recordAt (now (pens .entry)) i)) (now (pens .entry)) (now (out .entry)) tally (now (pens .exit)) (now (out .exit)) r ⌝ }
+    ensures { λ r. ⌜ TookOne p s (gonesIn (now (gone .entry))) (instanceOf (recordAt (now (pens .entry)) i)) (now (pens .entry)) (now (out .entry)) tally (now (pens .exit)) (now (out .exit)) r ⌝ }
 {
     let x = instance_record::instance_at(pens, i);
     let state = x.state;
@@ -381,7 +351,7 @@ fn turn(
     w: Watch,
 ) -> Tally
     requires { ⌜ Ahead p (now gone) (now pens) (now out) i tally (instanceOf (recordAt (now pens) i)) × Watches p s (gonesIn (now gone)) w ⌝ }
-    ensures { λ r. ⌜ Turned p s (gonesIn (now (gone .entry))) (instanceOf (recordAt (now (pens .entry)) i)) (now (pens .entry)) (now (out .entry)) tally (now (pens .exit)) (now (out .exit)) r
+    ensures { λ r. ⌜ TookOne p s (gonesIn (now (gone .entry))) (instanceOf (recordAt (now (pens .entry)) i)) (now (pens .entry)) (now (out .entry)) tally (now (pens .exit)) (now (out .exit)) r
         ⊎ Spared p s (gonesIn (now (gone .entry))) (instanceOf (recordAt (now (pens .entry)) i)) i (now (pens .entry)) (now (out .entry)) tally (now (pens .exit)) (now (out .exit)) r ⌝ }
 {
     if instance_watch::is_clear(pens, i, w) {
@@ -452,8 +422,8 @@ pub fn every_call(
     count: u32,
     next: InstanceHandle,
 ) -> TableCall
-    requires { ⌜ Ready places count (next .0) (now pens) × (1024 ≤ length (now out)) × (onEvery c ≡ true) ⌝ }
-    ensures { λ r. ⌜ Left places (instanceCall places c s (stateWith (instancesIn count (now (pens .entry))) (next .0))) (now (out .entry)) r (now (pens .exit)) (now (out .exit)) ⌝ }
+    requires { ⌜ TableFormed places count (next .0) (now pens) × (1024 ≤ length (now out)) × (onEvery c ≡ true) ⌝ }
+    ensures { λ r. ⌜ LeavesTableAndOut places (instanceCall places c s (stateWith (instancesIn count (now (pens .entry))) (next .0))) (now (out .entry)) r (now (pens .exit)) (now (out .exit)) ⌝ }
 {
     let nobody = [0u8; 16];
     let tally = pass(pens, out, count as usize, Passing::Call(c), s, &nobody);

@@ -24,8 +24,8 @@ use Rattle.model.specs.Reads.{usedIn, tableOf, tableRefusal, viewIn, among, lef
 use Rattle.model.specs.Sets.{has, isEmpty}
 use Rattle.model.specs.Tables.{all, pick}
 use Rattle.instance_record.proofs.Rows.{guid-in}
-use Rattle.turns.specs.Places.{placeOf}
-use Rattle.turns.proofs.Finds.{split, lt-or-le}
+use Rattle.tables.specs.Places.{placeOf}
+use Rattle.model.proofs.Tests.{split, lt-or-le}
 use Rattle.instance_reads.proofs.Answers.{refused-decision}
 use Rattle.instance_reads.proofs.Members.{alive-flag, dead-flag, view-flag, members-read}
 use Rattle.instance_reads.proofs.Scans.{row}

@@ -24,8 +24,9 @@ use Rattle.model.specs.Reads.{usedIn, tableOf, writes}
 use Rattle.model.specs.Sets.{has}
 use Rattle.model.specs.WellFormed.{instanceOk}
 use Rattle.instance_record.specs.Parts.{recordAt}
-use Rattle.instance_record.proofs.Rows.{take-read, lent-part}
-use Rattle.turns.specs.Places.{placeOf}
+use Rattle.model.proofs.RowLaws.{take-read}
+use Rattle.instance_record.proofs.Rows.{lent-part}
+use Rattle.tables.specs.Places.{placeOf}
 use Rattle.instance_reads.proofs.Scans.{place-row}
 use Rattle.instance_reads.proofs.Stored.{set-len}
 

@@ -15,11 +15,11 @@ use Rattle.model.specs.Guids.{same, guidOf, guidAt, guidsIn}
 use Rattle.model.specs.Layout.{readRows}
 use Rattle.model.specs.Sets.{has}
 use Rattle.model.specs.Tables.{all, any}
-use Rattle.model.proofs.RowLaws.{length-read}
-use Rattle.instance_record.proofs.Rows.{guid-part}
-use Rattle.instance_table.proofs.Rows.{get-read}
-use Rattle.turns.specs.Places.{placeOf}
-use Rattle.turns.proofs.Finds.{split, clash, all-at, at-all, nowhere-any, any-nowhere, place-unique}
+use Rattle.model.proofs.RowLaws.{length-read, get-read}
+use Rattle.model.proofs.GuidLaws.{guid-part}
+use Rattle.tables.specs.Places.{placeOf}
+use Rattle.model.proofs.Tests.{split, clash}
+use Rattle.tables.proofs.Finds.{all-at, at-all, nowhere-any, any-nowhere, place-unique}
 
 -- record i
 abbrev pub row : {A : Type 0} → (List ℕ → A) → ℕ → List ℕ → ℕ → A
@@ -70,7 +70,7 @@ has-any g (x ∷ xs) = rw (has-any g xs)
 
 -- the test of GUID i of a list, as x was read and b was told
 pub guid-test : (t : List ℕ) (i : ℕ) (g x : Guid) (b : Bool) → x ≡ guidAt t (i * 16) → b ≡ same x g → is g (row guidOf 16 t i) ≡ b
-guid-test t i g x b e q = rw (guid-part (i * 16) t, ← e) (sym q)
+guid-test t i g x b e q = rw (guid-part 16 (i * 16) t (omega arith), ← e) (sym q)
 
 module _ (t : List ℕ) (n : ℕ) (g : Guid) where
   pub has-here : (i : ℕ) → i < n → is g (row guidOf 16 t i) ≡ true → true ≡ has g (guidsIn n t)

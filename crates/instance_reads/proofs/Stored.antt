@@ -7,7 +7,7 @@
 --     force-at, offered-there, part-there, part-room     the same of a place that was looked for
 -- Assumes nothing.
 use Prim.Native.Nat.{ℕ, _+_, _-_, _*_, _/_, _%_, _≤_, _<_}
-use mathlib.Core.Bool.{Bool, true, false, _&&_}
+use mathlib.Core.Bool.{true, false, _&&_}
 use mathlib.Core.List.{List, [], map}
 use mathlib.Core.Logic.{_≢_, ⊎-elim}
 use mathlib.Core.Option.{none, some}
@@ -28,43 +28,35 @@ use Rattle.model.specs.Reads.{usedIn, tableOf, tableRefusal, storedOr, holderOr
 use Rattle.model.specs.Sets.{members}
 use Rattle.model.specs.State.{instanceKey}
 use Rattle.model.specs.Tables.{find, all, rising}
-use Rattle.model.specs.WellFormed.{instanceOk, instanceStateOk, lifeOk, timesOk, ownerOk, holderOk, setOk, isNil}
+use Rattle.model.specs.WellFormed.{instanceOk, holderOk, setOk, isNil}
+use Rattle.model.proofs.Valid.{valid-parts}
 use Rattle.instance_record.specs.Parts.{recordAt}
-use Rattle.instance_record.proofs.Rows.{be-part, drop-take}
+use Rattle.octets.proofs.Laws.{be-part}
+use Rattle.instance_record.proofs.Rows.{drop-take}
 use Rattle.instance_table.proofs.Finding.{key-only}
 use Rattle.tables.specs.declared.Found.{Found}
 use Rattle.tables.specs.declared.Found.the-variants.{At}
 use Rattle.tables.specs.Found.{foundIn}
-use Rattle.turns.specs.Places.{placeOf, Only}
-use Rattle.turns.proofs.Finds.{both, split, lt-or-le, eq-or-ne, find-nowhere, find-place, noplace, place-unique}
+use Rattle.tables.specs.Places.{placeOf, Only}
+use Rattle.model.proofs.Tests.{both, split, lt-or-le, eq-or-ne}
+use Rattle.tables.proofs.Finds.{find-nowhere, find-place, noplace, place-unique}
 use Rattle.instance_reads.specs.declared.HolderPlace.{HolderPlace}
 use Rattle.instance_reads.specs.HolderPlaces.{noPlace, storedAt, placeIn, holderPlace, bytesAt}
 use Rattle.instance_reads.proofs.Table.{whole, count-table, at-place, room-at, valid-at, found-here}
 
 -- ---- what a valid instance takes
 
--- its holder and its writer set are valid
-parts : (x : Instance) → instanceOk x ≡ true → (holderOk (x .state .holder) ≡ true) × (setOk (x .state .writers) ≡ true)
-unfolding instanceStateOk
-parts x ok =
-    let l : Bool = lifeOk (x .state .life) in
-    let m : Bool = timesOk (x .state .times) in
-    let o : Bool = ownerOk (x .state .owner) in
-    let h : Bool = holderOk (x .state .holder) in
-    let w : Bool = setOk (x .state .writers) in
-    both h w (both o (h && w) (both m (o && (h && w)) (both l (m && (o && (h && w))) ok .1) .1) .1)
-
 pub holder-len : (x : Instance) → instanceOk x ≡ true → x .state .holder .present ≡ true → x .state .holder .len ≤ 144
 unfolding holderOk
 holder-len x ok p =
     let h = x .state .holder in
-    leb-true (h .len) 144 (both (leb (h .len) 144) (allZero (drop (h .len) (h .bytes))) (rw p at (parts x ok .0)) .0)
+    leb-true (h .len) 144 (both (leb (h .len) 144) (allZero (drop (h .len) (h .bytes))) (rw p at (valid-parts (x .state) ok .holder)) .0)
 
 pub set-len : (x : Instance) → instanceOk x ≡ true → x .state .writers .len ≤ 16
 unfolding setOk
 set-len x ok =
     let w = x .state .writers in
-    leb-true (w .len) 16 (both (leb (w .len) 16) (rising num (members w) && all isNil (drop (w .len) (w .items))) (parts x ok .1) .0)
+    leb-true (w .len) 16 (both (leb (w .len) 16) (rising num (members w) && all isNil (drop (w .len) (w .items))) (valid-parts (x .state) ok .writers) .0)
 
 -- ---- by the flags f and the length n of record i
 

@@ -25,15 +25,15 @@ use Rattle.model.specs.Reads.{usedIn, tableOk, tableOf, tableRefusal}
 use Rattle.model.specs.State.{instanceKey, instancesIn}
 use Rattle.model.specs.Tables.{find, all, rising}
 use Rattle.model.specs.WellFormed.{instanceOk}
-use Rattle.model.proofs.RowLaws.{length-read}
+use Rattle.model.proofs.RowLaws.{length-read, get-read}
 use Rattle.tables.specs.declared.Found.{Found}
 use Rattle.tables.specs.declared.Found.the-variants.{At, Missing}
 use Rattle.tables.specs.Found.{foundIn}
-use Rattle.tables.specs.RecordLaws.{at-lt, find-at, find-none}
+use Rattle.tables.proofs.RecordLaws.{at-lt, find-at, find-none}
 use Rattle.instance_record.specs.Parts.{recordAt}
 use Rattle.instance_table.proofs.LaidOut.{Formed, lone-formed}
-use Rattle.instance_table.proofs.Rows.{get-read}
-use Rattle.turns.proofs.Finds.{split, eq-or-ne, all-at}
+use Rattle.model.proofs.Tests.{split, eq-or-ne}
+use Rattle.tables.proofs.Finds.{all-at}
 
 module _ (places : ℕ) (t : List ℕ) where
   -- ---- the refusals

@@ -29,8 +29,9 @@ use Rattle.model.specs.State.{instancesIn}
 use Rattle.model.specs.Tables.{any}
 use Rattle.model.proofs.RowLaws.{length-read}
 use Rattle.instance_record.specs.Parts.{recordAt}
-use Rattle.turns.specs.Places.{placeOf}
-use Rattle.turns.proofs.Finds.{split, clash, lt-or-le, nowhere-any, any-nowhere, noplace, place-le, place-at}
+use Rattle.tables.specs.Places.{placeOf}
+use Rattle.model.proofs.Tests.{split, clash, lt-or-le}
+use Rattle.tables.proofs.Finds.{nowhere-any, any-nowhere, noplace, place-le, place-at}
 use Rattle.instance_reads.proofs.Table.{count-table, at-place}
 use Rattle.instance_reads.proofs.Answers.{refused-handle}
 

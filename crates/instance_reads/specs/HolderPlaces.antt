@@ -1,5 +1,4 @@
 -- Where the holder in force stands in the table, where it is stored: what a caller gets who can't be handed a slice.
--- Rests on section 7's reads.
 use Prim.Native.Nat.{ℕ, _+_, _*_}
 use mathlib.Core.Bool.{true, false, cond}
 use mathlib.Core.List.{List}
@@ -12,7 +11,7 @@ use Rattle.model.specs.declared.Instance.{Instance}
 use Rattle.model.specs.Instances.{hasKey}
 use Rattle.model.specs.Reads.{tableOf, tableRefusal}
 use Rattle.model.specs.Tables.{find}
-use Rattle.turns.specs.Places.{placeOf}
+use Rattle.tables.specs.Places.{placeOf}
 use Rattle.instance_reads.specs.declared.HolderPlace.{HolderPlace}
 
 abbrev pub noPlace : HolderPlace

@@ -1,5 +1,4 @@
 -- What inner functions look up, and where they look.
--- Rests on model's times and lists.
 use Prim.Native.Nat.{ℕ}
 use mathlib.Core.Bool.{Bool}
 use mathlib.Core.List.{List}

@@ -3,7 +3,6 @@
 // they are lent: any bytes get an answer. Inner functions take the number of places.
 // Refusals, lowest first: 1 a table that is not 128 places long, a list of GUIDs that is no multiple of 16 bytes or above
 // 4,096, an Out that is not 4,096 bytes; 3 a table that is not well formed; 4 nanoseconds of 10^9 or more.
-// Rests on octets, model, guid, tables, instance_record, instance_table, numbers and sample_time.
 //
 // Derives from instance_tracker.rs of ZeroDDS.
 // Copyright 2026 ZeroDDS Contributors. SPDX-License-Identifier: Apache-2.0. Changed: written anew in Rattle, over a table of
@@ -35,7 +34,7 @@ ghost use Rattle.model.specs.Times.{noTime, timeBits};
 ghost use Rattle.model.specs.WellFormed.{instanceOk};
 ghost use Rattle.tables.specs.Found.{foundIn};
 ghost use Rattle.instance_record.specs.Parts.{recordAt};
-ghost use Rattle.turns.specs.Places.{placeOf};
+ghost use Rattle.tables.specs.Places.{placeOf};
 ghost use Rattle.instance_reads.specs.HolderPlaces.{noPlace, storedAt, holderPlace, bytesAt};
 ghost use Rattle.instance_reads.specs.Looked.{timesIn, ListedBy};
 
@@ -86,7 +85,7 @@ fn time_refusal(pens: &[u8], places: usize, time: Time) -> u8
 
 // The place of the key in a table that is not refused.
 fn locate(pens: &[u8], places: usize, key: Guid) -> Found
-    requires { ⌜ tableRefusal places (now pens) ≡ 0 ⌝ }
+    requires { ⌜ (places ≤ 128) × (tableRefusal places (now pens) ≡ 0) ⌝ }
     ensures { λ r. ⌜ r ≡ foundIn (map instanceKey (tableOf places (now (pens .entry)))) (num key) ⌝ }
 {
     let count = instance_table::used(pens, places);
@@ -106,7 +105,7 @@ fn no_time() -> MaybeTime
 
 // The times of the key's instance, none where it is unknown.
 fn times_of(pens: &[u8], places: usize, key: Guid) -> Times
-    requires { ⌜ tableRefusal places (now pens) ≡ 0 ⌝ }
+    requires { ⌜ (places ≤ 128) × (tableRefusal places (now pens) ≡ 0) ⌝ }
     ensures { λ r. ⌜ r ≡ timesIn (find (hasKey key) (tableOf places (now (pens .entry)))) ⌝ }
 {
     match locate(pens, places, key) {

@@ -1,5 +1,4 @@
 -- An instance's record: its place in a table, and the test of a whole one.
--- Rests on model's layout of an instance.
 use Prim.Native.Nat.{ℕ, zero, suc, _*_}
 use mathlib.Core.Bool.{Bool, true, _&&_}
 use mathlib.Core.List.{List}

@@ -1,6 +1,5 @@
 // The 512 bytes of an instance, read into a struct by value. Each function works on one record, lent as a slice of its own,
-// so that the offsets are the document's; the last three take a whole table.
-// Rests on octets, model and guid.
+// so that the offsets are the document's; the last two take a whole table.
 //
 // Derives from instance_tracker.rs of ZeroDDS.
 // Copyright 2026 ZeroDDS Contributors. SPDX-License-Identifier: Apache-2.0. Changed: written anew in Rattle, with the
@@ -209,16 +208,6 @@ pub fn instance_at(t: &[u8], i: usize) -> Instance
     let o = i * 512;
     let e = o + 512;
     read_instance(&t[o..e])
-}
-
-// The key of instance i.
-pub fn key_at(t: &[u8], i: usize) -> Guid
-    requires { ⌜ i * 512 + 512 ≤ length (now t) ⌝ }
-    ensures { λ r. ⌜ r ≡ instanceOf (recordAt (now (t .entry)) i) .key ⌝ }
-{
-    let o = i * 512;
-    let e = o + 512;
-    read_key(&t[o..e])
 }
 
 // The handle of instance i.

@@ -1,5 +1,5 @@
 // Codes 8 to 15 on one instance by value: its samples are observed, admitted, delivered, seen and taken. Each function gives
-// what the definition of its name in model's Instances says. Rests on model, numbers and instance_fields.
+// what the definition of its name in model's Instances says.
 //
 // Derives from instance_tracker.rs of ZeroDDS.
 // Copyright 2026 ZeroDDS Contributors. SPDX-License-Identifier: Apache-2.0. Changed: written anew in Rattle; an instance is
@@ -22,7 +22,7 @@ use model::MaybeTime;
 use model::Sheet;
 ghost use mathlib.Core.Path.{_≡_};
 ghost use Rattle.model.specs.Instances.{counted, lifecycleObserved, admittedObserved, admittedNoted, deliveryRecorded, viewed, drained};
-ghost use Rattle.writer_set.specs.Places.{Sound};
+ghost use Rattle.instance_writers.specs.Places.{Sound};
 ghost use Rattle.instance_fields.specs.Usable.{UsableLife, Room};
 
 // ---- the parts of which the calls are made

@@ -21,9 +21,10 @@ use Rattle.model.proofs.RowLaws.{length-read}
 use Rattle.tables.specs.declared.Found.the-variants.{At}
 use Rattle.tables.specs.Found.{foundIn}
 use Rattle.tables.specs.Keys.{keys, rising as rise}
-use Rattle.tables.specs.KeyLaws.{length-keys, getD-keys}
-use Rattle.turns.specs.Places.{Only}
-use Rattle.turns.proofs.Keys.{get-key, rising-keys, found-only}
+use Rattle.tables.proofs.KeyLaws.{length-keys, getD-keys}
+use Rattle.tables.specs.Places.{Only}
+use Rattle.tables.proofs.Puts.{get-key, found-only}
+use Rattle.tables.proofs.RecordLaws.{rising-records}
 use Rattle.instance_table.proofs.Rows.{key-read}
 
 pub keys-read : (n : ℕ) (t : List ℕ) → keys 512 n t ≡ map instanceKey (instancesIn n t)
@@ -35,7 +36,7 @@ keys-read n t =
     getD-keys 512 n t i h ∙ sym (get-key instanceKey (instancesIn n t) i (instanceOf []) (omega arith) ∙ ap num (key-read n t i h)))
 
 pub rise-read : (n : ℕ) (t : List ℕ) → rise (keys 512 n t) ≡ rising instanceKey (instancesIn n t)
-rise-read n t = ap rise (keys-read n t) ∙ sym (rising-keys instanceKey (instancesIn n t))
+rise-read n t = ap rise (keys-read n t) ∙ rising-records instanceKey (instancesIn n t)
 
 -- ---- what was found, by model's own tests
 

@@ -27,11 +27,13 @@ use Rattle.model.specs.State.{instancesIn}
 use Rattle.model.specs.Tables.{all}
 use Rattle.model.specs.WellFormed.{otherHandle, handleBelow, handlesDistinct}
 use Rattle.model.proofs.RowLaws.{length-read}
-use Rattle.turns.specs.Places.{placeOf}
-use Rattle.turns.proofs.Finds.{both, split, clash, eq-or-ne, all-at, at-all, place-unique}
-use Rattle.turns.proofs.Keys.{distinct-ne, pairs-distinct}
+use Rattle.tables.specs.Places.{placeOf}
+use Rattle.model.proofs.Tests.{both, split, clash, eq-or-ne}
+use Rattle.tables.proofs.Finds.{all-at, at-all, place-unique}
+use Rattle.tables.proofs.Puts.{distinct-ne, pairs-distinct}
 use Rattle.instance_table.specs.Laid.{handleAt}
-use Rattle.instance_table.proofs.Rows.{be-drop, handle-read}
+use Rattle.octets.proofs.Laws.{be-drop}
+use Rattle.instance_table.proofs.Rows.{handle-read}
 
 -- what stands in for an instance that is not there
 abbrev pub blank : Instance

@@ -18,8 +18,10 @@ use lib.Dec.{ltb}
 use lib.ListN.{length, take, drop, set, replicate, length-append, length-take, length-drop, length-set, take-append-drop}
 use lib.Seq.{length-take-le}
 use Rattle.octets.specs.Bounds.{Bytes}
-use Rattle.octets.specs.Lay.{All, all-append, all-take, all-drop, all-set, length-lay, lay-set, lay-clear}
-use Rattle.octets.specs.Patch.{patch, fields, length-fields}
+use Rattle.octets.specs.Lay.{All}
+use Rattle.octets.proofs.LayLaws.{all-append, all-take, all-drop, all-set, length-lay, lay-set, lay-clear}
+use Rattle.octets.specs.Patch.{patch, fields}
+use Rattle.octets.proofs.PatchLaws.{length-fields}
 use Rattle.octets.specs.Zeros.{allZero}
 use Rattle.model.specs.declared.Instance.{Instance}
 use Rattle.model.specs.Guids.{guidOf, guidsBytes}
@@ -32,11 +34,12 @@ use Rattle.model.specs.WellFormed.{instanceOk, kindsOk, instancesOk, instanceTa
 use Rattle.model.proofs.Fits.{FitsInstance}
 use Rattle.model.proofs.GuidLaws.{bytes-take, bytes-drop, length-guids}
 use Rattle.model.proofs.InstanceLaws.{instance-forth, instance-fits}
-use Rattle.model.proofs.RowLaws.{both, length-read, Forth, lay-read as laid-again}
+use Rattle.model.proofs.Tests.{both}
+use Rattle.model.proofs.RowLaws.{length-read, Forth, lay-read as laid-again}
 use Rattle.tables.specs.Gaps.{opened}
-use Rattle.tables.specs.GapLaws.{opened-lay}
+use Rattle.tables.proofs.GapLaws.{opened-lay}
 use Rattle.instance_table.specs.Laid.{Wide, Laid}
-use Rattle.instance_table.proofs.Rows.{be-in}
+use Rattle.octets.proofs.Laws.{be-part}
 
 -- ---- what is read takes a place, and fits
 
@@ -112,7 +115,7 @@ unfolding kindsOk
 forth zero t b h k = tt
 forth (suc n) t b h k =
     let p : (ltb (flagsAt t) 49152 ≡ true) × (kindsOk n (drop 512 t) ≡ true) = both (ltb (flagsAt t) 49152) (kindsOk n (drop 512 t)) k in
-    let small : flagsAt (take 512 t) < 49152 = rw (be-in 2 512 0 t 24 (omega arith)) (ltb-true (flagsAt t) 49152 (p .0)) in (
+    let small : flagsAt (take 512 t) < 49152 = rw (be-part 2 512 0 t 24 (omega arith)) (ltb-true (flagsAt t) 49152 (p .0)) in (
       instance-forth (take 512 t) (bytes-take 512 t b) (length-take-le 512 t (omega arith)) small,
       forth n (drop 512 t) (bytes-drop 512 t b) (omega (arith, length-drop 512 t)) (p .1),
     )

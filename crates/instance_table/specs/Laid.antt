@@ -1,5 +1,4 @@
 -- A table in lent bytes as the layout of a list of instances.
--- Rests on model's layout.
 use Prim.Native.Nat.{ℕ, _+_, _*_, _≤_}
 use mathlib.Core.List.{List}
 use mathlib.Core.Path.{_≡_}

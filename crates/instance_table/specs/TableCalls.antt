@@ -1,8 +1,7 @@
 -- A call on the instance table: what it may rely on, and what it leaves by value.
---     Ready         the table is well formed
+--     TableFormed         the table is well formed
 --     left          what a call leaves by value
 --     stateWith     the state of which the table is all
--- Rests on model's state.
 use Prim.Native.Nat.{ℕ, _*_, _≤_}
 use mathlib.Core.Bool.{true}
 use mathlib.Core.List.{List}
@@ -17,7 +16,7 @@ use Rattle.model.specs.WellFormed.{instanceTableOk}
 use Rattle.instance_table.specs.declared.TableCall.{TableCall}
 
 -- the table is well formed, with so many instances and that next handle
-pub record Ready (places count next : ℕ) (t : List ℕ) : Type 0 where
+pub record TableFormed (places count next : ℕ) (t : List ℕ) : Type 0 where
   pub few : places ≤ 128
   pub size : length t ≡ places * 512
   pub formed : instanceTableOk places count next t ≡ true

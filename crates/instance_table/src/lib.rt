@@ -1,6 +1,5 @@
 // The instance table in the lent bytes: its well-formedness, where an instance stands, and an instance replaced, put in and
 // the last ones taken out. The number of places is a parameter.
-// Rests on octets, model, tables, instance_validity, instance_writing and turns.
 //
 // Derives from instance_tracker.rs of ZeroDDS.
 // Copyright 2026 ZeroDDS Contributors. SPDX-License-Identifier: Apache-2.0. Changed: written anew in Rattle, with the map of
@@ -22,7 +21,7 @@ ghost use Rattle.model.specs.State.{instanceKey, instancesIn};
 ghost use Rattle.model.specs.Tables.{all, rising};
 ghost use Rattle.model.specs.WellFormed.{instanceOk, otherHandle, handleBelow, handlesDistinct, kindsOk, instanceTableOk};
 ghost use Rattle.tables.specs.Found.{foundIn};
-ghost use Rattle.turns.specs.Places.{placeOf};
+ghost use Rattle.tables.specs.Places.{placeOf};
 ghost use Rattle.instance_table.specs.Laid.{handleAt, Laid};
 
 // What a call on the table leaves by value.
@@ -151,7 +150,7 @@ pub fn lone_table_ok(t: &[u8], places: usize) -> bool
 
 // The place of the key among the first count instances, or the place where its instance would go in.
 pub fn find_key(t: &[u8], count: usize, key: Guid) -> Found
-    requires { ⌜ (count * 512 ≤ length (now t)) × (rising instanceKey (instancesIn count (now t)) ≡ true) ⌝ }
+    requires { ⌜ (count ≤ 128) × (count * 512 ≤ length (now t)) × (rising instanceKey (instancesIn count (now t)) ≡ true) ⌝ }
     ensures { λ r. ⌜ r ≡ foundIn (map instanceKey (instancesIn count (now (t .entry)))) (num key) ⌝ }
 {
     tables::find(t, 512, count, key)

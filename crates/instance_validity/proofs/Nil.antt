@@ -15,12 +15,13 @@ use lib.ListN.{length, take, drop, getD, length-drop}
 use lib.Seq.{take-suc, take-add, take-all, getD-drop, drop-drop, length-take-le}
 use borrow.Author.Tests.{ne-eqb}
 use Rattle.octets.specs.Octets.{be}
-use Rattle.octets.specs.Zeros.{allZero, allZero-append}
+use Rattle.octets.specs.Zeros.{allZero}
+use Rattle.octets.proofs.ZeroLaws.{allZero-append}
 use Rattle.model.specs.Guids.{num, same, nil, guidOf, guidsIn}
 use Rattle.model.specs.Layout.{readRows}
 use Rattle.model.specs.Tables.{all}
 use Rattle.model.specs.WellFormed.{isNil}
-use Rattle.instance_record.proofs.Rows.{drop-read}
+use Rattle.model.proofs.RowLaws.{drop-read}
 
 pub zero-sum : (m a b : ℕ) → 0 < m → eqb (a * m + b) 0 ≡ (eqb a 0 && eqb b 0)
 zero-sum m zero b h = let e : zero * m + b ≡ b = omega arith in ap (λ (n : ℕ). eqb n 0) e

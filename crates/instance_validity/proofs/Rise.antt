@@ -11,12 +11,13 @@ use native.Mathlib.Omega.{arith}
 use lib.Dec.{ltb}
 use lib.ListN.{drop}
 use borrow.Author.Tests.{ltb-true, lt-ltb}
-use Rattle.model.proofs.RowLaws.{both}
+use Rattle.model.proofs.Tests.{both}
 use Rattle.model.specs.declared.Guid.{Guid}
 use Rattle.model.specs.Guids.{num, less, guidAt, guidOf, guidsIn}
 use Rattle.model.specs.Layout.{readRows}
 use Rattle.model.specs.Tables.{above, rising}
-use Rattle.instance_record.proofs.Rows.{read-cons, guid-in}
+use Rattle.model.proofs.RowLaws.{read-cons}
+use Rattle.instance_record.proofs.Rows.{guid-in}
 
 module _ {A : Type 0} (key : A → ℕ) where
   -- each key is above the one before it, the first above n

@@ -15,7 +15,7 @@ use Rattle.model.specs.State.{instancesIn}
 use Rattle.model.specs.Tables.{all}
 use Rattle.model.specs.WellFormed.{timesOk, ownerOk, holderOk, setOk, lifeOk, instanceStateOk, instanceOk, kindsOk}
 use Rattle.instance_record.specs.Parts.{recordOk, recordsOk}
-use Rattle.instance_record.proofs.Rows.{be-take}
+use Rattle.octets.proofs.Laws.{be-take}
 
 pub record-parts : (s : List ℕ) (f : ℕ) → f ≡ flagsAt s →
     recordOk s ≡ ((ltb f 49152 && lifeOk (lifeOf s f)) && (timesOk (timesOf s f) && (ownerOk (ownerOf s f) && (holderOk (holderOf s f) && setOk (writerSetOf s f)))))

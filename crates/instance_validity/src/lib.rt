@@ -1,6 +1,5 @@
 // Whether the 512 bytes of an instance are well formed. Each function works on one record, lent as a slice of its own, so that
 // the offsets are the document's. No early exit, since a record is nearly always valid.
-// Rests on octets, model, guid and instance_record.
 //
 // Derives from instance_tracker.rs of ZeroDDS.
 // Copyright 2026 ZeroDDS Contributors. SPDX-License-Identifier: Apache-2.0. Changed: written anew in Rattle, with the

@@ -11,7 +11,7 @@ use Rattle.model.specs.declared.FoundHandle.{FoundHandle}
 use Rattle.model.specs.declared.FoundHandle.the-variants.{Is as foundHandleIs, Missing as foundHandleMissing, Refused as foundHandleRefused}
 use Rattle.model.specs.declared.InstanceHandle.{InstanceHandle}
 use Rattle.model.specs.Reads.{usedIn, tableRefusal, walkRead}
-use Rattle.turns.proofs.Finds.{lt-or-le}
+use Rattle.model.proofs.Tests.{lt-or-le}
 use Rattle.instance_reads.proofs.Table.{whole}
 use Rattle.instance_reads.proofs.Walks.{handle-past}
 use Rattle.instance_walker.specs.declared.Walked.{Walked}

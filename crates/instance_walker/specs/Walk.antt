@@ -1,5 +1,4 @@
--- A step of the walker.
--- Rests on model's walkRead, which is what a step answers.
+-- A step of the walker: it answers what model's walkRead does.
 use Prim.Native.Nat.{ℕ, _+_}
 use mathlib.Core.List.{List}
 use Rattle.model.specs.declared.FoundHandle.{FoundHandle}

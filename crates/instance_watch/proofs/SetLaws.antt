@@ -16,7 +16,8 @@ use Rattle.model.specs.Guids.{guidAt, guidOf, guidsIn}
 use Rattle.model.specs.InstanceRecord.{kindNumbered}
 use Rattle.model.specs.Instances.{isAlive}
 use Rattle.model.specs.Tables.{all}
-use Rattle.instance_record.proofs.Rows.{read-snoc, guid-in}
+use Rattle.model.proofs.RowLaws.{read-snoc}
+use Rattle.instance_record.proofs.Rows.{guid-in}
 
 pub all-last : (p : Guid → Bool) (xs : List Guid) (y : Guid) → all p (xs ++ (y ∷ [])) ≡ (all p xs && p y)
 unfolding all

@@ -1,7 +1,6 @@
 -- What a watch finds in the bytes of a record.
 --     outside     a GUID stands before or behind a span
 --     clear       nothing of what is looked for is there
--- Rests on model's layout of an instance.
 use Prim.Native.Nat.{ℕ, _/_}
 use mathlib.Core.Bool.{Bool, not, _&&_, _||_}
 use mathlib.Core.List.{List}

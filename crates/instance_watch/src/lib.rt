@@ -1,5 +1,5 @@
-// Whether a call on every instance leaves one as it is, told from few bytes of its record: such a record is neither read
-// whole nor written. Rests on octets, model, guid and instance_record.
+// Whether a call on every instance leaves one as it is, told from few bytes of its record: such a record is not read as an
+// instance. Where it stands it is not written; behind a purged one it moves up as bytes.
 //
 // Derives from instance_tracker.rs of ZeroDDS.
 // Copyright 2026 ZeroDDS Contributors. SPDX-License-Identifier: Apache-2.0. Changed: written anew in Rattle, over records in

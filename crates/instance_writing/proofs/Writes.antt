@@ -12,9 +12,11 @@ use native.Mathlib.Numerals.{add-one}
 use native.Mathlib.Omega.{arith}
 use lib.ListN.{length, take, drop, getD, length-append}
 use lib.Seq.{take-suc, take-all, drop-length, length-take-le, paste}
-use Rattle.octets.specs.Lay.{rows, rows-append}
+use Rattle.octets.specs.Lay.{rows}
+use Rattle.octets.proofs.LayLaws.{rows-append}
 use Rattle.octets.specs.Octets.{put}
-use Rattle.octets.specs.Patch.{patch, patch-patch, patch-nil, length-patch, puts-patch, fields, length-fields}
+use Rattle.octets.specs.Patch.{patch, fields}
+use Rattle.octets.proofs.PatchLaws.{patch-patch, patch-nil, length-patch, puts-patch, length-fields}
 use Rattle.octets.specs.Fields.{puts}
 use Rattle.model.specs.declared.Guid.{Guid}
 use Rattle.model.specs.declared.Instance.{Instance}

@@ -1,4 +1,4 @@
--- Groups of fields of an instance's record, as their widths and values. Rests on model's types.
+-- Groups of fields of an instance's record, as their widths and values.
 use Prim.Native.Nat.{ℕ}
 use mathlib.Core.List.{List, [], _∷_}
 use Rattle.model.specs.declared.Life.{Life}

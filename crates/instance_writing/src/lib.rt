@@ -1,6 +1,5 @@
 // The 512 bytes of an instance, written from a struct by value. Each function works on one record, lent as a slice of its own,
 // so that the offsets are the document's; the last takes a whole table.
-// Rests on octets, model and instance_record.
 //
 // Derives from instance_tracker.rs of ZeroDDS.
 // Copyright 2026 ZeroDDS Contributors. SPDX-License-Identifier: Apache-2.0. Changed: written anew in Rattle, with the
@@ -64,15 +63,6 @@ fn flags_of(x: InstanceState) -> u16
     (i * 32) as u16 + n as u16
 }
 
-// The 16 bytes of a GUID are written from at.
-pub fn write_guid(s: &mut [u8], at: usize, g: Guid)
-    requires { ⌜ at + 16 ≤ length (now s) ⌝ }
-    ensures { λ _. ⌜ now (s .exit) ≡ put 8 (put 8 (now (s .entry)) at (g .hi)) (at + 8) (g .lo) ⌝ }
-{
-    octets::put_u64(s, at, g.hi);
-    octets::put_u64(s, at + 8, g.lo);
-}
-
 // The 8 bytes of a time are written from at.
 fn write_time(s: &mut [u8], at: usize, m: MaybeTime)
     requires { ⌜ at + 8 ≤ length (now s) ⌝ }
@@ -125,11 +115,11 @@ fn write_fields(s: &mut [u8], f: u16, x: Instance)
     let times = y.times;
     let owner = y.owner;
     let og = owner.guid;
-    write_guid(s, 0, key);
+    guid::put_guid(s, 0, key);
     octets::put_u64(s, 16, x.handle.0);
     write_life(s, f, y.holder.len, life);
     write_times(s, times);
-    write_guid(s, 92, og);
+    guid::put_guid(s, 92, og);
     octets::put_u32(s, 108, owner.strength);
 }
 
@@ -141,7 +131,7 @@ fn write_guids(s: &mut [u8], gs: [Guid; 16])
     let mut i: usize = 0;
     while i < 16 {
         let g = gs[i];
-        write_guid(s, 256 + i * 16, g);
+        guid::put_guid(s, 256 + i * 16, g);
         i += 1;
     }
 }

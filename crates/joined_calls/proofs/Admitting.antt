@@ -15,14 +15,14 @@ use Rattle.model.specs.Refusals.{sheetRefusal}
 use Rattle.model.specs.State.{Lent, State, stateOf, instancesIn}
 use Rattle.instance_table.specs.declared.TableCall.{TableCall}
 use Rattle.instance_table.specs.TableCalls.{stateWith}
-use Rattle.instance_tracker.specs.Turned.{Left}
+use Rattle.instance_reach.specs.Turned.{LeavesTable}
 use Rattle.call_laws.specs.Heads.{called, headWith}
 use Rattle.call_laws.proofs.Graft.{tableOf, admit-graft}
 use Rattle.call_laws.proofs.InstanceRange.{admit-outcome, range-left}
 use Rattle.joined_calls.specs.Losses.{AdmitJudged}
 
 pub admit-left : (places : ℕ) (s : Sheet) (head : Head) (pens pens′ : List ℕ) (t : TableCall) (r : Called) → ((st : State) → 0 ≡ sheetRefusal (joined Admit) s st) →
-    Left places (admitCall places s (stateWith (instancesIn (head .«instance_count») pens) (head .«next_handle» .0))) t pens′ →
+    LeavesTable places (admitCall places s (stateWith (instancesIn (head .«instance_count») pens) (head .«next_handle» .0))) t pens′ →
     r ≡ called (t .answer) (headWith head (t .count) (t .«next_handle»)) → AdmitJudged places s head pens r pens′
 unfolding stateOf
 admit-left places s head pens pens′ t r fine d er writers lost out e =

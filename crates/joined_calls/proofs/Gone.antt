@@ -11,7 +11,8 @@ use native.Mathlib.Omega.{arith}
 use lib.ListN.{length, take, drop, replicate, length-append}
 use lib.Seq.{take-at, drop-at}
 use Rattle.octets.specs.Bounds.{Bytes}
-use Rattle.octets.specs.Lay.{rows, All, lay-append}
+use Rattle.octets.specs.Lay.{rows, All}
+use Rattle.octets.proofs.LayLaws.{lay-append}
 use Rattle.octets.specs.Octets.{put}
 use Rattle.model.specs.declared.Guid.{Guid}
 use Rattle.model.specs.declared.Sheet.{Sheet}
@@ -24,7 +25,7 @@ use Rattle.model.specs.Writers.{guidIn, movers}
 use Rattle.model.proofs.Fits.{FitsGuid, FitsWriter}
 use Rattle.model.proofs.GuidLaws.{length-guid, length-guids, guids-back}
 use Rattle.instance_handle.proofs.Hash.{guid-stored}
-use Rattle.turns.proofs.Finds.{split}
+use Rattle.model.proofs.Tests.{split}
 use Rattle.writer_pass.proofs.Picks.{writers-fit}
 use Rattle.instance_pass.specs.Steps.{gonesIn}
 use Rattle.joined_calls.specs.Losses.{goneSince}

@@ -27,10 +27,11 @@ use Rattle.model.specs.Refusals.{sheetRefusal}
 use Rattle.model.specs.State.{Lent, State, stateOf, headOf, lostOf, instancesIn}
 use Rattle.model.specs.Writers.{movers, trackerState, trackerTurn, trackerLate, trackerCall}
 use Rattle.model.proofs.RowLaws.{length-read}
-use Rattle.liveliness_expiry.specs.Losing.{Leaves, Expires}
+use Rattle.model.proofs.TrackerLaws.{late-number}
+use Rattle.writer_expiry.specs.Losing.{Leaves, Expires}
 use Rattle.joined_calls.specs.Losses.{Losable, Loses, goneSince, LapseJudged}
 use Rattle.joined_calls.proofs.Gone.{gone-fits, expired-gone}
-use Rattle.joined_calls.proofs.Losing.{count-kept, late-number, turn-taken, loss-left, loss-stays}
+use Rattle.joined_calls.proofs.Losing.{count-kept, turn-taken, loss-left, loss-stays}
 
 -- ---- Lost after the expiry
 
@@ -54,7 +55,7 @@ module _ (s : Sheet) (l : Lent) (r : Called) (writers′ lost′ : List ℕ) (d 
   gone = movers Expire s (st .writers)
 
   late-is : r .answer .number ≡ trackerLate Expire s st
-  late-is = ap (λ (a : Answer). a .number) (d .settles .answer) ∙ late-number Expire s st refl
+  late-is = ap (λ (a : Answer). a .number) (d .settles .answer) ∙ late-number Expire s st
 
   module _ (accepted : r .answer .number ≡ 0) where
     on-time : trackerLate Expire s st ≡ 0

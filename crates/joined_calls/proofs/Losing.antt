@@ -1,17 +1,16 @@
 -- A call on the tracker, then the loss of writers: from what the code returns and leaves to the call on bytes.
 --     loss-few, loss-passed         the bounds of a pass's tally; what the pass leaves
---     late-number, turn-taken       the tracker's call and its late refusal
+--     turn-taken                    the tracker's call where no late refusal is met
 --     count-kept, kept-losable      it keeps the instance count, so that the pass may run after it
 --     loss-left                     the joined call where the tracker's is accepted
 --     loss-stays                    where it is refused, nothing is changed
---     leave-left                    codes 50 and 51
+--     leave-left, leave-number      codes 50 and 51
 -- Assumes nothing.
 use Prim.Native.Nat.{ℕ, zero, suc, _≤_}
-use mathlib.Core.Bool.{Bool, true, false, cond}
+use mathlib.Core.Bool.{Bool, true, false}
 use mathlib.Core.List.{List, [], _∷_}
 use mathlib.Core.Path.{_≡_, refl, sym, ap, _∙_}
 use native.Mathlib.Omega.{arith}
-use lib.Dec.{eqb}
 use lib.ListN.{length}
 use Rattle.model.specs.declared.Answer.{Answer}
 use Rattle.model.specs.declared.Called.{Called}
@@ -19,9 +18,11 @@ use Rattle.model.specs.declared.Guid.{Guid}
 use Rattle.model.specs.declared.Head.{Head}
 use Rattle.model.specs.declared.Instance.{Instance}
 use Rattle.model.specs.declared.JoinedCall.{JoinedCall}
+use Rattle.model.specs.declared.JoinedCall.the-variants.{Part, Depart}
 use Rattle.model.specs.declared.MaybeTime.{MaybeTime}
 use Rattle.model.specs.declared.Sheet.{Sheet}
 use Rattle.model.specs.declared.TrackerCall.{TrackerCall}
+use Rattle.model.specs.declared.TrackerCall.the-variants.{Unmatched, LostWithParticipant}
 use Rattle.model.specs.Answers.{silent, withList}
 use Rattle.model.specs.Call.{listIn, turn, judged, lentOf, leftOf}
 use Rattle.model.specs.Calls.{joined}
@@ -32,8 +33,9 @@ use Rattle.model.specs.Joined.{clearingsIn, loses, leftWriterless, afterLoss, l
 use Rattle.model.specs.Refusals.{sheetRefusal}
 use Rattle.model.specs.State.{Lent, State, freshState, stateOf, headOf, layOut, lostOf, instancesIn}
 use Rattle.model.specs.Tables.{pick, sift}
-use Rattle.model.specs.Writers.{movers, lostAfter, trackerTold, trackerState, trackerTurn, trackerLate, trackerCall}
+use Rattle.model.specs.Writers.{movers, lostAfter, trackerState, trackerTurn, trackerLate, trackerCall}
 use Rattle.model.proofs.RowLaws.{length-read}
+use Rattle.model.proofs.TrackerLaws.{instances-stay}
 use Rattle.instance_table.specs.Laid.{Laid}
 use Rattle.instance_table.proofs.LaidOut.{table-formed, table-laid}
 use Rattle.instance_pass.specs.declared.Passing.the-variants.{Loss}
@@ -42,14 +44,14 @@ use Rattle.instance_pass.specs.Passes.{Passed}
 use Rattle.instance_pass.specs.Steps.{gonesIn}
 use Rattle.instance_pass.proofs.CallLaws.{Few, passed-few, lost}
 use Rattle.instance_pass.proofs.StepLaws.{gones-few, counted-le}
-use Rattle.liveliness_turns.specs.Held.{heldBy, Settles, Turns}
-use Rattle.liveliness_expiry.specs.Losing.{Leaves}
-use Rattle.liveliness_expiry.proofs.Expiring.{lost-laid}
+use Rattle.writer_turns.specs.WriterCalls.{heldBy, Settles, Turns, leaving}
+use Rattle.writer_expiry.specs.Losing.{Leaves}
+use Rattle.writer_expiry.proofs.Expiring.{lost-laid}
 use Rattle.call_laws.specs.Entered.{Entered}
 use Rattle.call_laws.proofs.InstanceRange.{unpicked}
 use Rattle.call_laws.proofs.Whole.{loss-outcome, whole-range}
-use Rattle.joined_calls.specs.Losses.{Losable, Loses, lossTime, LeaveJudged}
-use Rattle.joined_calls.proofs.Entering.{parts}
+use Rattle.joined_calls.specs.Losses.{Losable, Loses, lossTime, LeaveJudged, departing}
+use Rattle.joined_calls.proofs.Entering.{entered-parts}
 
 -- ---- the pass
 
@@ -77,22 +79,6 @@ module _ (s : Sheet) (gone : List ℕ) (count : ℕ) (pens out pens′ out′ : 
 -- ---- the turn of the tracker
 
 module _ (c : TrackerCall) (s : Sheet) (st : State) where
-  pub late-number : trackerTold c s st .number ≡ 0 → trackerCall c s st .answer .number ≡ trackerLate c s st
-  unfolding trackerCall trackerTurn
-  late-number e = each (trackerLate c s st)
-    where
-      each : (n : ℕ) → cond (eqb n 0) (trackerTurn c s st) (refused n st) .answer .number ≡ n
-      each zero = e
-      each (suc n) = ap (λ (t : Turned). t .answer .number) (unpicked n (trackerTurn c s st) (refused (suc n) st))
-
-  same-instances : trackerCall c s st .state .instances ≡ st .instances
-  unfolding trackerCall trackerTurn trackerState
-  same-instances = each (eqb (trackerLate c s st) 0)
-    where
-      each : (b : Bool) → cond b (trackerTurn c s st) (refused (trackerLate c s st) st) .state .instances ≡ st .instances
-      each true = refl
-      each false = refl
-
   pub turn-taken : trackerLate c s st ≡ 0 → trackerCall c s st ≡ trackerTurn c s st
   unfolding trackerCall
   turn-taken e = rw e
@@ -114,7 +100,7 @@ module _ (c : TrackerCall) (s : Sheet) (l : Lent) (r : Called) (writers′ : Lis
   settled-count : r .head .«instance_count» ≡ l .head .«instance_count»
   unfolding headOf stateOf
   settled-count =
-      ap (λ (h : Head). h .«instance_count») (d .head) ∙ ap length (same-instances c s (stateOf l))
+      ap (λ (h : Head). h .«instance_count») (d .head) ∙ ap length (instances-stay c s (stateOf l))
       ∙ length-read instanceOf 512 (l .head .«instance_count») (l .pens)
 
 pub count-kept : (c : TrackerCall) (s : Sheet) (head : Head) (pens writers lost : List ℕ) (r : Called) (writers′ : List ℕ) →
@@ -173,7 +159,7 @@ module _ (places : ℕ) (k : JoinedCall) (s : Sheet) (l : Lent) (e : Entered pla
   unfolding stateOf
   pens-laid =
       table-laid places (l .head .«instance_count») (l .head .«next_handle» .0) (l .pens) (e .pens) (e .pensBytes)
-      (table-formed places (l .head .«instance_count») (l .head .«next_handle» .0) (l .pens) (parts places l e .pens))
+      (table-formed places (l .head .«instance_count») (l .head .«next_handle» .0) (l .pens) (entered-parts places l e .pens))
 
   pub loss-left : trackerLate c s st ≡ 0 → (called r : Called) (pens′ writers′ lost′ out′ : List ℕ) → Leaves (trackerCall c s st) called writers′ lost′ →
       Loses s gone (instancesIn (called .head .«instance_count») (l .pens)) called (l .pens) (l .out) r pens′ out′ →
@@ -210,18 +196,33 @@ module _ (places : ℕ) (k : JoinedCall) (s : Sheet) (l : Lent) (e : Entered pla
 
 -- ---- codes 50 and 51: one writer, Lost as it is
 
-pub leave-left : (k : JoinedCall) (s : Sheet) (head : Head) (pens writers out : List ℕ) (c : TrackerCall) →
+leaves-judged : (k : JoinedCall) (s : Sheet) (head : Head) (pens writers out : List ℕ) (c : TrackerCall) →
     ((places : ℕ) (st : State) → joinedCall places k s st ≡ lossCall c (s .guid ∷ []) s st) → ((st : State) → trackerLate c s st ≡ 0) →
     ((gone lost : List Guid) → lostAfter c gone lost ≡ lost) → ((st : State) → 0 ≡ sheetRefusal (joined k) s st) →
     (called r : Called) (pens′ writers′ out′ : List ℕ) → Turns c s head writers called writers′ →
     Loses s (s .guid ∷ []) (instancesIn (called .head .«instance_count») pens) called pens out r pens′ out′ →
     LeaveJudged k s head pens writers out r pens′ writers′ out′
 unfolding stateOf trackerTurn trackerState
-leave-left k s head pens writers out c turned late keeps fine called r pens′ writers′ out′ d b places lost e =
+leaves-judged k s head pens writers out c turned late keeps fine called r pens′ writers′ out′ d b places lost e =
     let l : Lent = lentOf head pens writers lost out in
     let same : trackerCall c s (stateOf l) .state .lost ≡ guidsIn (head .«lost_count») lost =
     ap (λ (t : Turned). t .state .lost) (turn-taken c s (stateOf l) (late (stateOf l))) ∙ keeps (movers c s (stateOf l .writers)) (guidsIn (head .«lost_count») lost) in
     let kept : lost ≡ lostOf (trackerCall c s (stateOf l) .state .lost) =
-    sym (lost-laid (head .«lost_count») lost (e .lostBytes) (e .lost) (parts places l e .lost)) ∙ ap lostOf (sym same) in
+    sym (lost-laid (head .«lost_count») lost (e .lostBytes) (e .lost) (entered-parts places l e .lost)) ∙ ap lostOf (sym same) in
     loss-left places k s l e (fine (stateOf l)) c (s .guid ∷ []) (turned places (stateOf l)) (late (stateOf l)) called r pens′ writers′ lost out′
     record { settles = d pens lost; lostLaid = kept } b
+
+module _ (s : Sheet) where
+  pub leave-left : (b : Bool) (head : Head) (pens writers out : List ℕ) → ((st : State) → 0 ≡ sheetRefusal (joined (departing b)) s st) →
+      (called r : Called) (pens′ writers′ out′ : List ℕ) → Turns (leaving b) s head writers called writers′ →
+      Loses s (s .guid ∷ []) (instancesIn (called .head .«instance_count») pens) called pens out r pens′ out′ →
+      LeaveJudged (departing b) s head pens writers out r pens′ writers′ out′
+  leave-left true head pens writers out =
+      leaves-judged Depart s head pens writers out LostWithParticipant (λ places st. refl) (λ st. refl) (λ gone lost. refl)
+  leave-left false head pens writers out =
+      leaves-judged Part s head pens writers out Unmatched (λ places st. refl) (λ st. refl) (λ gone lost. refl)
+
+  pub leave-number : (b : Bool) (st : State) (n : ℕ) → (n ≡ sheetRefusal (joined Part) s st) × (n ≡ sheetRefusal (joined Depart) s st) →
+      n ≡ sheetRefusal (joined (departing b)) s st
+  leave-number true st n e = e .1
+  leave-number false st n e = e .0

@@ -5,8 +5,8 @@
 --     AdmitJudged     code 48 leaves what model says, whatever writers, Lost and Out stand beside
 --     LeaveJudged     codes 50 and 51 do, whatever Lost stands beside
 --     LapseJudged     code 49 does
--- Rests on model's joined calls and on instance_table's layout.
 use Prim.Native.Nat.{ℕ, _-_, _*_, _≤_}
+use mathlib.Core.Bool.{Bool, cond}
 use mathlib.Core.List.{List}
 use mathlib.Core.Path.{_≡_}
 use lib.ListN.{length, take, drop}
@@ -16,7 +16,7 @@ use Rattle.model.specs.declared.Guid.{Guid}
 use Rattle.model.specs.declared.Head.{Head}
 use Rattle.model.specs.declared.Instance.{Instance}
 use Rattle.model.specs.declared.JoinedCall.{JoinedCall}
-use Rattle.model.specs.declared.JoinedCall.the-variants.{Admit, Lapse}
+use Rattle.model.specs.declared.JoinedCall.the-variants.{Admit, Lapse, Part, Depart}
 use Rattle.model.specs.declared.MaybeTime.{MaybeTime}
 use Rattle.model.specs.declared.Sheet.{Sheet}
 use Rattle.model.specs.Answers.{withList}
@@ -63,6 +63,10 @@ abbrev pub AdmitJudged : ℕ → Sheet → Head → List ℕ → Called → List
 AdmitJudged places s head pens r pens′ =
     (writers lost out : List ℕ) → Entered places (lentOf head pens writers lost out) →
     leftOf r pens′ writers lost out ≡ judged places (joined Admit) s (lentOf head pens writers lost out)
+
+-- code 51, or code 50
+abbrev pub departing : Bool → JoinedCall
+departing lost = cond lost Depart Part
 
 -- what code 50 or 51 returned and left of pens, writers and Out
 abbrev pub LeaveJudged : JoinedCall → Sheet → Head → List ℕ → List ℕ → List ℕ → Called → List ℕ → List ℕ → List ℕ → Type 0

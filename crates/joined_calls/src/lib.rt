@@ -1,6 +1,5 @@
 // The joined calls, codes 48 to 51, on head and buffers, past refusals 1 to 3: a sample admitted; and the writers that a
 // call on the tracker loses, dropped from every instance in one pass.
-// Rests on call_codes, admission, instance_pass, liveliness_tracker, liveliness_expiry, lent_state and call_laws.
 //
 // Derives from instance_tracker.rs and liveliness_tracker.rs of ZeroDDS.
 // Copyright 2026 ZeroDDS Contributors. SPDX-License-Identifier: Apache-2.0. Changed: written anew in Rattle, the calls of
@@ -16,23 +15,22 @@ ghost use mathlib.Core.List.{[], _∷_};
 ghost use mathlib.Core.Path.{_≡_};
 ghost use Prim.Native.Nat.{_≤_};
 ghost use lib.ListN.{length};
-ghost use Rattle.model.specs.declared.JoinedCall.the-variants.{Part, Depart};
 ghost use Rattle.model.specs.Answers.{withList};
 ghost use Rattle.model.specs.Call.{judged, lentOf, leftOf};
 ghost use Rattle.model.specs.Calls.{joined};
 ghost use Rattle.model.specs.State.{instancesIn};
 ghost use Rattle.model.specs.WellFormed.{lostOk};
 ghost use Rattle.instance_pass.specs.Steps.{gonesIn};
-ghost use Rattle.instance_table.specs.TableCalls.{Ready};
-ghost use Rattle.liveliness_turns.specs.Held.{Held};
+ghost use Rattle.instance_table.specs.TableCalls.{TableFormed};
+ghost use Rattle.writer_turns.specs.WriterCalls.{WritersFormed};
 ghost use Rattle.call_laws.specs.Entered.{Entered};
-ghost use Rattle.joined_calls.specs.Losses.{Losable, Loses, goneSince, AdmitJudged, LeaveJudged, LapseJudged};
+ghost use Rattle.joined_calls.specs.Losses.{Losable, Loses, goneSince, AdmitJudged, departing, LeaveJudged, LapseJudged};
 
 // ---- a sample admitted
 
 // Code 48: what the sheet decides, then the call on the instances.
 fn admit(s: Sheet, head: Head, pens: &mut [u8], places: usize) -> Called
-    requires { ⌜ Ready places (head .«instance_count») (head .«next_handle» .0) (now pens) ⌝ }
+    requires { ⌜ TableFormed places (head .«instance_count») (head .«next_handle» .0) (now pens) ⌝ }
     ensures { λ r. ⌜ AdmitJudged places s head (now (pens .entry)) r (now (pens .exit)) ⌝ }
 {
     let number = call_codes::admit_refusal(s);
@@ -85,29 +83,23 @@ fn lose_writer(called: Called, s: Sheet, pens: &mut [u8], out: &mut [u8]) -> Cal
     lose(called, s, pens, out, &gone)
 }
 
-// Code 50: the writer is no longer matched.
-fn part(s: Sheet, head: Head, pens: &mut [u8], writers: &mut [u8], out: &mut [u8]) -> Called
-    requires { ⌜ Held head (now writers) × Losable (head .«instance_count») (now pens) (now out) ⌝ }
-    ensures { λ r. ⌜ LeaveJudged Part s head (now (pens .entry)) (now (writers .entry)) (now (out .entry)) r (now (pens .exit)) (now (writers .exit)) (now (out .exit)) ⌝ }
+// Code 50: the writer is no longer matched. Code 51: it is lost with its participant.
+fn leave(
+    lost: bool,
+    s: Sheet,
+    head: Head,
+    pens: &mut [u8],
+    writers: &mut [u8],
+    out: &mut [u8],
+) -> Called
+    requires { ⌜ WritersFormed head (now writers) × Losable (head .«instance_count») (now pens) (now out) ⌝ }
+    ensures { λ r. ⌜ LeaveJudged (departing lost) s head (now (pens .entry)) (now (writers .entry)) (now (out .entry)) r (now (pens .exit)) (now (writers .exit)) (now (out .exit)) ⌝ }
 {
     let number = call_codes::leave_refusal(s);
     if number != 0 {
         return answers::refused(number, head);
     }
-    let r = liveliness_tracker::unmatched(s, head, writers);
-    lose_writer(r, s, pens, out)
-}
-
-// Code 51: the writer is lost with its participant.
-fn depart(s: Sheet, head: Head, pens: &mut [u8], writers: &mut [u8], out: &mut [u8]) -> Called
-    requires { ⌜ Held head (now writers) × Losable (head .«instance_count») (now pens) (now out) ⌝ }
-    ensures { λ r. ⌜ LeaveJudged Depart s head (now (pens .entry)) (now (writers .entry)) (now (out .entry)) r (now (pens .exit)) (now (writers .exit)) (now (out .exit)) ⌝ }
-{
-    let number = call_codes::leave_refusal(s);
-    if number != 0 {
-        return answers::refused(number, head);
-    }
-    let r = liveliness_tracker::lost_with_participant(s, head, writers);
+    let r = writer_liveliness::leave(lost, s, head, writers);
     lose_writer(r, s, pens, out)
 }
 
@@ -139,7 +131,7 @@ fn lapse(
     lost: &mut [u8],
     out: &mut [u8],
 ) -> Called
-    requires { ⌜ Held head (now writers) × Losable (head .«instance_count») (now pens) (now out) × (length (now lost) ≡ 4096)
+    requires { ⌜ WritersFormed head (now writers) × Losable (head .«instance_count») (now pens) (now out) × (length (now lost) ≡ 4096)
         × (lostOk (head .«lost_count») (now lost) ≡ true) ⌝ }
     ensures { λ r. ⌜ LapseJudged s head (now (pens .entry)) (now (writers .entry)) (now (lost .entry)) (now (out .entry)) r (now (pens .exit)) (now (writers .exit)) (now (lost .exit)) (now (out .exit)) ⌝ }
 {
@@ -147,7 +139,7 @@ fn lapse(
     if number != 0 {
         return answers::refused(number, head);
     }
-    let r = liveliness_expiry::expire(s, head, writers, lost);
+    let r = writer_expiry::expire(s, head, writers, lost);
     let told = r.answer;
     if told.number != 0 { // refusal 12
         return r;
@@ -175,7 +167,7 @@ pub fn joined_turn(
     match c {
         JoinedCall::Admit => admit(s, head, pens, places),
         JoinedCall::Lapse => lapse(s, head, pens, writers, lost, out),
-        JoinedCall::Part => part(s, head, pens, writers, out),
-        JoinedCall::Depart => depart(s, head, pens, writers, out),
+        JoinedCall::Part => leave(false, s, head, pens, writers, out),
+        JoinedCall::Depart => leave(true, s, head, pens, writers, out),
     }
 }

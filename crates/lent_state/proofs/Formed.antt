@@ -1,5 +1,6 @@
 -- The test of head and buffers together, from its parts.
 --     formed-by       the whole test, from its parts in the order of the code
+--     parts           its parts, from the whole test
 --     few-writers     a well-formed table of writers has at most 128
 -- Assumes nothing.
 use Prim.Native.Nat.{ℕ, _≤_}
@@ -9,9 +10,9 @@ use mathlib.Core.Path.{_≡_, sym}
 use borrow.Author.Tests.{leb-true}
 use Rattle.model.specs.declared.Head.{Head}
 use Rattle.model.specs.Call.{lentOf}
-use Rattle.model.specs.State.{writersIn}
+use Rattle.model.specs.State.{Lent, writersIn}
 use Rattle.model.specs.WellFormed.{headOk, instanceTableOk, writerTableOk, lostOk, countsOk, wellFormed}
-use Rattle.model.proofs.RowLaws.{both}
+use Rattle.model.proofs.Tests.{both}
 
 pub formed-by : (places : ℕ) (h : Head) (pens writers lost out : List ℕ) {a b c d e : Bool} → headOk h ≡ a →
     instanceTableOk places (h .«instance_count») (h .«next_handle» .0) pens ≡ b → writerTableOk (h .«writer_count») writers ≡ c →
@@ -23,3 +24,20 @@ formed-by places h pens writers lost out p q r s u = sym (rw (p, q, r, s, u))
 pub few-writers : (n : ℕ) (t : List ℕ) → writerTableOk n t ≡ true → n ≤ 128
 unfolding writerTableOk
 few-writers n t e = leb-true n 128 (both _ _ e .0)
+
+-- its parts, from the test
+pub record Parts (places : ℕ) (l : Lent) : Type 0 where
+  pub head : headOk (l .head) ≡ true
+  pub pens : instanceTableOk places (l .head .«instance_count») (l .head .«next_handle» .0) (l .pens) ≡ true
+  pub writers : writerTableOk (l .head .«writer_count») (l .writers) ≡ true
+  pub lost : lostOk (l .head .«lost_count») (l .lost) ≡ true
+  pub counts : countsOk (l .head) (writersIn (l .head .«writer_count») (l .writers)) ≡ true
+
+pub parts : (places : ℕ) (l : Lent) → wellFormed places l ≡ true → Parts places l
+unfolding wellFormed
+parts places l e =
+    let p = both _ _ e in
+    let q = both _ _ (p .1) in
+    let r = both _ _ (q .1) in
+    let s = both _ _ (r .1) in
+    record { head = p .0; pens = q .0; writers = r .0; lost = s .0; counts = s .1 }

@@ -1,5 +1,4 @@
 // Head and buffers together: whether they are well formed, and what a call leaves of the head.
-// Rests on instance_table and tracker_state.
 //
 // Derives from instance_tracker.rs and liveliness_tracker.rs of ZeroDDS.
 // Copyright 2026 ZeroDDS Contributors. SPDX-License-Identifier: Apache-2.0. Changed: written anew in Rattle, with the state
@@ -21,7 +20,7 @@ pub fn state_ok(head: Head, pens: &[u8], writers: &[u8], lost: &[u8], places: us
     requires { ⌜ (length (now pens) ≡ places * 512) × (length (now writers) ≡ 5120) × (length (now lost) ≡ 4096) ⌝ }
     ensures { λ r. ⌜ ((out : List ℕ) → r ≡ wellFormed places (lentOf head (now (pens .entry)) (now (writers .entry)) (now (lost .entry)) out)) ⌝ }
 {
-    if !tracker_state::head_ok(head) {
+    if !writer_validity::head_ok(head) {
         return false;
     }
     let next = head.next_handle;
@@ -29,13 +28,13 @@ pub fn state_ok(head: Head, pens: &[u8], writers: &[u8], lost: &[u8], places: us
         return false;
     }
     let count = head.writer_count as usize;
-    if !tracker_state::writers_ok(writers, count) {
+    if !writer_validity::writers_ok(writers, count) {
         return false;
     }
-    if !tracker_state::lost_ok(lost, head.lost_count as usize) {
+    if !writer_validity::lost_ok(lost, head.lost_count as usize) {
         return false;
     }
-    tracker_state::counts_ok(head, writers, count)
+    writer_validity::counts_ok(head, writers, count)
 }
 
 // What a call on the instances leaves: another count of them and another next handle.

@@ -9,9 +9,11 @@ use native.Mathlib.Omega.{arith}
 use lib.ListN.{length, take, drop, length-append}
 use lib.Seq.{take-at, drop-at}
 use Rattle.octets.specs.Fields.{reads, puts, total, Fit}
-use Rattle.octets.specs.FieldLaws.{reads-puts}
-use Rattle.octets.specs.Bounds.{Bytes, puts-reads}
-use Rattle.octets.specs.Patch.{fields, Same, length-fields, puts-patch}
+use Rattle.octets.proofs.FieldLaws.{reads-puts}
+use Rattle.octets.specs.Bounds.{Bytes}
+use Rattle.octets.proofs.BoundLaws.{puts-reads}
+use Rattle.octets.specs.Patch.{fields, Same}
+use Rattle.octets.proofs.PatchLaws.{length-fields, puts-patch}
 
 -- values that fit are as many as the fields
 pub fit-same : (ks vs : List ℕ) → Fit ks vs → Same ks vs

@@ -3,19 +3,23 @@
 --     guids-back, guids-forth     a list of them
 --     guids-all, guids-each       in the form that the laws of rows ask for
 -- Assumes nothing.
-use Prim.Native.Nat.{ℕ, zero, suc, _*_, _≤_}
+use Prim.Native.Nat.{ℕ, zero, suc, _+_, _*_, _≤_}
 use mathlib.Core.Path.{_≡_, refl, ap, _∙_}
 use mathlib.Core.List.{List, [], _∷_, _++_, append-nil}
+use native.Mathlib.Nat.{add-zero}
 use native.Mathlib.Omega.{arith}
 use lib.ListN.{length, take, drop, getD, length-append, length-drop}
 use lib.Seq.{take-all, length-take-le}
-use Rattle.octets.specs.Bounds.{Bytes, be-lt}
+use Rattle.octets.specs.Bounds.{Bytes}
+use Rattle.octets.proofs.Laws.{be-part}
+use Rattle.octets.proofs.BoundLaws.{be-lt}
 use Rattle.octets.specs.Fields.{reads}
 use Rattle.octets.specs.Lay.{rows, All}
 use Rattle.octets.specs.Octets.{be}
-use Rattle.octets.specs.Patch.{fields, length-fields}
+use Rattle.octets.specs.Patch.{fields}
+use Rattle.octets.proofs.PatchLaws.{length-fields}
 use Rattle.model.specs.declared.Guid.{Guid}
-use Rattle.model.specs.Guids.{guidOf, guidsIn, guidBytes, guidsBytes}
+use Rattle.model.specs.Guids.{guidAt, guidOf, guidsIn, guidBytes, guidsBytes}
 use Rattle.model.specs.Layout.{readRows}
 use Rattle.model.proofs.FieldLaws.{reads-front, fields-reads}
 use Rattle.model.proofs.Fits.{FitsGuid}
@@ -79,3 +83,8 @@ pub length-guids : (gs : List Guid) → length (guidsBytes gs) ≡ length gs * 1
 unfolding rows
 length-guids [] = refl
 length-guids (g ∷ gs) = omega (arith, length-append (guidBytes g) (rows guidBytes gs), length-guid g, length-guids gs)
+
+-- the GUID in front of a part of a list is the one that stands there
+pub guid-part : (size at : ℕ) (s : List ℕ) → 16 ≤ size → guidOf (take size (drop at s)) ≡ guidAt s at
+guid-part size at s h =
+    rw (be-part 8 size at s 0 (omega arith), be-part 8 size at s 8 (omega arith), add-zero at)

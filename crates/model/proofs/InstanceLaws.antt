@@ -11,10 +11,12 @@ use mathlib.Core.List.{List, [], _++_, append-nil}
 use native.Mathlib.Omega.{arith}
 use lib.ListN.{length, take, drop, getD, length-append, length-take, length-drop, take-append-drop}
 use lib.Seq.{take-at, take-all, drop-at, drop-drop}
-use Rattle.octets.specs.Bounds.{Bytes, be-lt}
+use Rattle.octets.specs.Bounds.{Bytes}
+use Rattle.octets.proofs.BoundLaws.{be-lt}
 use Rattle.octets.specs.Fields.{reads, Fit}
 use Rattle.octets.specs.Octets.{be}
-use Rattle.octets.specs.Patch.{fields, length-fields}
+use Rattle.octets.specs.Patch.{fields}
+use Rattle.octets.proofs.PatchLaws.{length-fields}
 use Rattle.model.specs.declared.Guid.{Guid}
 use Rattle.model.specs.declared.Instance.{Instance}
 use Rattle.model.specs.Guids.{guidOf, guidsIn, guidsBytes}

@@ -4,6 +4,8 @@
 --     laid-valid       a layout is well formed exactly if the records are valid
 --     read-valid       what is read from a well-formed state is valid
 --     fresh-laid, fresh-read, fresh-formed      the fresh state
+--     less-less        an amount less its change is taken off again
+--     writers-each, writers-all      the writers' records, both ways
 -- Assumes nothing.
 use Prim.Native.Nat.{ℕ, zero, suc, _+_, _*_, _%_, _≤_, _<_}
 use mathlib.Core.Bool.{Bool, true, false, _&&_}
@@ -13,12 +15,12 @@ use native.Mathlib.Nat.{sub-zero}
 use native.Mathlib.Omega.{arith}
 use borrow.Author.Tests.{lt-ltb, ltb-true, eq-eqb, eqb-true, le-leb, leb-true}
 use lib.Dec.{eqb, leb, ltb}
-use lib.IntN.{ℤ, pos, _+ℤ_, _-ℤ_, negℤ, negℤ-+ℤ, negℤ-negℤ, +ℤ-assoc, +ℤ-invr, +ℤ-idl}
+use lib.IntN.{pos}
 use lib.ListN.{length, take, drop, length-drop}
-use lib.Seq.{take-at, drop-at, getD-take, length-take-le}
+use lib.Seq.{take-at, drop-at, length-take-le}
 use Rattle.octets.specs.Bounds.{Bytes}
 use Rattle.octets.specs.Lay.{rows, lay, All}
-use Rattle.octets.specs.Laws.{be-same}
+use Rattle.octets.proofs.Laws.{be-take}
 use Rattle.octets.specs.Octets.{be}
 use Rattle.octets.specs.Zeros.{allZero}
 use Rattle.model.specs.declared.Instance.{Instance}
@@ -33,23 +35,15 @@ use Rattle.model.proofs.Fits.{FitsGuid, FitsInstance, FitsWriter}
 use Rattle.model.proofs.FlagLaws.{flags-small, writer-apart}
 use Rattle.model.proofs.GuidLaws.{bytes-take, bytes-drop, guids-all, guids-back, guids-each}
 use Rattle.model.proofs.InstanceLaws.{length-instance, instance-back, instance-forth, instance-flags}
-use Rattle.model.proofs.RowLaws.{both, length-read, Back, Forth, read-rows, lay-read, lay-rest}
+use Rattle.model.proofs.Tests.{both, less-less}
+use Rattle.model.proofs.RowLaws.{length-read, Back, Forth, read-rows, lay-read, lay-rest}
 use Rattle.model.proofs.WriterLaws.{length-writer, writer-back, writer-forth, writer-spares}
 
 -- ---- small things
 
--- a number is read from its own part
-be-part : (k n at : ℕ) (s : List ℕ) → at + k ≤ n → be k (take n s) at ≡ be k s at
-be-part k n at s h = be-same k (take n s) s at (λ i a b. getD-take n s i 0 (omega arith))
-
 -- from the front of a list that goes on
 be-front : (k at : ℕ) (r z : List ℕ) (n : ℕ) → length r ≡ n → at + k ≤ n → be k (r ++ z) at ≡ be k r at
-be-front k at r z n e h = sym (be-part k n at (r ++ z) h) ∙ ap (λ (l : List ℕ). be k l at) (take-at r z n e)
-
-less-less : (a z : ℤ) → a -ℤ (a -ℤ z) ≡ z
-less-less a z =
-    ap (λ (y : ℤ). a +ℤ y) (negℤ-+ℤ a (negℤ z) ∙ ap (λ (y : ℤ). negℤ a +ℤ y) (negℤ-negℤ z))
-    ∙ sym (+ℤ-assoc a (negℤ a) z) ∙ ap (λ (y : ℤ). y +ℤ z) (+ℤ-invr a) ∙ +ℤ-idl z
+be-front k at r z n e h = sym (be-take k n (r ++ z) at h) ∙ ap (λ (l : List ℕ). be k l at) (take-at r z n e)
 
 and-true : (b : Bool) → (b && true) ≡ b
 and-true true = refl
@@ -62,20 +56,20 @@ unfolding kindsOk
 instances-each zero t b h k = tt
 instances-each (suc n) t b h k =
     let p : (ltb (flagsAt t) 49152 ≡ true) × (kindsOk n (drop 512 t) ≡ true) = both (ltb (flagsAt t) 49152) (kindsOk n (drop 512 t)) k in
-    let small : flagsAt (take 512 t) < 49152 = rw (be-part 2 512 24 t (omega arith)) (ltb-true (flagsAt t) 49152 (p .0)) in (
+    let small : flagsAt (take 512 t) < 49152 = rw (be-take 2 512 t 24 (omega arith)) (ltb-true (flagsAt t) 49152 (p .0)) in (
       instance-forth (take 512 t) (bytes-take 512 t b) (length-take-le 512 t (omega arith)) small,
       instances-each n (drop 512 t) (bytes-drop 512 t b) (omega (arith, length-drop 512 t)) (p .1),
     )
 
-writers-each : (n : ℕ) (t : List ℕ) → Bytes t → n * 40 ≤ length t → sparesOk n t ≡ true → Forth writerBytes writerOf 40 n t
+pub writers-each : (n : ℕ) (t : List ℕ) → Bytes t → n * 40 ≤ length t → sparesOk n t ≡ true → Forth writerBytes writerOf 40 n t
 unfolding sparesOk
 writers-each zero t b h k = tt
 writers-each (suc n) t b h k =
     let p = both (ltb (writerFlagsAt t) 192 && (eqb (writerFlagsAt t % 8) 0 && eqb (be 7 t 17) 0)) (sparesOk n (drop 40 t)) k in
     let q = both (ltb (writerFlagsAt t) 192) (eqb (writerFlagsAt t % 8) 0 && eqb (be 7 t 17) 0) (p .0) in
     let s = both (eqb (writerFlagsAt t % 8) 0) (eqb (be 7 t 17) 0) (q .1) in
-    let e : writerFlagsAt (take 40 t) ≡ writerFlagsAt t = be-part 1 40 16 t (omega arith) in
-    let u : be 7 (take 40 t) 17 ≡ 0 = be-part 7 40 17 t (omega arith) ∙ eqb-true (be 7 t 17) 0 (s .1) in
+    let e : writerFlagsAt (take 40 t) ≡ writerFlagsAt t = be-take 1 40 t 16 (omega arith) in
+    let u : be 7 (take 40 t) 17 ≡ 0 = be-take 7 40 t 17 (omega arith) ∙ eqb-true (be 7 t 17) 0 (s .1) in
     let small : writerFlagsAt (take 40 t) < 192 = rw e (ltb-true (writerFlagsAt t) 192 (q .0)) in
     let spare : writerFlagsAt (take 40 t) % 8 ≡ 0 = rw e (eqb-true (writerFlagsAt t % 8) 0 (s .0)) in (
       writer-forth (take 40 t) (bytes-take 40 t b) (length-take-le 40 t (omega arith)) small spare u,
@@ -210,7 +204,7 @@ instances-all [] f = tt
 instances-all (x ∷ xs) f =
     (record { width = length-instance x (f .0); back = instance-back x (f .0) }, instances-all xs (f .1))
 
-writers-all : (ws : List Writer) → All FitsWriter ws → All (Back writerBytes writerOf 40) ws
+pub writers-all : (ws : List Writer) → All FitsWriter ws → All (Back writerBytes writerOf 40) ws
 writers-all [] f = tt
 writers-all (w ∷ ws) f = (record { width = length-writer w; back = writer-back w (f .0) }, writers-all ws (f .1))
 

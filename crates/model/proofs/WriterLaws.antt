@@ -10,10 +10,12 @@ use mathlib.Core.List.{List, [], append-nil}
 use native.Mathlib.Omega.{arith}
 use lib.ListN.{length, getD}
 use lib.Seq.{take-all}
-use Rattle.octets.specs.Bounds.{Bytes, be-lt}
+use Rattle.octets.specs.Bounds.{Bytes}
+use Rattle.octets.proofs.BoundLaws.{be-lt}
 use Rattle.octets.specs.Fields.{reads, Fit}
 use Rattle.octets.specs.Octets.{be}
-use Rattle.octets.specs.Patch.{fields, length-fields}
+use Rattle.octets.specs.Patch.{fields}
+use Rattle.octets.proofs.PatchLaws.{length-fields}
 use Rattle.model.specs.declared.Writer.{Writer}
 use Rattle.model.specs.WriterRecord.{writerFlagsAt, writerFlags, writerBy, writerOf, writerBytes, writerWidths, writerValues}
 use Rattle.model.proofs.FieldLaws.{reads-front, fields-reads}

@@ -62,6 +62,16 @@ calls =
     ∷ numbered 51 (joined depart)
     ∷ []
 
+-- the last code of each range
+abbrev pub lastInstance : ℕ
+lastInstance = 21
+
+abbrev pub lastTracker : ℕ
+lastTracker = 40
+
+abbrev pub lastJoined : ℕ
+lastJoined = 51
+
 abbrev pub codeOf : Numbered → ℕ
 codeOf n = n .code
 

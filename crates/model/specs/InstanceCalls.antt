@@ -9,12 +9,12 @@ use lib.ListN.{length}
 use Rattle.octets.specs.Patch.{digits}
 use Rattle.model.specs.declared.Answer.{Answer}
 use Rattle.model.specs.declared.Instance.{Instance}
+use Rattle.model.specs.declared.InstanceCall.{InstanceCall}
 use Rattle.model.specs.declared.InstanceState.{InstanceState}
 use Rattle.model.specs.declared.Sheet.{Sheet}
 use Rattle.model.specs.Answers.{refusedWith, silent, saying, counting, listing, handed, handedSamples, infoOf, informed}
-use Rattle.model.specs.Calls.{InstanceCall, register, ensureRegisteredLimited, dispose, unregister, unregisterWriter, noteWriter, dropWriter, observeLifecycle, observeAdmitted, noteAdmitted, recordDelivery, noteTaken, markViewSeen, markViewNew, drainSamples, acceptUnderExclusiveOwnership, updateOwnerStrength, clearOwnerForWriter, clearOwnerForWriterPrefix, releaseOwnerOf, autopurge}
 use Rattle.model.specs.Handles.{allocated}
-use Rattle.model.specs.Instances.{effect, rule, reaches, startsBy, limitedBy, hasKey, started, writersIn, leftBy, owns, ownsPrefix, purged, takesOver}
+use Rattle.model.specs.Instances.{Report, Unreported, Left, Owner, Prefix, Purge, Says, Nothing, Handle, Known, Samples, Info, Accepted, Released, effect, rule, reaches, startsBy, limitedBy, onEvery, hasKey, started, writersIn, leftBy, owns, ownsPrefix, purged, takesOver}
 use Rattle.model.specs.Sets.{setPlaces, has}
 use Rattle.model.specs.State.{State, instanceKey}
 use Rattle.model.specs.Tables.{isSome, find, pick, any, put, sift}
@@ -74,16 +74,30 @@ acts c s x = cond (reaches c s x) (kept x (effect c s (x .state))) (some x)
 unfoldable pub instancesAfter : InstanceCall → Sheet → State → List Instance
 instancesAfter c s st = sift (acts c s) (begun c s st)
 
--- ---- the list: code 7's handles, in key order, 8 bytes each
+-- ---- the list: the handles of the instances left writerless, in key order, 8 bytes each
+
+abbrev pub listsLeft : Report → Bool
+listsLeft Unreported = false
+listsLeft Left = true
+listsLeft Owner = false
+listsLeft Prefix = false
+listsLeft Purge = false
+
+-- the call lists the instances that it leaves writerless
+abbrev pub lists : InstanceCall → Bool
+lists c = onEvery c && listsLeft (rule c .reports)
 
 abbrev pub listedBy : InstanceCall → Sheet → Instance → Bool
-listedBy c s x = rule c .listsLeft && leftBy (s .guid) (x .state)
+listedBy c s x = lists c && leftBy (s .guid) (x .state)
 
 unfoldable pub handleBytes : List Instance → List ℕ
 handleBytes [] = []
 handleBytes (x ∷ xs) = digits 8 (x .handle .0) ++ handleBytes xs
 
 -- ---- the answer, from the instances before the call acts and after it
+
+abbrev pub isLeft : Sheet → Instance → Bool
+isLeft s x = leftBy (s .guid) (x .state)
 
 abbrev pub ownedBy : Sheet → Instance → Bool
 ownedBy s x = owns (s .guid) (x .state .owner)
@@ -118,28 +132,27 @@ released s (some x) = ownedBy s x
 abbrev pub reached : InstanceCall → Sheet → List Instance → Option Instance
 reached c s xs = find (reaches c s) xs
 
+-- of the one instance, none where there is none
+abbrev pub answerOf : Says → Sheet → Option Instance → Option Instance → Answer
+answerOf Nothing s before after = silent
+answerOf Handle s before after = handleAnswer before
+answerOf Known s before after = saying (isSome before)
+answerOf Samples s before after = samplesAnswer after
+answerOf Info s before after = infoAnswer after
+answerOf Accepted s before after = saying (accepted s before)
+answerOf Released s before after = saying (released s before)
+
+-- of every instance: how many are listed or counted
+abbrev pub reported : Report → Sheet → List Instance → Answer
+reported Unreported s before = silent
+reported Left s before = listing (length (pick (isLeft s) before))
+reported Owner s before = counting (length (pick (ownedBy s) before))
+reported Prefix s before = counting (length (pick (prefixOwned s) before))
+reported Purge s before = counting (length (pick (isPurged s) before))
+
 abbrev pub told : InstanceCall → Sheet → List Instance → List Instance → Answer
-told register s before after = handleAnswer (reached register s before)
-told ensureRegisteredLimited s before after = handleAnswer (reached ensureRegisteredLimited s before)
-told dispose s before after = saying (isSome (reached dispose s before))
-told unregister s before after = saying (isSome (reached unregister s before))
-told unregisterWriter s before after = saying (isSome (reached unregisterWriter s before))
-told noteWriter s before after = silent
-told dropWriter s before after = listing (length (pick (listedBy dropWriter s) before))
-told observeLifecycle s before after = handleAnswer (reached observeLifecycle s before)
-told observeAdmitted s before after = samplesAnswer (reached observeAdmitted s after)
-told noteAdmitted s before after = infoAnswer (reached noteAdmitted s after)
-told recordDelivery s before after = silent
-told noteTaken s before after = silent
-told markViewSeen s before after = silent
-told markViewNew s before after = saying (isSome (reached markViewNew s before))
-told drainSamples s before after = silent
-told acceptUnderExclusiveOwnership s before after = saying (accepted s (reached acceptUnderExclusiveOwnership s before))
-told updateOwnerStrength s before after = silent
-told clearOwnerForWriter s before after = counting (length (pick (ownedBy s) before))
-told clearOwnerForWriterPrefix s before after = counting (length (pick (prefixOwned s) before))
-told releaseOwnerOf s before after = saying (released s (reached releaseOwnerOf s before))
-told autopurge s before after = counting (length (pick (isPurged s) before))
+told c s before after =
+    cond (onEvery c) (reported (rule c .reports) s before) (answerOf (rule c .says) s (reached c s before) (reached c s after))
 
 -- ---- limits and late refusals
 
@@ -165,7 +178,7 @@ unfoldable pub lateRefusal : ℕ → InstanceCall → Sheet → State → ℕ
 lateRefusal places c s st =
     cond (begins c s st && full places st) 9
     (cond (begins c s st && spent st) 13
-    (cond (rule c .addsWriter && crowds s (reached c s (st .instances))) 10 0))
+    (cond (rule c .«adds_writer» && crowds s (reached c s (st .instances))) 10 0))
 
 -- ---- the call
 

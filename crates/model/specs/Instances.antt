@@ -1,5 +1,5 @@
--- Section 3: what each of the calls 1 to 21 does to an instance that it reaches, in the order of the codes; the table of the
--- calls closes the file. Limits stand in InstanceCalls.antt, filters, order, deadline and purge delays in Times.antt.
+-- Section 3: what each of the calls 1 to 21 does to an instance that it reaches, in the order of the codes; the tables of the
+-- calls, `effect` and `rule`, close the file. Limits stand in InstanceCalls.antt, filters, order, deadline and purge delays in Times.antt.
 use Prim.Native.Nat.{ℕ, _+_, _-_, min, max}
 use mathlib.Core.Bool.{Bool, true, false, not, _&&_, _||_, cond}
 use mathlib.Core.List.{List}
@@ -16,7 +16,16 @@ use Rattle.model.specs.declared.InstanceStateKind.the-variants.{Alive, N
 use Rattle.model.specs.declared.Life.{Life}
 use Rattle.model.specs.declared.MaybeOwner.{MaybeOwner}
 use Rattle.model.specs.declared.MaybeTime.{MaybeTime}
+pub use Rattle.model.specs.declared.Reach.{Reach}
+pub use Rattle.model.specs.declared.Reach.the-variants.{ByKey as byKey, StartingByKey as startingByKey, StartingWithin as startingWithin, ByHandle as byHandle, Every as every}
+pub use Rattle.model.specs.declared.Report.{Report}
+pub use Rattle.model.specs.declared.Report.the-variants.{Nothing as Unreported, Left, Owner, Prefix, Purge}
+pub use Rattle.model.specs.declared.Rule.{Rule}
+pub use Rattle.model.specs.declared.Says.{Says}
+pub use Rattle.model.specs.declared.Says.the-variants.{Nothing, Handle, Known, Samples, Info, Accepted, Released}
 use Rattle.model.specs.declared.Sheet.{Sheet}
+pub use Rattle.model.specs.declared.FieldUse.{FieldUse}
+pub use Rattle.model.specs.declared.FieldUse.the-variants.{Never, IfPresent, Always}
 use Rattle.model.specs.declared.Times.{Times}
 use Rattle.model.specs.declared.WriterSet.{WriterSet}
 use Rattle.model.specs.Calls.{InstanceCall, register, ensureRegisteredLimited, dispose, unregister, unregisterWriter, noteWriter, dropWriter, observeLifecycle, observeAdmitted, noteAdmitted, recordDelivery, noteTaken, markViewSeen, markViewNew, drainSamples, acceptUnderExclusiveOwnership, updateOwnerStrength, clearOwnerForWriter, clearOwnerForWriterPrefix, releaseOwnerOf, autopurge}
@@ -351,7 +360,7 @@ purgedAs NotAliveNoWriters s t = purgeDue (t .«no_writers_at») (s .«time_2»)
 unfoldable pub purged : Sheet → InstanceState → Bool
 purged s x = purgedAs (x .life .kind) s (x .times)
 
--- ---- the table of the calls: what each does to an instance that it reaches; none purges it
+-- ---- what each call does to an instance that it reaches; none where it purges it
 
 abbrev pub effect : InstanceCall → Sheet → InstanceState → Option InstanceState
 effect register s x = some (registered s x)
@@ -376,49 +385,46 @@ effect clearOwnerForWriterPrefix s x = some (prefixCleared (s .guid) x)
 effect releaseOwnerOf s x = some (ownerCleared (s .guid) x)
 effect autopurge s x = cond (purged s x) none (some x)
 
--- ---- section 6: how each reaches: by key, by handle, or as a call on every instance. Of those by key some start an absent instance,
--- two of them up to a limit. Two calls put a GUID into the writer set, and one lists the instances that it leaves
--- writerless
+-- ---- the table of the calls: what each is as a call. Section 6: it reaches by key, by handle, or as a call on every instance.
+-- Of those by key some start an absent instance, two of them up to a limit. Two calls put a GUID into the writer set. Section
+-- 2: it takes the sheet's times and holder never, by their presence bit, or always. Section 3: what it answers
 
-pub data Reach : Type 0 where
-  byKey startingByKey startingWithin byHandle every : Reach
+-- a call on one instance: its reach, what it takes of time 1, time 2 and holder, and what it answers
+abbrev pub onOne : Reach → FieldUse → FieldUse → FieldUse → Says → Rule
+onOne r t u h y = record { reach = r; «adds_writer» = false; «time_1» = t; «time_2» = u; holder = h; says = y; reports = Unreported }
 
-pub record Rule : Type 0 where
-  pub reach : Reach
-  pub addsWriter : Bool
-  pub listsLeft : Bool
+-- the same of one that puts a GUID into the writer set
+abbrev pub adding : Reach → FieldUse → FieldUse → FieldUse → Says → Rule
+adding r t u h y = record { reach = r; «adds_writer» = true; «time_1» = t; «time_2» = u; holder = h; says = y; reports = Unreported }
 
-abbrev only : Reach → Rule
-only r = record { reach = r; addsWriter = false; listsLeft = false }
-
-abbrev adding : Reach → Rule
-adding r = record { reach = r; addsWriter = true; listsLeft = false }
-
-abbrev listing : Reach → Rule
-listing r = record { reach = r; addsWriter = false; listsLeft = true }
+-- a call on every instance: what it takes of time 1 and time 2, and what it reports
+abbrev pub onAll : FieldUse → FieldUse → Report → Rule
+onAll t u k = record { reach = every; «adds_writer» = false; «time_1» = t; «time_2» = u; holder = Never; says = Nothing; reports = k }
 
 abbrev pub rule : InstanceCall → Rule
-rule register = only startingByKey
-rule ensureRegisteredLimited = only startingWithin
-rule dispose = only byHandle
-rule unregister = only byHandle
-rule unregisterWriter = only byHandle
-rule noteWriter = adding byHandle
-rule dropWriter = listing every
-rule observeLifecycle = only startingByKey
-rule observeAdmitted = only startingWithin
-rule noteAdmitted = adding byKey
-rule recordDelivery = only byKey
-rule noteTaken = only byHandle
-rule markViewSeen = only byHandle
-rule markViewNew = only byKey
-rule drainSamples = only byHandle
-rule acceptUnderExclusiveOwnership = only byKey
-rule updateOwnerStrength = only every
-rule clearOwnerForWriter = only every
-rule clearOwnerForWriterPrefix = only every
-rule releaseOwnerOf = only byKey
-rule autopurge = only every
+rule register = onOne startingByKey IfPresent Never Always Handle
+rule ensureRegisteredLimited = onOne startingWithin Never Never Never Handle
+rule dispose = onOne byHandle IfPresent Never Never Known
+rule unregister = onOne byHandle IfPresent Never Never Known
+rule unregisterWriter = onOne byHandle IfPresent Never Never Known
+rule noteWriter = adding byHandle Never Never Never Nothing
+rule dropWriter = onAll IfPresent Never Left
+rule observeLifecycle = onOne startingByKey IfPresent Never IfPresent Handle
+rule observeAdmitted = onOne startingWithin Always Never Always Samples
+rule noteAdmitted = adding byKey Always Always Never Info
+rule recordDelivery = onOne byKey Always Never Never Nothing
+rule noteTaken = onOne byHandle Never Never Never Nothing
+rule markViewSeen = onOne byHandle Never Never Never Nothing
+rule markViewNew = onOne byKey Never Never Never Known
+rule drainSamples = onOne byHandle Never Never Never Nothing
+rule acceptUnderExclusiveOwnership = onOne byKey Never Always Never Accepted
+rule updateOwnerStrength = onAll Never Never Unreported
+rule clearOwnerForWriter = onAll Never Never Owner
+rule clearOwnerForWriterPrefix = onAll Never Never Prefix
+rule releaseOwnerOf = onOne byKey Never Never Never Released
+rule autopurge = onAll Never Always Purge
+
+-- ---- how a call reaches
 
 abbrev pub hasKey : Guid → Instance → Bool
 hasKey k x = same (x .key) k
@@ -449,6 +455,17 @@ limitedBy startingByKey = false
 limitedBy startingWithin = true
 limitedBy byHandle = false
 limitedBy every = false
+
+abbrev pub isEvery : Reach → Bool
+isEvery byKey = false
+isEvery startingByKey = false
+isEvery startingWithin = false
+isEvery byHandle = false
+isEvery every = true
+
+-- codes 7, 17, 18, 19 and 21
+abbrev pub onEvery : InstanceCall → Bool
+onEvery c = isEvery (rule c .reach)
 
 -- section 6: a started instance: alive, view-new, all else zero or absent
 unfoldable pub startedState : InstanceState

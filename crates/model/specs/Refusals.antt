@@ -6,18 +6,21 @@ use mathlib.Core.Bool.{Bool, true, false, not, _&&_, _||_, cond}
 use mathlib.Core.List.{List, [], _∷_}
 use lib.Dec.{eqb, leb, ltb}
 use lib.ListN.{length}
+use Rattle.model.specs.declared.ClockUse.{ClockUse}
+use Rattle.model.specs.declared.ClockUse.the-variants.{NoClock, Clock, ClockAndLease}
 use Rattle.model.specs.declared.MaybeTime.{MaybeTime}
 use Rattle.model.specs.declared.Sheet.{Sheet}
-use Rattle.model.specs.Calls.{Call, instances, tracker, joined, InstanceCall, register, ensureRegisteredLimited, dispose, unregister, unregisterWriter, noteWriter, dropWriter, observeLifecycle, observeAdmitted, noteAdmitted, recordDelivery, noteTaken, markViewSeen, markViewNew, drainSamples, acceptUnderExclusiveOwnership, updateOwnerStrength, clearOwnerForWriter, clearOwnerForWriterPrefix, releaseOwnerOf, autopurge, TrackerCall, matched, unmatched, lostWithParticipant, writerAsserted, participantAsserted, expire, takeLost, takeStatus, acknowledge, JoinedCall, admit, lapse, part, depart}
+use Rattle.model.specs.Calls.{Call, instances, tracker, joined, InstanceCall, TrackerCall, matched, acknowledge, JoinedCall, admit, lapse, part, depart}
 use Rattle.model.specs.Guids.{guidSize}
 use Rattle.model.specs.InstanceRecord.{instanceSize, holderPlaces}
+use Rattle.model.specs.Instances.{FieldUse, Never, IfPresent, Always, rule}
 use Rattle.model.specs.Sheets.{sheetSize}
 use Rattle.model.specs.State.{Lent, State, writerPlaces, lostPlaces, outSize}
 use Rattle.model.specs.Tables.{all}
 use Rattle.model.specs.Times.{billion}
 use Rattle.model.specs.WellFormed.{clockOk}
 use Rattle.model.specs.WriterRecord.{writerSize}
-use Rattle.model.specs.Writers.{acknowledgeable}
+use Rattle.model.specs.Writers.{trackerRule, acknowledgeable}
 
 -- ---- 1: a buffer length other than stated
 
@@ -27,34 +30,25 @@ lengthsOk places sheet l =
     && (eqb (length (l .writers)) (writerPlaces * writerSize)
     && (eqb (length (l .lost)) (lostPlaces * guidSize) && eqb (length (l .out)) outSize)))
 
+-- ---- a used field: the call takes it and its presence bit, where it has one, is set
+
+abbrev pub used : FieldUse → Bool → Bool
+used Never present = false
+used IfPresent present = present
+used Always present = true
+
 -- ---- 4: nanoseconds of 10^9 or more in a used time
+
+-- the times ts, and before them t where it is used
+abbrev pub withTime : FieldUse → MaybeTime → List MaybeTime → List MaybeTime
+withTime k t ts = cond (used k (t .present)) (t ∷ ts) ts
 
 -- a time where its presence bit is set
 abbrev pub optional : MaybeTime → List MaybeTime
-optional t = cond (t .present) (t ∷ []) []
+optional t = withTime IfPresent t []
 
 abbrev pub timesUsedBy : InstanceCall → Sheet → List MaybeTime
-timesUsedBy register s = optional (s .«time_1»)
-timesUsedBy ensureRegisteredLimited s = []
-timesUsedBy dispose s = optional (s .«time_1»)
-timesUsedBy unregister s = optional (s .«time_1»)
-timesUsedBy unregisterWriter s = optional (s .«time_1»)
-timesUsedBy noteWriter s = []
-timesUsedBy dropWriter s = optional (s .«time_1»)
-timesUsedBy observeLifecycle s = optional (s .«time_1»)
-timesUsedBy observeAdmitted s = s .«time_1» ∷ []
-timesUsedBy noteAdmitted s = s .«time_1» ∷ s .«time_2» ∷ []
-timesUsedBy recordDelivery s = s .«time_1» ∷ []
-timesUsedBy noteTaken s = []
-timesUsedBy markViewSeen s = []
-timesUsedBy markViewNew s = []
-timesUsedBy drainSamples s = []
-timesUsedBy acceptUnderExclusiveOwnership s = s .«time_2» ∷ []
-timesUsedBy updateOwnerStrength s = []
-timesUsedBy clearOwnerForWriter s = []
-timesUsedBy clearOwnerForWriterPrefix s = []
-timesUsedBy releaseOwnerOf s = []
-timesUsedBy autopurge s = s .«time_2» ∷ []
+timesUsedBy c s = withTime (rule c .«time_1») (s .«time_1») (withTime (rule c .«time_2») (s .«time_2») [])
 
 abbrev pub timesUsedJoined : JoinedCall → Sheet → List MaybeTime
 timesUsedJoined admit s = s .«time_1» ∷ s .«time_2» ∷ []
@@ -72,16 +66,14 @@ nanosecondsOk t = ltb (t .nanosec) billion
 
 -- ---- 5: used clock or lease of 2^62 or more
 
+-- A, and B where its lease bit is set
+abbrev pub clocksWith : ClockUse → Sheet → List ℕ
+clocksWith NoClock s = []
+clocksWith Clock s = s .a ∷ []
+clocksWith ClockAndLease s = s .a ∷ cond (s .«lease_present») (s .b ∷ []) []
+
 abbrev pub clocksUsedBy : TrackerCall → Sheet → List ℕ
-clocksUsedBy matched s = s .a ∷ cond (s .«lease_present») (s .b ∷ []) []
-clocksUsedBy unmatched s = []
-clocksUsedBy lostWithParticipant s = []
-clocksUsedBy writerAsserted s = s .a ∷ []
-clocksUsedBy participantAsserted s = s .a ∷ []
-clocksUsedBy expire s = s .a ∷ []
-clocksUsedBy takeLost s = []
-clocksUsedBy takeStatus s = []
-clocksUsedBy acknowledge s = []
+clocksUsedBy c s = clocksWith (trackerRule c .clocks) s
 
 abbrev pub clocksUsedJoined : JoinedCall → Sheet → List ℕ
 clocksUsedJoined admit s = []
@@ -97,27 +89,7 @@ clocksUsed (joined c) s = clocksUsedJoined c s
 -- ---- 6: used holder above 144. Codes 1, 9 and 48 take the holder in any case, code 8 by its presence bit
 
 abbrev pub holderUsedBy : InstanceCall → Sheet → Bool
-holderUsedBy register s = true
-holderUsedBy ensureRegisteredLimited s = false
-holderUsedBy dispose s = false
-holderUsedBy unregister s = false
-holderUsedBy unregisterWriter s = false
-holderUsedBy noteWriter s = false
-holderUsedBy dropWriter s = false
-holderUsedBy observeLifecycle s = s .holder .present
-holderUsedBy observeAdmitted s = true
-holderUsedBy noteAdmitted s = false
-holderUsedBy recordDelivery s = false
-holderUsedBy noteTaken s = false
-holderUsedBy markViewSeen s = false
-holderUsedBy markViewNew s = false
-holderUsedBy drainSamples s = false
-holderUsedBy acceptUnderExclusiveOwnership s = false
-holderUsedBy updateOwnerStrength s = false
-holderUsedBy clearOwnerForWriter s = false
-holderUsedBy clearOwnerForWriterPrefix s = false
-holderUsedBy releaseOwnerOf s = false
-holderUsedBy autopurge s = false
+holderUsedBy c s = used (rule c .holder) (s .holder .present)
 
 abbrev pub holderUsedJoined : JoinedCall → Bool
 holderUsedJoined admit = true
@@ -135,20 +107,12 @@ holderFits c s = not (holderUsed c s) || leb (s .holder .len) holderPlaces
 
 -- ---- 7: kind 3 in matched
 
-abbrev pub kindUsed : TrackerCall → Bool
-kindUsed matched = true
-kindUsed unmatched = false
-kindUsed lostWithParticipant = false
-kindUsed writerAsserted = false
-kindUsed participantAsserted = false
-kindUsed expire = false
-kindUsed takeLost = false
-kindUsed takeStatus = false
-kindUsed acknowledge = false
+abbrev pub kindWith : Bool → Sheet → Bool
+kindWith matches s = not matches || not (eqb (s .kind) 3)
 
 abbrev pub kindOk : Call → Sheet → Bool
 kindOk (instances c) s = true
-kindOk (tracker c) s = not (kindUsed c) || not (eqb (s .kind) 3)
+kindOk (tracker c) s = kindWith (trackerRule c .matches) s
 kindOk (joined c) s = true
 
 -- ---- 8: acknowledge taking count minus change beyond ±2^30

@@ -10,7 +10,11 @@ use lib.IntN.{ℤ, pos, _+ℤ_, _-ℤ_}
 use lib.ListN.{length}
 use mir.Syntax.{w32}
 use mir.Val.{toZ}
+use Rattle.model.specs.declared.AcknowledgeUse.{AcknowledgeUse}
+use Rattle.model.specs.declared.AcknowledgeUse.the-variants.{Nothing, Whole, Part}
 use Rattle.model.specs.declared.Answer.{Answer}
+use Rattle.model.specs.declared.ClockUse.{ClockUse}
+use Rattle.model.specs.declared.ClockUse.the-variants.{NoClock, Clock, ClockAndLease}
 use Rattle.model.specs.declared.Guid.{Guid}
 use Rattle.model.specs.declared.InstanceHandle.{InstanceHandle}
 use Rattle.model.specs.declared.LastWriter.{LastWriter}
@@ -18,9 +22,14 @@ use Rattle.model.specs.declared.LastWriter.the-variants.{Nobody, Is}
 use Rattle.model.specs.declared.LivelinessChangedStatus.{LivelinessChangedStatus}
 use Rattle.model.specs.declared.LivelinessKind.{LivelinessKind}
 use Rattle.model.specs.declared.LivelinessKind.the-variants.{Automatic, ManualByParticipant, ManualByTopic}
+use Rattle.model.specs.declared.LostUse.{LostUse}
+use Rattle.model.specs.declared.LostUse.the-variants.{Leaves, Appends, Empties}
 use Rattle.model.specs.declared.MaybeDue.{MaybeDue}
 use Rattle.model.specs.declared.MaybeLease.{MaybeLease}
 use Rattle.model.specs.declared.Sheet.{Sheet}
+use Rattle.model.specs.declared.TrackerReport.{TrackerReport}
+use Rattle.model.specs.declared.TrackerReport.the-variants.{Moved, MovedAndDue, Lost, Status, Silent}
+use Rattle.model.specs.declared.TrackerRule.{TrackerRule}
 use Rattle.model.specs.declared.Writer.{Writer}
 use Rattle.model.specs.declared.WriterState.{WriterState}
 use Rattle.model.specs.declared.WriterState.the-variants.{Unasserted, Alive, NotAlive, Departed}
@@ -33,6 +42,25 @@ use Rattle.model.specs.State.{State, Class, alive, notAlive, neither, cl
 use Rattle.model.specs.Tables.{find, pick, put, sift, isSome}
 use Rattle.model.specs.WellFormed.{within}
 use Rattle.model.specs.WriterRecord.{livelinessNumbered}
+
+-- ---- the table of the calls: clocks of the sheet; whether it matches, which takes the kind and puts a record in; Lost; what is
+-- acknowledged; the answer. What each does to one writer is `writerActs` below
+
+abbrev row : ClockUse → Bool → LostUse → AcknowledgeUse → TrackerReport → TrackerRule
+row clocks matches lost acknowledges report =
+    record { clocks = clocks; matches = matches; lost = lost; acknowledges = acknowledges; report = report }
+
+-- code 39 acknowledges the whole, code 40 a part
+abbrev pub trackerRule : TrackerCall → TrackerRule
+trackerRule matched = row ClockAndLease true Leaves Nothing Moved
+trackerRule unmatched = row NoClock false Leaves Nothing Moved
+trackerRule lostWithParticipant = row NoClock false Leaves Nothing Moved
+trackerRule writerAsserted = row Clock false Leaves Nothing Moved
+trackerRule participantAsserted = row Clock false Leaves Nothing Moved
+trackerRule expire = row Clock false Appends Nothing MovedAndDue
+trackerRule takeLost = row NoClock false Empties Nothing Lost
+trackerRule takeStatus = row NoClock false Leaves Whole Status
+trackerRule acknowledge = row NoClock false Leaves Part Silent
 
 -- ---- one writer
 
@@ -177,15 +205,7 @@ assertion named manual s = record { guid = s .guid; named = named; manual = manu
 
 -- the writers before the call acts: with the record that a match puts in
 abbrev pub writersBegun : TrackerCall → Sheet → List Writer → List Writer
-writersBegun matched s ws = put writerKey (matchedWriter s (find (hasGuid (s .guid)) ws)) ws
-writersBegun unmatched s ws = ws
-writersBegun lostWithParticipant s ws = ws
-writersBegun writerAsserted s ws = ws
-writersBegun participantAsserted s ws = ws
-writersBegun expire s ws = ws
-writersBegun takeLost s ws = ws
-writersBegun takeStatus s ws = ws
-writersBegun acknowledge s ws = ws
+writersBegun c s ws = cond (trackerRule c .matches) (put writerKey (matchedWriter s (find (hasGuid (s .guid)) ws)) ws) ws
 
 -- what the call does to one writer; `matching` says that a match asserts
 abbrev pub writerActs : TrackerCall → Sheet → Bool → Writer → Option Writer
@@ -242,28 +262,21 @@ moved (g ∷ gs) = true
 
 -- ---- Lost, and what is acknowledged
 
-abbrev pub lostAfter : TrackerCall → List Guid → List Guid → List Guid
-lostAfter matched gone lost = lost
-lostAfter unmatched gone lost = lost
-lostAfter lostWithParticipant gone lost = lost
-lostAfter writerAsserted gone lost = lost
-lostAfter participantAsserted gone lost = lost
-lostAfter expire gone lost = lost ++ gone
-lostAfter takeLost gone lost = []
-lostAfter takeStatus gone lost = lost
-lostAfter acknowledge gone lost = lost
+abbrev pub lostWith : LostUse → List Guid → List Guid → List Guid
+lostWith Leaves gone lost = lost
+lostWith Appends gone lost = lost ++ gone
+lostWith Empties gone lost = []
 
--- code 39 acknowledges the whole, code 40 a part
+abbrev pub lostAfter : TrackerCall → List Guid → List Guid → List Guid
+lostAfter c gone lost = lostWith (trackerRule c .lost) gone lost
+
+abbrev pub acknowledgedWith : AcknowledgeUse → ℕ → ℕ → ℤ → ℤ
+acknowledgedWith Nothing count part z = z
+acknowledgedWith Whole count part z = pos count
+acknowledgedWith Part count part z = z +ℤ toZ w32 part
+
 abbrev pub acknowledgedAfter : TrackerCall → ℕ → ℕ → ℤ → ℤ
-acknowledgedAfter matched count part z = z
-acknowledgedAfter unmatched count part z = z
-acknowledgedAfter lostWithParticipant count part z = z
-acknowledgedAfter writerAsserted count part z = z
-acknowledgedAfter participantAsserted count part z = z
-acknowledgedAfter expire count part z = z
-acknowledgedAfter takeLost count part z = z
-acknowledgedAfter takeStatus count part z = pos count
-acknowledgedAfter acknowledge count part z = z +ℤ toZ w32 part
+acknowledgedAfter c count part z = acknowledgedWith (trackerRule c .acknowledges) count part z
 
 -- ---- answers
 
@@ -290,41 +303,46 @@ statusOf st =
       «last_publication_handle» = publication (st .lastWriter);
     }
 
-abbrev pub trackerTold : TrackerCall → Sheet → State → Answer
-trackerTold matched s st = saying (moved (movers matched s (st .writers)))
-trackerTold unmatched s st = saying (moved (movers unmatched s (st .writers)))
-trackerTold lostWithParticipant s st = saying (moved (movers lostWithParticipant s (st .writers)))
-trackerTold writerAsserted s st = saying (moved (movers writerAsserted s (st .writers)))
-trackerTold participantAsserted s st = saying (moved (movers participantAsserted s (st .writers)))
-trackerTold expire s st = sayingDue (moved (movers expire s (st .writers))) (nextDue (writersAfter expire s (st .writers)))
-trackerTold takeLost s st = listing (length (st .lost))
-trackerTold takeStatus s st = reporting (statusOf st)
-trackerTold acknowledge s st = silent
+-- from the writers that changed class, the writers left, and the state before
+abbrev pub toldWith : TrackerReport → List Guid → List Writer → State → Answer
+toldWith Moved gone ws st = saying (moved gone)
+toldWith MovedAndDue gone ws st = sayingDue (moved gone) (nextDue ws)
+toldWith Lost gone ws st = listing (length (st .lost))
+toldWith Status gone ws st = reporting (statusOf st)
+toldWith Silent gone ws st = silent
 
--- code 38's list: 16 bytes each
+abbrev pub trackerTold : TrackerCall → Sheet → State → Answer
+trackerTold c s st = toldWith (trackerRule c .report) (movers c s (st .writers)) (writersAfter c s (st .writers)) st
+
+-- the list of Lost: 16 bytes each
+abbrev pub listWith : TrackerReport → State → List ℕ
+listWith Moved st = []
+listWith MovedAndDue st = []
+listWith Lost st = guidsBytes (st .lost)
+listWith Status st = []
+listWith Silent st = []
+
 abbrev pub trackerList : TrackerCall → State → List ℕ
-trackerList matched st = []
-trackerList unmatched st = []
-trackerList lostWithParticipant st = []
-trackerList writerAsserted st = []
-trackerList participantAsserted st = []
-trackerList expire st = []
-trackerList takeLost st = guidsBytes (st .lost)
-trackerList takeStatus st = []
-trackerList acknowledge st = []
+trackerList c st = listWith (trackerRule c .report) st
 
 -- ---- late refusals: 11 new GUID, 128 writer records; 12 expiries beyond 256 in Lost
 
+-- a match of a new GUID with every place taken
+abbrev pub noPlace : Sheet → State → Bool
+noPlace s st = not (isSome (find (hasGuid (s .guid)) (st .writers))) && leb writerPlaces (length (st .writers))
+
+abbrev pub appends : LostUse → Bool
+appends Leaves = false
+appends Appends = true
+appends Empties = false
+
+-- so many that Lost cannot take them
+abbrev pub tooMany : List Guid → State → Bool
+tooMany gone st = ltb lostPlaces (length (st .lost) + length gone)
+
 abbrev pub trackerLate : TrackerCall → Sheet → State → ℕ
-trackerLate matched s st = cond (not (isSome (find (hasGuid (s .guid)) (st .writers))) && leb writerPlaces (length (st .writers))) 11 0
-trackerLate unmatched s st = 0
-trackerLate lostWithParticipant s st = 0
-trackerLate writerAsserted s st = 0
-trackerLate participantAsserted s st = 0
-trackerLate expire s st = cond (ltb lostPlaces (length (st .lost) + length (movers expire s (st .writers)))) 12 0
-trackerLate takeLost s st = 0
-trackerLate takeStatus s st = 0
-trackerLate acknowledge s st = 0
+trackerLate c s st =
+    cond (trackerRule c .matches && noPlace s st) 11 (cond (appends (trackerRule c .lost) && tooMany (movers c s (st .writers)) st) 12 0)
 
 -- ---- the call
 
@@ -349,14 +367,11 @@ trackerCall c s st = cond (eqb (trackerLate c s st) 0) (trackerTurn c s st) (ref
 
 -- ---- refusal 8: acknowledge taking count minus change beyond ±2^30
 
-abbrev pub acknowledgeable : TrackerCall → Sheet → State → Bool
-acknowledgeable matched s st = true
-acknowledgeable unmatched s st = true
-acknowledgeable lostWithParticipant s st = true
-acknowledgeable writerAsserted s st = true
-acknowledgeable participantAsserted s st = true
-acknowledgeable expire s st = true
-acknowledgeable takeLost s st = true
-acknowledgeable takeStatus s st = true
-acknowledgeable acknowledge s st =
+abbrev pub acknowledgeableWith : AcknowledgeUse → Sheet → State → Bool
+acknowledgeableWith Nothing s st = true
+acknowledgeableWith Whole s st = true
+acknowledgeableWith Part s st =
     within (st .acknowledgedAlive +ℤ toZ w32 (s .first)) && within (st .acknowledgedNotAlive +ℤ toZ w32 (s .second))
+
+abbrev pub acknowledgeable : TrackerCall → Sheet → State → Bool
+acknowledgeable c s st = acknowledgeableWith (trackerRule c .acknowledges) s st

@@ -165,6 +165,57 @@ pub enum InstanceCall {
     Autopurge,
 }
 
+// How a call on instances reaches: by key, which may start an absent instance, also up to a limit; by handle; or as a call on
+// every instance.
+pub enum Reach {
+    ByKey,
+    StartingByKey,
+    StartingWithin,
+    ByHandle,
+    Every,
+}
+
+// Whether a call uses a field of its sheet: never, where its presence bit is set, always.
+pub enum FieldUse {
+    Never,
+    IfPresent,
+    Always,
+}
+
+// What a call on one instance answers: nothing, the handle, whether the instance is known, handle and samples, the fields for
+// a SampleInfo, whether a sample is accepted, whether an owner is released.
+pub enum Says {
+    Nothing,
+    Handle,
+    Known,
+    Samples,
+    Info,
+    Accepted,
+    Released,
+}
+
+// What a call on every instance reports of one: nothing, that it is left writerless, that its owner is cleared, by GUID or by
+// prefix, or that it is purged.
+pub enum Report {
+    Nothing,
+    Left,
+    Owner,
+    Prefix,
+    Purge,
+}
+
+// All that is said of a call on instances as a call, its effect apart. `says` is for a call on one instance, `reports` for a
+// call on every.
+pub struct Rule {
+    pub reach: Reach,
+    pub adds_writer: bool,
+    pub time_1: FieldUse,
+    pub time_2: FieldUse,
+    pub holder: FieldUse,
+    pub says: Says,
+    pub reports: Report,
+}
+
 // The calls on writers, in the order of their codes 32 to 40.
 pub enum TrackerCall {
     Matched,
@@ -176,6 +227,46 @@ pub enum TrackerCall {
     TakeLost,
     TakeStatus,
     Acknowledge,
+}
+
+// The columns of a call on writers, whose rows are `trackerRule` in Writers. The clocks of the sheet that it uses: A, and B as
+// a lease by its bit.
+pub enum ClockUse {
+    NoClock,
+    Clock,
+    ClockAndLease,
+}
+
+// What it does to Lost: nothing, puts the writers that changed class behind it, or empties it.
+pub enum LostUse {
+    Leaves,
+    Appends,
+    Empties,
+}
+
+// What it acknowledges of both counts: nothing, the whole, or the part that the sheet gives.
+pub enum AcknowledgeUse {
+    Nothing,
+    Whole,
+    Part,
+}
+
+// What it answers: whether a class changed, that and when the next lease runs out, the list of Lost, the status, or nothing.
+pub enum TrackerReport {
+    Moved,
+    MovedAndDue,
+    Lost,
+    Status,
+    Silent,
+}
+
+// A call that matches takes the kind and puts a record in.
+pub struct TrackerRule {
+    pub clocks: ClockUse,
+    pub matches: bool,
+    pub lost: LostUse,
+    pub acknowledges: AcknowledgeUse,
+    pub report: TrackerReport,
 }
 
 // The joined calls, in the order of their codes 48 to 51.

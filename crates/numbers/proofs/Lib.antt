@@ -1,2 +1,4 @@
--- The laws that the proofs share.
+-- Laws of signed numbers and of products.
+pub mod Signs
 pub mod Signed
+pub mod Products

@@ -11,7 +11,7 @@ use mir.Syntax.{Width, w32, w64}
 use mir.Val.{Fits, SFits, ofZ, toZ}
 use Rattle.model.specs.Times.{raised}
 use Rattle.model.specs.WellFormed.{within}
-use Rattle.numbers.specs.Signs.{raised-is}
+use Rattle.numbers.proofs.Signs.{raised-is}
 
 pub fits-as : {w : Width} {y z : ℤ} → y ≡ z → SFits w z → SFits w y
 fits-as e f = rw e f

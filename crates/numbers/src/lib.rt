@@ -1,5 +1,5 @@
 // Numbers beyond the language's own operators: sums that stop or wrap, 32 bits read with and without a sign, and the
-// signed differences of the liveliness status. Rests on model for `raised`.
+// signed differences of the liveliness status.
 ghost use mathlib.Core.Path.{_≡_};
 ghost use Prim.Native.Nat.{_+_, _-_, _*_, _%_, _^_, _≤_, min};
 ghost use lib.IntN.{pos, _+ℤ_, _-ℤ_};

@@ -11,7 +11,8 @@ use native.Mathlib.Numerals.{add-one}
 use native.Mathlib.Omega.{arith}
 use lib.ListN.{length, getD, set, take, drop, replicate, length-drop, length-replicate, List·getD-append, replicate-append-replicate}
 use lib.Seq.{set-at, take-suc, drop-cons, paste-suc, getD-take, getD-drop, getD-append-add, paste, length-paste-head, length-take-le}
-use Rattle.octets.specs.Patch.{patch, patch-patch, set-patch, length-patch}
+use Rattle.octets.specs.Patch.{patch}
+use Rattle.octets.proofs.PatchLaws.{patch-patch, set-patch, length-patch}
 
 -- a list with a part pasted in, before that part and behind it
 module _ (d : List ℕ) (at : ℕ) (s : List ℕ) (n : ℕ) (hd : at + n ≤ length d) (hs : n ≤ length s) where

@@ -19,9 +19,9 @@ use Rattle.model.specs.declared.Guid.{Guid}
 use Rattle.model.specs.Guids.{num, same, guidAt}
 use Rattle.tables.specs.declared.Found.the-variants.{At, Missing}
 use Rattle.tables.specs.Keys.{keys, rising}
-use Rattle.tables.specs.KeyLaws.{length-keys, getD-keys, rising-snoc, rising-left, rising-pairs}
+use Rattle.tables.proofs.KeyLaws.{length-keys, getD-keys, rising-snoc, rising-left, rising-pairs}
 use Rattle.tables.specs.Found.{lowerBound, foundIn}
-use Rattle.tables.specs.FoundLaws.{lower-unique, lower-found, lower-missing}
+use Rattle.tables.proofs.FoundLaws.{lower-unique, lower-found, lower-missing}
 
 pub record-le : (size : ℕ) {i n : ℕ} → i < n → i * size + size ≤ n * size
 record-le size {i} h = omega (arith, mul-le-mul-right size h, suc-mul i size)

@@ -1,8 +1,5 @@
--- What the contracts of tables cite, and its laws.
+-- What the contracts of tables and of the crates above cite.
 pub mod Keys
 pub mod Found
 pub mod Gaps
-pub mod KeyLaws
-pub mod FoundLaws
-pub mod GapLaws
-pub mod RecordLaws
+pub mod Places

@@ -1,5 +1,4 @@
 // Tables in a slice: records of one size end to end, each with a 16-byte key in front, the keys rising.
-// Rests on octets, model and guid.
 use model::Guid;
 ghost use mathlib.Core.Bool.{true};
 ghost use mathlib.Core.Path.{_≡_};
@@ -39,7 +38,7 @@ pub fn keys_rise(t: &[u8], size: usize, count: usize) -> bool
 
 // How many of the first count records stand before the key: a binary search.
 pub fn lower_bound(t: &[u8], size: usize, count: usize, key: Guid) -> usize
-    requires { ⌜ (16 ≤ size) × (count * size ≤ length (now t)) × (rising (keys size count (now t)) ≡ true) ⌝ }
+    requires { ⌜ (16 ≤ size) × (count ≤ 128) × (count * size ≤ length (now t)) × (rising (keys size count (now t)) ≡ true) ⌝ }
     ensures { λ r. ⌜ r ≡ lowerBound (keys size count (now (t .entry))) (num key) ⌝ }
 {
     let mut lo = 0;
@@ -57,7 +56,7 @@ pub fn lower_bound(t: &[u8], size: usize, count: usize, key: Guid) -> usize
 
 // The place of the key among the first count records.
 pub fn find(t: &[u8], size: usize, count: usize, key: Guid) -> Found
-    requires { ⌜ (16 ≤ size) × (count * size ≤ length (now t)) × (rising (keys size count (now t)) ≡ true) ⌝ }
+    requires { ⌜ (16 ≤ size) × (count ≤ 128) × (count * size ≤ length (now t)) × (rising (keys size count (now t)) ≡ true) ⌝ }
     ensures { λ r. ⌜ r ≡ foundIn (keys size count (now (t .entry))) (num key) ⌝ }
 {
     let place = lower_bound(t, size, count, key);

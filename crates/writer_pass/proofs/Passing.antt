@@ -13,7 +13,8 @@ use native.Mathlib.Omega.{arith}
 use lib.ListN.{length, take, drop, getD, set, length-map, length-append, length-drop, drop-of-length-le}
 use lib.Seq.{take-all, drop-cons, length-take-le, getD-at, set-at}
 use Rattle.octets.specs.Bounds.{Bytes}
-use Rattle.octets.specs.Lay.{lay, All, all-get, length-lay, lay-read, lay-set}
+use Rattle.octets.specs.Lay.{lay, All}
+use Rattle.octets.proofs.LayLaws.{all-get, length-lay, lay-read, lay-set}
 use Rattle.octets.specs.Patch.{patch}
 use Rattle.model.specs.declared.LastWriter.{LastWriter}
 use Rattle.model.specs.declared.Writer.{Writer}

@@ -18,7 +18,8 @@ use borrow.Author.Tests.{ltb-true, eqb-true}
 use lib.Dec.{eqb}
 use lib.ListN.{length, take, drop, getD, length-append, take-append-drop}
 use lib.Seq.{take-suc, drop-drop}
-use Rattle.octets.specs.Bounds.{Bytes, be-lt}
+use Rattle.octets.specs.Bounds.{Bytes}
+use Rattle.octets.proofs.BoundLaws.{be-lt}
 use Rattle.octets.specs.Lay.{All}
 use Rattle.model.specs.declared.Guid.{Guid}
 use Rattle.model.specs.declared.LastWriter.{LastWriter}
@@ -33,7 +34,7 @@ use Rattle.model.specs.Writers.{lastAfter}
 use Rattle.model.specs.WriterRecord.{writerOf}
 use Rattle.model.proofs.Fits.{FitsWriter}
 use Rattle.model.proofs.GuidLaws.{bytes-take, bytes-drop}
-use Rattle.model.proofs.RowLaws.{both}
+use Rattle.model.proofs.Tests.{both}
 use Rattle.writer_pass.specs.Passes.{Bounded, lastOne}
 
 module _ {A : Type 0} where

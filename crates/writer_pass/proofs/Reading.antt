@@ -15,8 +15,10 @@ use native.Mathlib.Nat.{add-mul}
 use native.Mathlib.Omega.{arith}
 use lib.ListN.{length, take, drop, getD, replicate, length-map, length-append, length-replicate, replicate-append-replicate, drop-of-length-le}
 use lib.Seq.{take-all, drop-cons, length-take-le}
-use Rattle.octets.specs.Lay.{rows, lay, All, rows-append, length-rows}
-use Rattle.octets.specs.Patch.{patch, patch-at, length-patch}
+use Rattle.octets.specs.Lay.{rows, lay, All}
+use Rattle.octets.proofs.LayLaws.{rows-append, length-rows}
+use Rattle.octets.specs.Patch.{patch}
+use Rattle.octets.proofs.PatchLaws.{patch-at, length-patch}
 use Rattle.model.specs.declared.Guid.{Guid}
 use Rattle.model.specs.declared.MaybeDue.{MaybeDue}
 use Rattle.model.specs.declared.Writer.{Writer}

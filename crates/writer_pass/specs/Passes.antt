@@ -17,7 +17,7 @@ use Rattle.model.specs.Tables.{pick, all}
 use Rattle.model.specs.WellFormed.{writerOk}
 use Rattle.model.specs.Writers.{covers, renews, expires, withState, sameClass, lastAfter, guidIn}
 use Rattle.model.specs.WriterRecord.{writerOf, writerBytes}
-use Rattle.writer_state.specs.Acts.{assertionOf}
+use Rattle.writer_effects.specs.Acts.{assertionOf}
 use Rattle.writer_pass.specs.declared.Act.{Act}
 use Rattle.writer_pass.specs.declared.Act.the-variants.{Assert, Expire}
 use Rattle.writer_pass.specs.declared.Counts.{Counts}

@@ -1,5 +1,5 @@
 // Passes over the writer table, record by record in GUID order: an assertion or an expiry acts on each, and the classes,
-// the leases that ran out and the next one due are told. Rests on octets, model, writer_record and writer_state.
+// the leases that ran out and the next one due are told.
 //
 // Derives from liveliness_tracker.rs of ZeroDDS (renew_participant and expire).
 // Copyright 2026 ZeroDDS Contributors. SPDX-License-Identifier: Apache-2.0. Changed: written anew in Rattle, over records
@@ -9,7 +9,7 @@ use model::LastWriter;
 use model::MaybeDue;
 use model::Writer;
 use model::WriterState;
-use writer_state::Assertion;
+use writer_effects::Assertion;
 ghost use mathlib.Core.Bool.{_&&_, cond};
 ghost use mathlib.Core.List.{_++_, map};
 ghost use mathlib.Core.Path.{_≡_};
@@ -21,7 +21,7 @@ ghost use Rattle.model.specs.State.{writersIn, lostOf};
 ghost use Rattle.model.specs.Tables.{pick};
 ghost use Rattle.model.specs.Writers.{covers, renews, expires, guidIn, nextDue, soonerOf};
 ghost use Rattle.model.specs.WriterRecord.{writerOf, writerBytes};
-ghost use Rattle.writer_state.specs.Acts.{assertionOf};
+ghost use Rattle.writer_effects.specs.Acts.{assertionOf};
 ghost use Rattle.writer_pass.specs.Passes.{Bounded, Sound, countOne, countsOf, lastOne, touchesBy, touchedBy, actOf, countedBy, tallyOf, touchedAt};
 
 // What a pass does to each writer.
@@ -56,8 +56,8 @@ fn count_one(c: Counts, s: WriterState) -> Counts
     requires { ⌜ (c .alive < 128) × (c .«not_alive» < 128) ⌝ }
     ensures { λ r. ⌜ r ≡ countOne c s ⌝ }
 {
-    let alive = one_more(writer_state::counts_alive(s), c.alive);
-    let not_alive = one_more(writer_state::counts_not_alive(s), c.not_alive);
+    let alive = one_more(writer_effects::counts_alive(s), c.alive);
+    let not_alive = one_more(writer_effects::counts_not_alive(s), c.not_alive);
     Counts {
         alive: alive,
         not_alive: not_alive,
@@ -84,7 +84,7 @@ fn counted(tally: Tally, w: Writer, v: Writer) -> Tally
     let c = tally.counts;
     let last = tally.last;
     let counts = count_one(c, now);
-    let shifts = !writer_state::same_class(was, now);
+    let shifts = !writer_effects::same_class(was, now);
     let moved = one_more(shifts, tally.moved);
     let newest = last_one(shifts, g, last);
     Tally {
@@ -98,8 +98,8 @@ fn counted(tally: Tally, w: Writer, v: Writer) -> Tally
 fn asserts(a: Assertion, w: Writer) -> bool
     ensures { λ r. ⌜ r ≡ (covers (assertionOf a) w && renews (assertionOf a) w) ⌝ }
 {
-    if writer_state::covers(a, w) {
-        return writer_state::renews(a, w);
+    if writer_effects::covers(a, w) {
+        return writer_effects::renews(a, w);
     }
     false
 }
@@ -111,7 +111,7 @@ fn touches(act: Act, w: Writer) -> bool
 {
     match act {
         Act::Assert(a) => asserts(a, w),
-        Act::Expire(clock) => writer_state::expires(clock, w),
+        Act::Expire(clock) => writer_effects::expires(clock, w),
     }
 }
 
@@ -120,9 +120,9 @@ fn touched(act: Act, w: Writer) -> Writer
     ensures { λ r. ⌜ r ≡ touchedBy act w ⌝ }
 {
     match act {
-        Act::Assert(a) => writer_state::with_state(w, WriterState::Alive, a.clock),
+        Act::Assert(a) => writer_effects::with_state(w, WriterState::Alive, a.clock),
         Act::Expire(_) => {
-            writer_state::with_state(w, WriterState::NotAlive, w.liveliness.last_assertion)
+            writer_effects::with_state(w, WriterState::NotAlive, w.liveliness.last_assertion)
         }
     }
 }
@@ -193,7 +193,7 @@ pub fn expiring(t: &[u8], count: usize, clock: u64) -> u32
     let mut i = 0;
     while i < count {
         let w = writer_record::writer_at(t, i);
-        n = one_more(writer_state::expires(clock, w), n);
+        n = one_more(writer_effects::expires(clock, w), n);
         i += 1;
     }
     n
@@ -210,7 +210,7 @@ pub fn note_expiring(t: &[u8], count: usize, clock: u64, lost: &mut [u8], n: usi
     while i < count {
         let w = writer_record::writer_at(t, i);
         i += 1;
-        if writer_state::expires(clock, w) {
+        if writer_effects::expires(clock, w) {
             let g = w.guid;
             writer_record::put_guid(lost, at * 16, g);
             at += 1;
@@ -223,7 +223,7 @@ fn sooner_of(w: Writer, d: MaybeDue) -> MaybeDue
     requires { ⌜ Bounded w ⌝ }
     ensures { λ r. ⌜ r ≡ soonerOf w d ⌝ }
 {
-    let due = writer_state::due_at(w);
+    let due = writer_effects::due_at(w);
     if d.present {
         if d.at <= due {
             return MaybeDue {
@@ -251,7 +251,7 @@ pub fn next_due(t: &[u8], count: usize) -> MaybeDue
     while 0 < i {
         i -= 1;
         let w = writer_record::writer_at(t, i);
-        if writer_state::is_leased(w) {
+        if writer_effects::is_leased(w) {
             d = sooner_of(w, d);
         }
     }

@@ -12,7 +12,8 @@ use mathlib.Core.List.{List, [], _∷_, append-nil}
 use native.Mathlib.Omega.{arith}
 use lib.ListN.{length, drop-of-length-le}
 use Rattle.octets.specs.Octets.{put}
-use Rattle.octets.specs.Patch.{patch, puts-patch}
+use Rattle.octets.specs.Patch.{patch}
+use Rattle.octets.proofs.PatchLaws.{puts-patch}
 use Rattle.model.specs.declared.Guid.{Guid}
 use Rattle.model.specs.declared.LivelinessKind.the-variants.{ManualByTopic}
 use Rattle.model.specs.declared.Writer.{Writer}

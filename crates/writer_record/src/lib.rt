@@ -1,5 +1,5 @@
 // A writer's record: 40 bytes of the table on one side, a struct by value on the other; and whether such bytes are a
-// record. What the bytes mean stands in model's WriterRecord and WellFormed. Rests on octets, model and guid.
+// record. What the bytes mean stands in model's WriterRecord and WellFormed.
 //
 // Derives from liveliness_tracker.rs of ZeroDDS.
 // Copyright 2026 ZeroDDS Contributors. SPDX-License-Identifier: Apache-2.0. Changed: written anew in Rattle, the map of
@@ -45,7 +45,7 @@ fn state_numbered(n: u8) -> WriterState
 }
 
 // The number of a kind.
-pub fn kind_number(k: LivelinessKind) -> u8
+fn kind_number(k: LivelinessKind) -> u8
     ensures { λ r. ⌜ (r ≡ livelinessNumber k) × (r < 3) ⌝ }
 {
     match k {
@@ -165,14 +165,6 @@ pub fn put_record(t: &mut [u8], at: usize, w: Writer)
     octets::store(t, at + 17, 7, 0);
     octets::put_u64(t, at + 24, w.liveliness.lease.nanos);
     octets::put_u64(t, at + 32, w.liveliness.last_assertion);
-}
-
-// The bytes of a record become those of w.
-pub fn write_writer(r: &mut [u8], w: Writer)
-    requires { ⌜ length (now r) ≡ 40 ⌝ }
-    ensures { λ _. ⌜ now (r .exit) ≡ writerBytes w ⌝ }
-{
-    put_record(r, 0, w);
 }
 
 // Record i of a table becomes that of w.

@@ -2,15 +2,15 @@
 use mathlib.Core.Path.{sym, _∙_}
 use Rattle.model.specs.Guids.{num}
 use Rattle.model.specs.State.{instanceKey}
-use Rattle.turns.proofs.Keys.{found-only}
-use Rattle.instance_tracker.specs.Turned.{blank}
-use Rattle.instance_tracker.proofs.Table.{ready-room-all, ready-rises}
+use Rattle.tables.proofs.Puts.{found-only}
+use Rattle.instance_reach.specs.Turned.{blank}
+use Rattle.instance_reach.proofs.Table.{ready-most, ready-room-all, ready-rises}
 use borrow.Author.Needs.{needs}
 use Rattle.admission.proofs.admit.Statement.{statement}
 use Rattle.admission.proofs.admit.Tie as tie
 
 find-key-requires : tie.Need-find-key-requires
-find-key-requires c κs = let a = c .before .before .before in (ready-room-all (a .pre), ready-rises (a .pre))
+find-key-requires c κs = let a = c .before .before .before in (ready-most (a .pre), ready-room-all (a .pre), ready-rises (a .pre))
 
 enum-known-f : tie.Need-enum-known-f
 enum-known-f c = search needs

@@ -1,19 +1,19 @@
 -- The instance is replaced. Assumes nothing.
 use mathlib.Core.Path.{refl}
 use native.Mathlib.Omega.{arith}
-use Rattle.admission.proofs.Effects.{owned-asked}
+use Rattle.admission.proofs.Effects.{tried-owned, owned-asked}
 use Rattle.admission.proofs.Leaves.{known-place, known-usable, known-room, admitted-left}
 use borrow.Author.Needs.{needs}
 use Rattle.admission.proofs.admit_at.Statement.{statement}
 use Rattle.admission.proofs.admit_at.Tie as tie
 
-ownership-tried-requires : tie.Need-ownership-tried-requires
-ownership-tried-requires c κs = search needs
+owned-from-requires : tie.Need-owned-from-requires
+owned-from-requires c κs = search needs
 
 noted-requires : tie.Need-noted-requires
 noted-requires c κs =
     let a = c .before .before .before in
-    owned-asked (a .args .s) (a .args .x .state) (c .ownership-tried .result) (c .ownership-tried .ensures)
+    owned-asked (a .args .s) (a .args .x .state) (c .owned-from .result) (tried-owned (a .args .s) (a .args .x .state) (c .owned-from .result) (a .pre .4) (c .owned-from .ensures))
     (known-usable (a .pre .0) (a .args .s) (a .args .i) (a .args .x) (a .pre .1))
     (known-room (a .pre .0) (a .args .s) (a .args .i) (a .args .x) (a .pre .1) (a .pre .3))
 
@@ -36,14 +36,14 @@ returns c =
     let p = m .before .before in
     let a = p .before in
     admitted-left (a .pre .0) (a .args .s) (λ n. omega (arith, p .slice-known .given n)) (a .args .i) (a .args .x) (a .pre .1)
-    (c .admitted-answer .result) (a .args .next) refl (a .pre .2) (a .pre .3) (m .ownership-tried .result) (l .noted .result) (k .replace .last .0)
-    (a .pre .4) (m .ownership-tried .ensures) (l .noted .ensures) (c .admitted-answer .ensures) (k .replace .ensures)
+    (c .admitted-answer .result) (a .args .next) refl (a .pre .2) (a .pre .3) (m .owned-from .result) (l .noted .result) (k .replace .last .0)
+    (a .pre .4) (tried-owned (a .args .s) (a .args .x .state) (m .owned-from .result) (a .pre .4) (m .owned-from .ensures)) (l .noted .ensures) (c .admitted-answer .ensures) (k .replace .ensures)
 
 pub admit-at-spec : {M : Type 1} → statement M
 admit-at-spec =
     tie.close
     (tie.spec
-    ownership-tried-requires
+    owned-from-requires
     noted-requires
     replace-requires
     admitted-answer-requires

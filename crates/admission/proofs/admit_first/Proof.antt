@@ -3,7 +3,7 @@ use mathlib.Core.Path.{refl, ap, _∙_}
 use native.Mathlib.Omega.{arith}
 use Rattle.model.specs.declared.Allocated.{Allocated}
 use Rattle.model.specs.Instances.{started}
-use Rattle.instance_tracker.proofs.Table.{ready-place}
+use Rattle.instance_reach.proofs.Table.{ready-place}
 use Rattle.admission.proofs.Effects.{first-asked}
 use Rattle.admission.proofs.Leaves.{new-within, first-left}
 use borrow.Author.Needs.{needs}

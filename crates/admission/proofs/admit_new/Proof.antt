@@ -1,7 +1,8 @@
 -- Outcome 3, then refusals 9 and 13. Assumes nothing.
 use mathlib.Core.Path.{refl, sym, _∙_}
 use native.Mathlib.Omega.{arith}
-use Rattle.admission.proofs.Leaves.{limited-left, full-left, spent-left}
+use Rattle.instance_reach.proofs.Table.{start-free}
+use Rattle.admission.proofs.Leaves.{limited-left, refused-left}
 use borrow.Author.Needs.{needs}
 use Rattle.admission.proofs.admit_new.Statement.{statement}
 use Rattle.admission.proofs.admit_new.Tie as tie
@@ -18,42 +19,34 @@ returns c =
     limited-left (a .pre .0) (a .args .s) (λ n. omega (arith, c .before .before .before .slice-known .given n)) (a .args .i) (a .pre .1)
     (c .stopped .result) (a .args .next) (sym (c .before .before .at-limit .ensures) ∙ c .before .if1 .taken) (c .stopped .ensures .1 refl) refl
 
+start-refusal-requires : tie.Need-start-refusal-requires
+start-refusal-requires c κs = search needs
+
 stopped-requires-2 : tie.Need-stopped-requires-2
 stopped-requires-2 c κs = search needs
 
 returns-2 : tie.Need-returns-2
 returns-2 c =
-    let a = c .before .before .before .before .before in
-    full-left (a .pre .0) (a .args .s) (λ n. omega (arith, c .before .before .before .before .slice-known .given n)) (a .args .i) (a .pre .1)
-    (c .stopped2 .result) (a .args .next) (sym (c .before .before .before .at-limit .ensures) ∙ c .before .before .if1 .left) (c .before .if2 .taken)
-    (c .stopped2 .ensures .0 refl) refl
-
-stopped-requires-3 : tie.Need-stopped-requires-3
-stopped-requires-3 c κs = search needs
-
-returns-3 : tie.Need-returns-3
-returns-3 c =
-    let k = c .before .before .before .before .before in
-    let a = k .before in
-    spent-left (a .pre .0) (a .args .s) (λ n. omega (arith, k .slice-known .given n)) (a .args .i) (a .pre .1) (c .stopped3 .result) (a .args .next)
-    (sym (c .before .before .before .before .at-limit .ensures) ∙ c .before .before .before .if1 .left) (c .before .before .if2 .left)
-    (c .before .if3 .taken) (c .stopped3 .ensures .0 refl) refl
+    let n = c .before .before in
+    let k = n .before .before in
+    let a = k .before .before in
+    refused-left (a .pre .0) (a .args .s) (λ n. omega (arith, k .before .slice-known .given n)) (a .args .i) (a .pre .1)
+    (c .stopped2 .result) (a .args .next) (sym (k .at-limit .ensures) ∙ n .before .if1 .left)
+    (n .start-refusal .result) (n .start-refusal .ensures) (c .before .if2 .taken) (c .stopped2 .ensures .0 refl) refl
 
 admit-first-requires : tie.Need-admit-first-requires
 admit-first-requires c κs =
-    let a = c .before .before .before .before .before .before in (
-      a .pre .0,
-      a .pre .1,
-      sym (c .before .before .before .before .at-limit .ensures) ∙ c .before .before .before .if1 .left,
-      c .before .before .if2 .left,
-      c .before .if3 .left,
-    )
+    let n = c .before .before in
+    let k = n .before .before in
+    let a = k .before .before in
+    let free = start-free (a .args .places) (a .args .count) (a .args .next .0) (n .start-refusal .result) (n .start-refusal .ensures) (omega (arith, c .before .if2 .left)) in
+    (a .pre .0, a .pre .1, sym (k .at-limit .ensures) ∙ n .before .if1 .left, free .0, free .1)
 
 same-length : tie.Need-same-length
 same-length c = search needs
 
-returns-4 : tie.Need-returns-4
-returns-4 c = search needs
+returns-3 : tie.Need-returns-3
+returns-3 c = search needs
 
 pub admit-new-spec : {M : Type 1} → statement M
 admit-new-spec =
@@ -62,10 +55,9 @@ admit-new-spec =
     at-limit-requires
     stopped-requires
     returns
+    start-refusal-requires
     stopped-requires-2
     returns-2
-    stopped-requires-3
-    returns-3
     admit-first-requires
     same-length
-    returns-4)
+    returns-3)

@@ -3,7 +3,7 @@ use Prim.Native.Nat.{ℕ, _≤_}
 use mathlib.Core.Path.{_≡_}
 use native.Mathlib.Omega.{arith}
 use Rattle.model.specs.Calls.{calls, amongst, callOfCode}
-use Rattle.call_codes.proofs.Codes.{past}
+use Rattle.instance_rules.proofs.Codes.{past}
 use Rattle.call_codes.proofs.joined_call.Statement.{statement}
 use Rattle.call_codes.proofs.joined_call.Tie as tie
 

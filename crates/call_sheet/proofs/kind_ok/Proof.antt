@@ -1,81 +1,15 @@
--- `call_sheet::kind_ok` meets its contract, arm by arm. Assumes nothing.
-use borrow.Author.Needs.{needs}
 use Rattle.call_sheet.proofs.kind_ok.Statement.{statement}
 use Rattle.call_sheet.proofs.kind_ok.Tie as tie
+use Rattle.call_sheet.proofs.kind_ok.Reads as reads
+use Rattle.call_sheet.proofs.kind_ok.Lts as lts
 
-enum-told : tie.Need-enum-told
-enum-told c = search needs
-
-enum-told-2 : tie.Need-enum-told-2
-enum-told-2 c = search needs
-
-enum-told-3 : tie.Need-enum-told-3
-enum-told-3 c = search needs
-
-enum-told-4 : tie.Need-enum-told-4
-enum-told-4 c = search needs
-
-enum-told-5 : tie.Need-enum-told-5
-enum-told-5 c = search needs
-
-enum-told-6 : tie.Need-enum-told-6
-enum-told-6 c = search needs
-
-enum-told-7 : tie.Need-enum-told-7
-enum-told-7 c = search needs
-
-enum-told-8 : tie.Need-enum-told-8
-enum-told-8 c = search needs
-
-enum-told-9 : tie.Need-enum-told-9
-enum-told-9 c = search needs
-
+-- src/lib.rt:259:9
 returns : tie.Need-returns
-returns c = rw (c .before .enum-told .given .1)
+returns c = rw (c .before .if1 .taken)
 
+-- src/lib.rt:255:1
 returns-2 : tie.Need-returns-2
-returns-2 c = rw (c .enum-told2 .given .1)
-
-returns-3 : tie.Need-returns-3
-returns-3 c = rw (c .enum-told3 .given .1)
-
-returns-4 : tie.Need-returns-4
-returns-4 c = rw (c .enum-told4 .given .1)
-
-returns-5 : tie.Need-returns-5
-returns-5 c = rw (c .enum-told5 .given .1)
-
-returns-6 : tie.Need-returns-6
-returns-6 c = rw (c .enum-told6 .given .1)
-
-returns-7 : tie.Need-returns-7
-returns-7 c = rw (c .enum-told7 .given .1)
-
-returns-8 : tie.Need-returns-8
-returns-8 c = rw (c .enum-told8 .given .1)
-
-returns-9 : tie.Need-returns-9
-returns-9 c = rw (c .enum-told9 .given .1)
+returns-2 c = rw (c .if1 .left)
 
 pub kind-ok-spec : {M : Type 1} → statement M
-kind-ok-spec =
-    tie.close
-    (tie.spec
-    enum-told
-    enum-told-2
-    enum-told-3
-    enum-told-4
-    enum-told-5
-    enum-told-6
-    enum-told-7
-    enum-told-8
-    enum-told-9
-    returns
-    returns-2
-    returns-3
-    returns-4
-    returns-5
-    returns-6
-    returns-7
-    returns-8
-    returns-9)
+kind-ok-spec = tie.close (tie.spec returns returns-2)

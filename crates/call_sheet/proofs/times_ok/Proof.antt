@@ -1,232 +1,30 @@
--- `call_sheet::times_ok` meets its contract: each arm tests the times that its call uses. Assumes nothing.
-use Rattle.model.specs.Tables.{all}
+-- `call_sheet::times_ok` meets its contract: time 1, then time 2, as the call's row says. Assumes nothing.
+use mathlib.Core.Path.{sym, _∙_}
+use Rattle.call_sheet.proofs.Laws.{times-on, times-off}
 use borrow.Author.Needs.{needs}
 use Rattle.call_sheet.proofs.times_ok.Statement.{statement}
 use Rattle.call_sheet.proofs.times_ok.Tie as tie
 
-enum-told : tie.Need-enum-told
-enum-told c = search needs
+rule-of-requires : tie.Need-rule-of-requires
+rule-of-requires c κs = search needs
 
-optional-ok-requires : tie.Need-optional-ok-requires
-optional-ok-requires c κs = search needs
+time-ok-requires : tie.Need-time-ok-requires
+time-ok-requires c κs = search needs
 
-enum-told-2 : tie.Need-enum-told-2
-enum-told-2 c = search needs
-
-enum-told-3 : tie.Need-enum-told-3
-enum-told-3 c = search needs
-
-optional-ok-requires-2 : tie.Need-optional-ok-requires-2
-optional-ok-requires-2 c κs = search needs
-
-enum-told-4 : tie.Need-enum-told-4
-enum-told-4 c = search needs
-
-optional-ok-requires-3 : tie.Need-optional-ok-requires-3
-optional-ok-requires-3 c κs = search needs
-
-enum-told-5 : tie.Need-enum-told-5
-enum-told-5 c = search needs
-
-optional-ok-requires-4 : tie.Need-optional-ok-requires-4
-optional-ok-requires-4 c κs = search needs
-
-enum-told-6 : tie.Need-enum-told-6
-enum-told-6 c = search needs
-
-enum-told-7 : tie.Need-enum-told-7
-enum-told-7 c = search needs
-
-optional-ok-requires-5 : tie.Need-optional-ok-requires-5
-optional-ok-requires-5 c κs = search needs
-
-enum-told-8 : tie.Need-enum-told-8
-enum-told-8 c = search needs
-
-optional-ok-requires-6 : tie.Need-optional-ok-requires-6
-optional-ok-requires-6 c κs = search needs
-
-enum-told-9 : tie.Need-enum-told-9
-enum-told-9 c = search needs
-
-nanoseconds-ok-requires : tie.Need-nanoseconds-ok-requires
-nanoseconds-ok-requires c κs = search needs
-
-enum-told-10 : tie.Need-enum-told-10
-enum-told-10 c = search needs
-
-both-ok-requires : tie.Need-both-ok-requires
-both-ok-requires c κs = search needs
-
-enum-told-11 : tie.Need-enum-told-11
-enum-told-11 c = search needs
-
-nanoseconds-ok-requires-2 : tie.Need-nanoseconds-ok-requires-2
-nanoseconds-ok-requires-2 c κs = search needs
-
-enum-told-12 : tie.Need-enum-told-12
-enum-told-12 c = search needs
-
-enum-told-13 : tie.Need-enum-told-13
-enum-told-13 c = search needs
-
-enum-told-14 : tie.Need-enum-told-14
-enum-told-14 c = search needs
-
-enum-told-15 : tie.Need-enum-told-15
-enum-told-15 c = search needs
-
-enum-told-16 : tie.Need-enum-told-16
-enum-told-16 c = search needs
-
-nanoseconds-ok-requires-3 : tie.Need-nanoseconds-ok-requires-3
-nanoseconds-ok-requires-3 c κs = search needs
-
-enum-told-17 : tie.Need-enum-told-17
-enum-told-17 c = search needs
-
-enum-told-18 : tie.Need-enum-told-18
-enum-told-18 c = search needs
-
-enum-told-19 : tie.Need-enum-told-19
-enum-told-19 c = search needs
-
-enum-told-20 : tie.Need-enum-told-20
-enum-told-20 c = search needs
-
-enum-told-21 : tie.Need-enum-told-21
-enum-told-21 c = search needs
-
-nanoseconds-ok-requires-4 : tie.Need-nanoseconds-ok-requires-4
-nanoseconds-ok-requires-4 c κs = search needs
+time-ok-requires-2 : tie.Need-time-ok-requires-2
+time-ok-requires-2 c κs = search needs
 
 returns : tie.Need-returns
-returns c = rw (c .before .enum-told .given .1) (c .optional-ok .ensures)
+returns c =
+    let r = c .before .before .before .before .before .rule-of in
+    let a = c .before .before .before .before .before .before .args in
+    times-on (a .c) (a .s) (r .result) (r .ensures) _ (sym (c .before .before .time-ok .ensures) ∙ c .before .if1 .taken) (c .time-ok2 .ensures)
 
 returns-2 : tie.Need-returns-2
-unfolding all
-returns-2 c = rw (c .enum-told2 .given .1)
-
-returns-3 : tie.Need-returns-3
-returns-3 c = rw (c .before .enum-told3 .given .1) (c .optional-ok2 .ensures)
-
-returns-4 : tie.Need-returns-4
-returns-4 c = rw (c .before .enum-told4 .given .1) (c .optional-ok3 .ensures)
-
-returns-5 : tie.Need-returns-5
-returns-5 c = rw (c .before .enum-told5 .given .1) (c .optional-ok4 .ensures)
-
-returns-6 : tie.Need-returns-6
-unfolding all
-returns-6 c = rw (c .enum-told6 .given .1)
-
-returns-7 : tie.Need-returns-7
-returns-7 c = rw (c .before .enum-told7 .given .1) (c .optional-ok5 .ensures)
-
-returns-8 : tie.Need-returns-8
-returns-8 c = rw (c .before .enum-told8 .given .1) (c .optional-ok6 .ensures)
-
-returns-9 : tie.Need-returns-9
-returns-9 c = rw (c .before .enum-told9 .given .1) (c .nanoseconds-ok .ensures)
-
-returns-10 : tie.Need-returns-10
-returns-10 c = rw (c .before .enum-told10 .given .1) (c .both-ok .ensures)
-
-returns-11 : tie.Need-returns-11
-returns-11 c = rw (c .before .enum-told11 .given .1) (c .nanoseconds-ok2 .ensures)
-
-returns-12 : tie.Need-returns-12
-unfolding all
-returns-12 c = rw (c .enum-told12 .given .1)
-
-returns-13 : tie.Need-returns-13
-unfolding all
-returns-13 c = rw (c .enum-told13 .given .1)
-
-returns-14 : tie.Need-returns-14
-unfolding all
-returns-14 c = rw (c .enum-told14 .given .1)
-
-returns-15 : tie.Need-returns-15
-unfolding all
-returns-15 c = rw (c .enum-told15 .given .1)
-
-returns-16 : tie.Need-returns-16
-returns-16 c = rw (c .before .enum-told16 .given .1) (c .nanoseconds-ok3 .ensures)
-
-returns-17 : tie.Need-returns-17
-unfolding all
-returns-17 c = rw (c .enum-told17 .given .1)
-
-returns-18 : tie.Need-returns-18
-unfolding all
-returns-18 c = rw (c .enum-told18 .given .1)
-
-returns-19 : tie.Need-returns-19
-unfolding all
-returns-19 c = rw (c .enum-told19 .given .1)
-
-returns-20 : tie.Need-returns-20
-unfolding all
-returns-20 c = rw (c .enum-told20 .given .1)
-
-returns-21 : tie.Need-returns-21
-returns-21 c = rw (c .before .enum-told21 .given .1) (c .nanoseconds-ok4 .ensures)
+returns-2 c =
+    let r = c .before .before .before .before .rule-of in
+    let a = c .before .before .before .before .before .args in
+    times-off (a .c) (a .s) (r .result) (r .ensures) (sym (c .before .time-ok .ensures) ∙ c .if1 .left)
 
 pub times-ok-spec : {M : Type 1} → statement M
-times-ok-spec =
-    tie.close
-    (tie.spec
-    enum-told
-    optional-ok-requires
-    enum-told-2
-    enum-told-3
-    optional-ok-requires-2
-    enum-told-4
-    optional-ok-requires-3
-    enum-told-5
-    optional-ok-requires-4
-    enum-told-6
-    enum-told-7
-    optional-ok-requires-5
-    enum-told-8
-    optional-ok-requires-6
-    enum-told-9
-    nanoseconds-ok-requires
-    enum-told-10
-    both-ok-requires
-    enum-told-11
-    nanoseconds-ok-requires-2
-    enum-told-12
-    enum-told-13
-    enum-told-14
-    enum-told-15
-    enum-told-16
-    nanoseconds-ok-requires-3
-    enum-told-17
-    enum-told-18
-    enum-told-19
-    enum-told-20
-    enum-told-21
-    nanoseconds-ok-requires-4
-    returns
-    returns-2
-    returns-3
-    returns-4
-    returns-5
-    returns-6
-    returns-7
-    returns-8
-    returns-9
-    returns-10
-    returns-11
-    returns-12
-    returns-13
-    returns-14
-    returns-15
-    returns-16
-    returns-17
-    returns-18
-    returns-19
-    returns-20
-    returns-21)
+times-ok-spec = tie.close (tie.spec rule-of-requires time-ok-requires time-ok-requires-2 returns returns-2)

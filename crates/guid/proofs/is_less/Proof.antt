@@ -5,7 +5,7 @@ use native.Mathlib.Nat.{le-of-lt}
 use native.Mathlib.Omega.{arith}
 use borrow.Author.Tests.{lt-ltb, le-ltb}
 use Rattle.model.specs.Guids.{num}
-use Rattle.guid.specs.Digits.{digit-lt, ltb-low}
+use Rattle.guid.proofs.Digits.{digit-lt, ltb-low}
 use borrow.Author.Needs.{needs}
 use Rattle.guid.proofs.is_less.Statement.{statement}
 use Rattle.guid.proofs.is_less.Tie as tie

@@ -3,7 +3,7 @@ use Prim.Native.Nat.{_^_}
 use mathlib.Core.Path.{sym}
 use native.Mathlib.Omega.{arith}
 use Rattle.model.specs.Guids.{num}
-use Rattle.guid.specs.Digits.{eqb-high, eqb-low}
+use Rattle.guid.proofs.Digits.{eqb-high, eqb-low}
 use borrow.Author.Needs.{needs}
 use Rattle.guid.proofs.is_same.Statement.{statement}
 use Rattle.guid.proofs.is_same.Tie as tie

@@ -2,8 +2,8 @@
 use Prim.Native.Nat.{_/_, _^_}
 use mathlib.Core.Path.{sym}
 use native.Mathlib.Omega.{arith}
-use Rattle.guid.specs.Digits.{eqb-high, eqb-low}
-use Rattle.guid.specs.Laws.{prefix-digits}
+use Rattle.guid.proofs.Digits.{eqb-high, eqb-low}
+use Rattle.guid.proofs.Laws.{prefix-digits}
 use borrow.Author.Needs.{needs}
 use Rattle.guid.proofs.same_prefix.Statement.{statement}
 use Rattle.guid.proofs.same_prefix.Tie as tie

@@ -1,8 +1,9 @@
 -- A call's step. Assumes nothing.
 use mathlib.Core.Bool.{true}
 use mathlib.Core.Path.{refl, sym, _∙_}
-use Rattle.turns.proofs.Finds.{clash}
-use Rattle.instance_pass.proofs.StepLaws.{none-added, call-step}
+use Rattle.model.proofs.Tests.{clash}
+use Rattle.model.proofs.CallLaws.{none-added}
+use Rattle.instance_pass.proofs.StepLaws.{call-step}
 use borrow.Author.Needs.{needs}
 use Rattle.instance_pass.proofs.call_step.Statement.{statement}
 use Rattle.instance_pass.proofs.call_step.Tie as tie

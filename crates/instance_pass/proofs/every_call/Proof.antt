@@ -1,7 +1,7 @@
 -- A call on every instance. Assumes nothing.
 use mathlib.Core.Path.{ap, _∙_}
 use native.Mathlib.Omega.{arith}
-use Rattle.instance_pass.specs.declared.Report.{Report}
+use Rattle.model.specs.declared.Report.{Report}
 use Rattle.instance_pass.specs.EveryCalls.{answerAs}
 use Rattle.instance_pass.proofs.CallLaws.{ready-held, every-few, every-left}
 use borrow.Author.Needs.{needs}

@@ -1,7 +1,7 @@
 -- One record of the pass. Assumes nothing.
 use native.Mathlib.Omega.{arith}
 use Rattle.model.specs.InstanceRecord.{instanceOf}
-use Rattle.writer_set.specs.Places.{Sound}
+use Rattle.instance_writers.specs.Places.{Sound}
 use Rattle.instance_record.specs.Parts.{recordAt}
 use Rattle.instance_pass.specs.Steps.{gonesIn}
 use Rattle.instance_pass.proofs.StepLaws.{left-sound, gones-few, counted-le}

@@ -1,17 +1,18 @@
 -- `locate` meets its contract: the used records are the table's instances, and their keys rise. Assumes nothing.
+use native.Mathlib.Omega.{arith}
 use Rattle.model.specs.Reads.{tableOf}
 use Rattle.instance_reads.proofs.Table.{whole, located}
 use Rattle.instance_reads.proofs.locate.Statement.{statement}
 use Rattle.instance_reads.proofs.locate.Tie as tie
 
 used-requires : tie.Need-used-requires
-used-requires c κs = whole _ _ (c .before .pre) .size
+used-requires c κs = whole _ _ (c .before .pre .1) .size
 
 find-key-requires : tie.Need-find-key-requires
 unfolding tableOf
 find-key-requires c κs =
-    let w = whole _ _ (c .before .before .pre) in
-    rw (c .used .ensures) (w .room, w .rises)
+    let w = whole _ _ (c .before .before .pre .1) in
+    rw (c .used .ensures) (omega (arith, w .few, c .before .before .pre .0), w .room, w .rises)
 
 returns : tie.Need-returns
 returns c = located _ _ _ _ _ (c .before .used .ensures) (c .find-key .ensures)

@@ -1,5 +1,6 @@
 -- `should_deliver_under_destination_order` meets its contract, by its tests and what it calls. Assumes nothing.
 use mathlib.Core.Path.{sym, _∙_}
+use native.Mathlib.Omega.{arith}
 use borrow.Author.Needs.{needs}
 use borrow.Author.Tests.{not-true, not-false}
 use Rattle.instance_reads.proofs.Answers.{order-any, order-is, order-refused, table-free}
@@ -16,7 +17,7 @@ returns-2 : tie.Need-returns-2
 returns-2 c = order-any _ _ _ _ _ (c .before .before .time-refusal .ensures) _ (c .before .if1 .left) (not-true _ (c .if2 .taken))
 
 times-of-requires : tie.Need-times-of-requires
-times-of-requires c κs = table-free _ _ _ (sym (c .before .before .time-refusal .ensures) ∙ c .before .if1 .left)
+times-of-requires c κs = (omega arith, table-free _ _ _ (sym (c .before .before .time-refusal .ensures) ∙ c .before .if1 .left))
 
 bits-of-time-requires : tie.Need-bits-of-time-requires
 bits-of-time-requires c κs = search needs

@@ -1,5 +1,6 @@
 -- `should_deliver_under_time_based_filter` meets its contract, by its tests and what it calls. Assumes nothing.
 use mathlib.Core.Path.{sym, _∙_}
+use native.Mathlib.Omega.{arith}
 use borrow.Author.Needs.{needs}
 use Rattle.instance_reads.proofs.Answers.{filter-is, filter-refused, table-free}
 use Rattle.instance_reads.proofs.should_deliver_under_time_based_filter.Statement.{statement}
@@ -12,7 +13,7 @@ returns : tie.Need-returns
 returns c = filter-refused _ _ _ _ _ (c .before .time-refusal .ensures) _ (c .if1 .taken)
 
 times-of-requires : tie.Need-times-of-requires
-times-of-requires c κs = table-free _ _ _ (sym (c .before .time-refusal .ensures) ∙ c .if1 .left)
+times-of-requires c κs = (omega arith, table-free _ _ _ (sym (c .before .time-refusal .ensures) ∙ c .if1 .left))
 
 bits-of-time-requires : tie.Need-bits-of-time-requires
 bits-of-time-requires c κs = search needs

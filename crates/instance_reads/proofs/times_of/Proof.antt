@@ -16,7 +16,7 @@ enum-known-i c = search needs
 instance-at-requires : tie.Need-instance-at-requires
 instance-at-requires c κs =
     let l = c .before .before .before in
-    found-room _ _ (l .before .before .pre) _ _ _ (l .locate .ensures) (c .before .i .given .1)
+    found-room _ _ (l .before .before .pre .1) _ _ _ (l .locate .ensures) (c .before .i .given .1)
 
 enum-told : tie.Need-enum-told
 enum-told c = search needs
@@ -30,12 +30,12 @@ returns c =
     let i = c .before .before .before .before in
     let l = i .before .before in
     times-here _ (k .instance-at .result)
-    (found-here _ _ (l .before .before .pre) _ _ _ (l .locate .ensures) (i .i .given .1) ∙ ap some (sym (k .instance-at .ensures)))
+    (found-here _ _ (l .before .before .pre .1) _ _ _ (l .locate .ensures) (i .i .given .1) ∙ ap some (sym (k .instance-at .ensures)))
 
 returns-2 : tie.Need-returns-2
 returns-2 c =
     let l = c .before .before .before in
-    times-none _ _ (c .no-time .ensures) (found-none _ _ (l .before .before .pre) _ _ _ (l .locate .ensures) (c .before .enum-told .given .1))
+    times-none _ _ (c .no-time .ensures) (found-none _ _ (l .before .before .pre .1) _ _ _ (l .locate .ensures) (c .before .enum-told .given .1))
 
 pub times-of-spec : {M : Type 1} → statement M
 times-of-spec =

@@ -12,7 +12,7 @@ use Rattle.instance_table.proofs.find_key.Tie as tie
 find-requires : tie.Need-find-requires
 find-requires c κs =
     let a = c .before .args in
-    (omega arith, omega arith, rise-read (a .count) (a .t .now) ∙ c .before .pre .1)
+    (omega arith, c .before .pre .0, omega arith, rise-read (a .count) (a .t .now) ∙ c .before .pre .2)
 
 returns : tie.Need-returns
 returns c =

@@ -4,7 +4,7 @@ use lib.ListN.{drop}
 use borrow.Author.Tests.{lt-leb, le-leb}
 use Rattle.model.specs.Guids.{guidOf}
 use Rattle.model.specs.WellFormed.{setOk}
-use Rattle.instance_record.proofs.Rows.{take-read}
+use Rattle.model.proofs.RowLaws.{take-read}
 use Rattle.instance_validity.proofs.Nil.{set-tail}
 use borrow.Author.Needs.{needs}
 use Rattle.instance_validity.proofs.set_ok.Statement.{statement}

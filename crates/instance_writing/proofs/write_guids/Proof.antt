@@ -23,14 +23,14 @@ mul-g c = omega arith
 array-copy-out-g : tie.Need-array-copy-out-g Inv-loop μ-loop
 array-copy-out-g c = omega arith
 
-mul-write-guid : tie.Need-mul-write-guid Inv-loop μ-loop
-mul-write-guid c = omega arith
+mul-put-guid : tie.Need-mul-put-guid Inv-loop μ-loop
+mul-put-guid c = omega arith
 
-add-write-guid : tie.Need-add-write-guid Inv-loop μ-loop
-add-write-guid c = omega arith
+add-put-guid : tie.Need-add-put-guid Inv-loop μ-loop
+add-put-guid c = omega arith
 
-write-guid-requires : tie.Need-write-guid-requires Inv-loop μ-loop
-write-guid-requires c κs = omega arith
+put-guid-requires : tie.Need-put-guid-requires Inv-loop μ-loop
+put-guid-requires c κs = omega arith
 
 add-i : tie.Need-add-i Inv-loop μ-loop
 add-i c = omega arith
@@ -44,8 +44,8 @@ loop-again c =
     let a = start .args in
     let l = c .before .before .before .before .before .before .loop in
     let many : length (a .t2) ≡ 16 = search needs in
-    let e : c .before .before .write-guid .last .0 ≡ writtenTo (a .s .now) (a .t2) (l .i + 1) =
-    rw (c .before .before .write-guid .ensures, l .inv .2) (written-turn (a .s .now) (a .t2) (start .pre) many (l .i) (omega arith)) in
+    let e : c .before .before .put-guid .last .0 ≡ writtenTo (a .s .now) (a .t2) (l .i + 1) =
+    rw (c .before .before .put-guid .ensures, l .inv .2) (written-turn (a .s .now) (a .t2) (start .pre) many (l .i) (omega arith)) in
     (omega arith, ap length e ∙ length-written (a .s .now) (a .t2) (start .pre) many (l .i + 1) (omega arith) ∙ sym (start .pre), e)
 
 same-length : tie.Need-same-length Inv-loop μ-loop
@@ -69,9 +69,9 @@ write-guids-spec =
     loop-holds
     mul-g
     array-copy-out-g
-    mul-write-guid
-    add-write-guid
-    write-guid-requires
+    mul-put-guid
+    add-put-guid
+    put-guid-requires
     add-i
     loop-less
     loop-again

@@ -1,6 +1,6 @@
 -- `joined_calls::joined_turn` meets its contract: the law of each call, with what it asks of the state. Assumes nothing.
 use Rattle.model.specs.Call.{lentOf}
-use Rattle.joined_calls.proofs.Entering.{parts, entered-held, entered-losable}
+use Rattle.joined_calls.proofs.Entering.{entered-parts, entered-held, entered-losable}
 use borrow.Author.Needs.{needs}
 use Rattle.joined_calls.proofs.joined_turn.Statement.{statement}
 use Rattle.joined_calls.proofs.joined_turn.Tie as tie
@@ -12,7 +12,7 @@ admit-requires : tie.Need-admit-requires
 admit-requires c κs =
     let start = c .before .before .before .before .before .before .before in
     let a = start .args in
-    let p = parts (a .places) (lentOf (a .head) (a .pens .now) (a .writers .now) (a .lost .now) (a .out .now)) (start .pre .1) in
+    let p = entered-parts (a .places) (lentOf (a .head) (a .pens .now) (a .writers .now) (a .lost .now) (a .out .now)) (start .pre .1) in
     record { few = start .pre .0; size = start .pre .1 .pens; formed = p .pens }
 
 enum-told-2 : tie.Need-enum-told-2
@@ -26,14 +26,14 @@ lapse-requires c κs =
       entered-held (a .places) l (start .pre .1),
       entered-losable (a .places) l (start .pre .1) (start .pre .0),
       start .pre .1 .lost,
-      parts (a .places) l (start .pre .1) .lost,
+      entered-parts (a .places) l (start .pre .1) .lost,
     )
 
 enum-told-3 : tie.Need-enum-told-3
 enum-told-3 c = search needs
 
-part-requires : tie.Need-part-requires
-part-requires c κs =
+leave-requires : tie.Need-leave-requires
+leave-requires c κs =
     let start = c .before .before .before .before .before .before .before .before .before in
     let a = start .args in
     let l = lentOf (a .head) (a .pens .now) (a .writers .now) (a .lost .now) (a .out .now) in
@@ -42,8 +42,8 @@ part-requires c κs =
 enum-told-4 : tie.Need-enum-told-4
 enum-told-4 c = search needs
 
-depart-requires : tie.Need-depart-requires
-depart-requires c κs =
+leave-requires-2 : tie.Need-leave-requires-2
+leave-requires-2 c κs =
     let start = c .before .before .before .before .before .before .before .before .before in
     let a = start .args in
     let l = lentOf (a .head) (a .pens .now) (a .writers .now) (a .lost .now) (a .out .now) in
@@ -95,7 +95,7 @@ returns-3 c =
     let arm = call .before .before .before .before in
     let start = arm .before .before .before .before .before .before in
     let a = start .args in
-    rw (arm .enum-told3 .given .1) (call .part .ensures (a .places) (a .lost .now) (start .pre .1))
+    rw (arm .enum-told3 .given .1) (call .leave .ensures (a .places) (a .lost .now) (start .pre .1))
 
 same-length-9 : tie.Need-same-length-9
 same-length-9 c = search needs
@@ -112,7 +112,7 @@ returns-4 c =
     let arm = call .before .before .before .before in
     let start = arm .before .before .before .before .before .before in
     let a = start .args in
-    rw (arm .enum-told4 .given .1) (call .depart .ensures (a .places) (a .lost .now) (start .pre .1))
+    rw (arm .enum-told4 .given .1) (call .leave2 .ensures (a .places) (a .lost .now) (start .pre .1))
 
 pub joined-turn-spec : {M : Type 1} → statement M
 joined-turn-spec =
@@ -123,9 +123,9 @@ joined-turn-spec =
     enum-told-2
     lapse-requires
     enum-told-3
-    part-requires
+    leave-requires
     enum-told-4
-    depart-requires
+    leave-requires-2
     same-length
     returns
     same-length-2

@@ -5,7 +5,7 @@ use lib.IntN.{_-ℤ_}
 use mir.Facts.{sfits-widen, toZ-ofZ, toZ-pos}
 use mir.Syntax.{w64}
 use borrow.Author.Needs.{needs}
-use Rattle.numbers.specs.Signs.{difference-fits}
+use Rattle.numbers.proofs.Signs.{difference-fits}
 use Rattle.numbers.proofs.Signed.{fits-as, back, wide}
 use Rattle.numbers.proofs.acknowledged.Statement.{statement}
 use Rattle.numbers.proofs.acknowledged.Tie as tie

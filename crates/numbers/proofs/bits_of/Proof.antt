@@ -9,7 +9,7 @@ use mir.Syntax.{w32, w64}
 use mir.Val.{SFits, ofZ, toZ}
 use borrow.Author.Needs.{needs}
 use Rattle.model.specs.Times.{raised}
-use Rattle.numbers.specs.Signs.{raised-raised}
+use Rattle.numbers.proofs.Signs.{raised-raised}
 use Rattle.numbers.proofs.Signed.{fits-as, back, cast-as, raised-sum}
 use Rattle.numbers.proofs.bits_of.Statement.{statement}
 use Rattle.numbers.proofs.bits_of.Tie as tie

@@ -2,7 +2,7 @@
 use mathlib.Core.Path.{_∙_}
 use native.Mathlib.Omega.{arith}
 use borrow.Author.Needs.{needs}
-use Rattle.numbers.specs.Products.{product, halves-fit}
+use Rattle.numbers.proofs.Products.{product, halves-fit}
 use Rattle.numbers.proofs.wrapping_mul_u64.Statement.{statement}
 use Rattle.numbers.proofs.wrapping_mul_u64.Tie as tie
 

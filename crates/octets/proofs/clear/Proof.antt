@@ -3,7 +3,8 @@ use Prim.Native.Nat.{_-_, _≤_}
 use mathlib.Core.Path.{_≡_, refl}
 use native.Mathlib.Omega.{arith}
 use lib.ListN.{length, replicate, length-set}
-use Rattle.octets.specs.Patch.{patch, patch-nil}
+use Rattle.octets.specs.Patch.{patch}
+use Rattle.octets.proofs.PatchLaws.{patch-nil}
 use Rattle.octets.proofs.Moves.{clear-turn}
 use Rattle.octets.proofs.clear.Statement.{statement}
 use Rattle.octets.proofs.clear.Tie as tie

@@ -1,6 +1,6 @@
 -- `get_u32` meets its contract: its two halves are read. Assumes nothing.
 use mathlib.Core.Path.{sym}
-use Rattle.octets.specs.Laws.{be-pairs}
+use Rattle.octets.proofs.Laws.{be-pairs}
 use borrow.Author.Needs.{needs}
 use Rattle.octets.proofs.get_u32.Statement.{statement}
 use Rattle.octets.proofs.get_u32.Tie as tie

@@ -1,6 +1,6 @@
 -- `get_u64` meets its contract: its two halves are read. Assumes nothing.
 use mathlib.Core.Path.{sym}
-use Rattle.octets.specs.Laws.{be-halves}
+use Rattle.octets.proofs.Laws.{be-halves}
 use borrow.Author.Needs.{needs}
 use Rattle.octets.proofs.get_u64.Statement.{statement}
 use Rattle.octets.proofs.get_u64.Tie as tie

@@ -4,7 +4,7 @@ use Prim.Native.Nat.{_+_, _-_}
 use mathlib.Core.Path.{sym}
 use native.Mathlib.Omega.{arith}
 use borrow.Author.Tests.{lt-leb}
-use Rattle.numbers.specs.Tests.{leb-iff}
+use Rattle.model.proofs.Tests.{leb-iff}
 use Rattle.sample_time.proofs.reaches.Statement.{statement}
 use Rattle.sample_time.proofs.reaches.Tie as tie
 

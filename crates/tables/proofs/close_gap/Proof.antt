@@ -2,7 +2,7 @@
 use Prim.Native.Nat.{_+_, _-_, _*_}
 use mathlib.Core.Path.{_≡_, sym}
 use native.Mathlib.Omega.{arith}
-use Rattle.tables.specs.GapLaws.{place-next, place-rest}
+use Rattle.tables.proofs.GapLaws.{place-next, place-rest}
 use borrow.Author.Needs.{needs}
 use Rattle.tables.proofs.close_gap.Statement.{statement}
 use Rattle.tables.proofs.close_gap.Tie as tie

@@ -7,7 +7,7 @@ use borrow.Author.Tests.{ltb-true, ltb-false}
 use lib.ListN.{length, getD}
 use Rattle.model.specs.Guids.{num}
 use Rattle.tables.specs.Keys.{keys}
-use Rattle.tables.specs.KeyLaws.{length-keys, getD-keys}
+use Rattle.tables.proofs.KeyLaws.{length-keys, getD-keys}
 use Rattle.tables.proofs.Search.{record-le, Bracket, bracket-start, bracket-up, bracket-down, bracket-end}
 use Rattle.tables.proofs.lower_bound.Statement.{statement}
 use Rattle.tables.proofs.lower_bound.Tie as tie
@@ -67,7 +67,7 @@ loop-less c = omega arith
 loop-again : tie.Need-loop-again Inv-loop μ-loop
 loop-again c =
     let i = c .before .before .before in
-    bracket-up (i .before .before .before .pre .2) (i .before .loop .inv) (Mid i) (omega arith) (omega arith)
+    bracket-up (i .before .before .before .pre .3) (i .before .loop .inv) (Mid i) (omega arith) (omega arith)
     (rw (key-is (c .before .before)) (ltb-true _ _ (sym (c .before .is-less .ensures) ∙ c .if1 .taken)))
 
 loop-less-2 : tie.Need-loop-less-2 Inv-loop μ-loop
@@ -76,7 +76,7 @@ loop-less-2 c = omega arith
 loop-again-2 : tie.Need-loop-again-2 Inv-loop μ-loop
 loop-again-2 c =
     let i = c .before .before .before in
-    bracket-down (i .before .before .before .pre .2) (i .before .loop .inv) (Mid i) (omega arith) (omega arith)
+    bracket-down (i .before .before .before .pre .3) (i .before .loop .inv) (Mid i) (omega arith) (omega arith)
     (rw (key-is (c .before .before)) (ltb-false _ _ (sym (c .before .is-less .ensures) ∙ c .if1 .left)))
 
 returns : tie.Need-returns Inv-loop μ-loop

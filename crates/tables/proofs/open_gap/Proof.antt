@@ -2,7 +2,7 @@
 use Prim.Native.Nat.{_+_, _-_, _*_}
 use mathlib.Core.Path.{_≡_}
 use native.Mathlib.Omega.{arith}
-use Rattle.tables.specs.GapLaws.{place-rest}
+use Rattle.tables.proofs.GapLaws.{place-rest}
 use borrow.Author.Needs.{needs}
 use Rattle.tables.proofs.open_gap.Statement.{statement}
 use Rattle.tables.proofs.open_gap.Tie as tie

@@ -1,0 +1,2 @@
+-- Laws of what the effects ask of an instance.
+pub mod UsableLaws

@@ -1,3 +1,0 @@
--- The laws of one instance.
-pub mod Keeps
-pub mod Valid

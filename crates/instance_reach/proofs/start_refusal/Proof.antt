@@ -1,0 +1,16 @@
+-- The places, then the handles. Assumes nothing.
+use borrow.Author.Tests.{le-leb, lt-leb}
+use Rattle.instance_reach.proofs.start_refusal.Statement.{statement}
+use Rattle.instance_reach.proofs.start_refusal.Tie as tie
+
+returns : tie.Need-returns
+returns c = rw (le-leb _ _ (c .if1 .taken))
+
+returns-2 : tie.Need-returns-2
+returns-2 c = rw (lt-leb _ _ (c .before .before .if1 .left), le-leb _ _ (c .if2 .taken))
+
+returns-3 : tie.Need-returns-3
+returns-3 c = rw (lt-leb _ _ (c .before .before .if1 .left), lt-leb _ _ (c .if2 .left))
+
+pub start-refusal-spec : {M : Type 1} → statement M
+start-refusal-spec = tie.close (tie.spec returns returns-2 returns-3)

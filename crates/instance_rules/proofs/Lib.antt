@@ -1,0 +1,2 @@
+-- Laws that the proofs of instance_rules cite.
+pub mod Codes

@@ -1,4 +1,0 @@
--- Laws that the proofs of instance_tracker and of the crates above cite.
-pub mod Turns
-pub mod Acting
-pub mod Table

@@ -1,0 +1,19 @@
+-- A GUID is a member where a scan for it stops before the end. Assumes nothing.
+use mathlib.Core.Path.{_≡_}
+use lib.ListN.{length, length-map}
+use Rattle.instance_writers.proofs.PlaceLaws.{found-by}
+use borrow.Author.Needs.{needs}
+use Rattle.instance_writers.proofs.holds.Statement.{statement}
+use Rattle.instance_writers.proofs.holds.Tie as tie
+
+place-requires : tie.Need-place-requires
+place-requires c κs = search needs
+
+returns : tie.Need-returns
+returns c =
+    let s = c .before .before in
+    let size : length (s .args .w .items) ≡ 16 = simp length-map at (s .good .0 .1 .1 .1 .0 .1 .0 .1) in
+    found-by (s .args .w) (s .args .g) (c .place .result) size (s .pre) (c .place .ensures)
+
+pub holds-spec : {M : Type 1} → statement M
+holds-spec = tie.close (tie.spec place-requires returns)

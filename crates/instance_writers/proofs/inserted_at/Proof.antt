@@ -1,0 +1,75 @@
+-- Room is made from the end down to the place. The invariant: up to k as it was, and from there one on. Assumes nothing.
+use Prim.Native.Nat.{_≤_, _<_}
+use mathlib.Core.Path.{_≡_}
+use native.Mathlib.Omega.{arith}
+use Rattle.instance_writers.proofs.PlaceLaws.{shifted, shifted-start, shifted-step, shifted-end}
+use Rattle.instance_writers.proofs.inserted_at.Statement.{statement}
+use Rattle.instance_writers.proofs.inserted_at.Tie as tie
+
+abbrev Inv-loop : tie.InvT-loop
+Inv-loop p g r₀ k₀ r k = (p ≤ k) × (k < 16) × (r ≡ shifted r₀ k)
+
+abbrev μ-loop : tie.MeasureT-loop
+μ-loop p g r₀ k₀ r k = k
+
+loop-holds : tie.Need-loop-holds Inv-loop μ-loop
+loop-holds c = (omega arith, omega arith, shifted-start (c .args .items) (omega arith))
+
+sub-y : tie.Need-sub-y Inv-loop μ-loop
+sub-y c = omega arith
+
+mul-y : tie.Need-mul-y Inv-loop μ-loop
+mul-y c = omega arith
+
+array-copy-out-y : tie.Need-array-copy-out-y Inv-loop μ-loop
+array-copy-out-y c = omega arith
+
+mul-r : tie.Need-mul-r Inv-loop μ-loop
+mul-r c = omega arith
+
+array-set-from-r : tie.Need-array-set-from-r Inv-loop μ-loop
+array-set-from-r c = omega arith
+
+sub-k : tie.Need-sub-k Inv-loop μ-loop
+sub-k c = omega arith
+
+loop-less : tie.Need-loop-less Inv-loop μ-loop
+loop-less c = omega arith
+
+loop-again : tie.Need-loop-again Inv-loop μ-loop
+loop-again c =
+    let l = c .before .before .loop in
+    (omega arith, omega arith, shifted-step (c .before .before .before .args .items) (omega arith) (l .r) (l .k) (omega arith) (omega arith) (l .inv .2))
+
+mul-r-2 : tie.Need-mul-r-2 Inv-loop μ-loop
+mul-r-2 c = omega arith
+
+array-set-from-r-2 : tie.Need-array-set-from-r-2 Inv-loop μ-loop
+array-set-from-r-2 c = omega arith
+
+returns : tie.Need-returns Inv-loop μ-loop
+returns c =
+    let a = c .before .before .args in
+    let l = c .before .loop in
+    let q : l .k ≡ a .p = omega arith in
+    let e : l .r ≡ shifted (a .items) (a .p) = rw q at (l .inv .2) in
+    rw e (shifted-end (a .items) (omega arith) (a .p) (a .g) (omega arith))
+
+pub inserted-at-spec : {M : Type 1} → statement M
+inserted-at-spec =
+    tie.close
+    (tie.spec
+    Inv-loop
+    μ-loop
+    loop-holds
+    sub-y
+    mul-y
+    array-copy-out-y
+    mul-r
+    array-set-from-r
+    sub-k
+    loop-less
+    loop-again
+    mul-r-2
+    array-set-from-r-2
+    returns)

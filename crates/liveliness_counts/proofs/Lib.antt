@@ -1,2 +1,0 @@
--- Laws that the proofs of liveliness_counts cite.
-pub mod Laws

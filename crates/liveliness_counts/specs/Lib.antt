@@ -1,2 +1,0 @@
--- What the contracts of liveliness_counts cite.
-pub mod Turns

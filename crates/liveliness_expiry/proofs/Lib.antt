@@ -1,3 +1,0 @@
--- Laws that the proofs of liveliness_expiry cite.
-pub mod Expiring
-pub mod Taking

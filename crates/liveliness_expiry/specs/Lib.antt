@@ -1,2 +1,0 @@
--- What the contracts of liveliness_expiry cite.
-pub mod Losing

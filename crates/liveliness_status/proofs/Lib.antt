@@ -1,2 +1,0 @@
--- Laws that the proofs of liveliness_status and of the crates above cite.
-pub mod Idle

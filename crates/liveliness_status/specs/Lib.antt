@@ -1,2 +1,0 @@
--- What the contracts of liveliness_status cite.
-pub mod Status

@@ -1,2 +1,0 @@
--- What the contracts of the tracker calls cite.
-pub mod Held

@@ -1,3 +1,0 @@
--- Laws that the proofs of tracker_calls cite.
-pub mod Sheets
-pub mod Leaving

@@ -1,3 +1,0 @@
--- Laws that the proofs of tracker_state and of the crates above cite.
-pub mod Heads
-pub mod Records

@@ -1,2 +1,0 @@
--- What the contracts of tracker_state cite beside model's definitions.
-pub mod Sizes

@@ -1,0 +1,212 @@
+-- `writer_calls::turn` meets its contract: one law a kind of call. Assumes nothing.
+use mathlib.Core.List.{[]}
+use mathlib.Core.Path.{refl}
+use Rattle.model.specs.declared.TrackerCall.the-variants.{Matched, Unmatched, LostWithParticipant, WriterAsserted, ParticipantAsserted, TakeStatus, Acknowledge}
+use Rattle.writer_turns.specs.WriterCalls.{heldBy}
+use Rattle.writer_turns.proofs.Holding.{good}
+use Rattle.writer_calls.proofs.Sheets.{clocks-fine, acknowledges-fine}
+use Rattle.writer_calls.proofs.Leaving.{turns-judged, expires-judged, takes-judged, keeps-judged, status-same, acknowledge-same}
+use borrow.Author.Needs.{needs}
+use Rattle.writer_calls.proofs.turn.Statement.{statement}
+use Rattle.writer_calls.proofs.turn.Tie as tie
+
+enum-told : tie.Need-enum-told
+enum-told c = search needs
+
+matched-requires : tie.Need-matched-requires
+matched-requires c κs =
+    let x = c .before .before .before .before .before .before in
+    (x .pre .0, clocks-fine (x .args .c) Matched (c .before .enum-told .given .1) (x .args .s) (heldBy (x .args .head) [] [] []) (x .pre .4 [] [] []))
+
+enum-told-2 : tie.Need-enum-told-2
+enum-told-2 c = search needs
+
+leave-requires : tie.Need-leave-requires
+leave-requires c κs = c .before .before .before .before .before .before .pre .0
+
+enum-told-3 : tie.Need-enum-told-3
+enum-told-3 c = search needs
+
+leave-requires-2 : tie.Need-leave-requires-2
+leave-requires-2 c κs = c .before .before .before .before .before .before .pre .0
+
+enum-told-4 : tie.Need-enum-told-4
+enum-told-4 c = search needs
+
+writer-asserted-requires : tie.Need-writer-asserted-requires
+writer-asserted-requires c κs = c .before .before .before .before .before .before .pre .0
+
+enum-told-5 : tie.Need-enum-told-5
+enum-told-5 c = search needs
+
+participant-asserted-requires : tie.Need-participant-asserted-requires
+participant-asserted-requires c κs = c .before .before .before .before .before .before .pre .0
+
+enum-told-6 : tie.Need-enum-told-6
+enum-told-6 c = search needs
+
+expire-requires : tie.Need-expire-requires
+expire-requires c κs = let x = c .before .before .before .before .before .before .before in (x .pre .0, x .pre .1, x .pre .2)
+
+enum-told-7 : tie.Need-enum-told-7
+enum-told-7 c = search needs
+
+take-lost-requires : tie.Need-take-lost-requires
+take-lost-requires c κs = search needs
+
+enum-told-8 : tie.Need-enum-told-8
+enum-told-8 c = search needs
+
+take-status-requires : tie.Need-take-status-requires
+take-status-requires c κs = search needs
+
+enum-told-9 : tie.Need-enum-told-9
+enum-told-9 c = search needs
+
+acknowledge-requires : tie.Need-acknowledge-requires
+acknowledge-requires c κs =
+    let x = c .before .before .before .before .before in
+    let g = good (x .args .head) (x .args .writers .now) (λ j. (c .before .before .before .before .slice-known .given) j .fits) (x .pre .0) in (
+      x .pre .0 .headFormed,
+      g .ready .alive,
+      g .ready .notAlive,
+      λ pens writers lost. acknowledges-fine (x .args .c) Acknowledge (c .enum-told9 .given .1) (x .args .s)
+          (heldBy (x .args .head) pens writers lost) (x .pre .4 pens writers lost),
+    )
+
+same-length : tie.Need-same-length
+same-length c = search needs
+
+returns : tie.Need-returns
+returns c =
+    let k = c .before .before in
+    let x = k .before .before .before .before .before .before .before in
+    turns-judged (x .args .c) (x .args .s) (x .args .head) (x .args .writers .now) (x .args .lost .now) (x .args .out .now) (x .pre .4)
+    (k .matched .result) Matched (c .before .before .before .before .enum-told .given .1) (λ gone lost. refl) (λ st. refl) _ (k .matched .ensures)
+
+same-length-2 : tie.Need-same-length-2
+same-length-2 c = search needs
+
+returns-2 : tie.Need-returns-2
+returns-2 c =
+    let k = c .before .before in
+    let x = k .before .before .before .before .before .before .before in
+    turns-judged (x .args .c) (x .args .s) (x .args .head) (x .args .writers .now) (x .args .lost .now) (x .args .out .now) (x .pre .4)
+    (k .leave .result) Unmatched (c .before .before .before .before .enum-told2 .given .1) (λ gone lost. refl) (λ st. refl) _
+    (k .leave .ensures)
+
+same-length-3 : tie.Need-same-length-3
+same-length-3 c = search needs
+
+returns-3 : tie.Need-returns-3
+returns-3 c =
+    let k = c .before .before in
+    let x = k .before .before .before .before .before .before .before in
+    turns-judged (x .args .c) (x .args .s) (x .args .head) (x .args .writers .now) (x .args .lost .now) (x .args .out .now) (x .pre .4)
+    (k .leave2 .result) LostWithParticipant (c .before .before .before .before .enum-told3 .given .1) (λ gone lost. refl) (λ st. refl)
+    _ (k .leave2 .ensures)
+
+same-length-4 : tie.Need-same-length-4
+same-length-4 c = search needs
+
+returns-4 : tie.Need-returns-4
+returns-4 c =
+    let k = c .before .before in
+    let x = k .before .before .before .before .before .before .before in
+    turns-judged (x .args .c) (x .args .s) (x .args .head) (x .args .writers .now) (x .args .lost .now) (x .args .out .now) (x .pre .4)
+    (k .writer-asserted .result) WriterAsserted (c .before .before .before .before .enum-told4 .given .1) (λ gone lost. refl) (λ st. refl) _
+    (k .writer-asserted .ensures)
+
+same-length-5 : tie.Need-same-length-5
+same-length-5 c = search needs
+
+returns-5 : tie.Need-returns-5
+returns-5 c =
+    let k = c .before .before in
+    let x = k .before .before .before .before .before .before .before in
+    turns-judged (x .args .c) (x .args .s) (x .args .head) (x .args .writers .now) (x .args .lost .now) (x .args .out .now) (x .pre .4)
+    (k .participant-asserted .result) ParticipantAsserted (c .before .before .before .before .enum-told5 .given .1) (λ gone lost. refl) (λ st. refl) _
+    (k .participant-asserted .ensures)
+
+same-length-6 : tie.Need-same-length-6
+same-length-6 c = search needs
+
+same-length-7 : tie.Need-same-length-7
+same-length-7 c = search needs
+
+returns-6 : tie.Need-returns-6
+returns-6 c =
+    let k = c .before .before .before .before in
+    let l = k .before .before .before in
+    let x = l .before .before .before .before .before in
+    expires-judged (x .args .c) (x .args .s) (x .args .head) (x .args .writers .now) (x .args .lost .now) (x .args .out .now) (x .pre .4)
+    (k .expire .result) (l .enum-told6 .given .1) _ _ (k .expire .ensures)
+
+same-length-8 : tie.Need-same-length-8
+same-length-8 c = search needs
+
+same-length-9 : tie.Need-same-length-9
+same-length-9 c = search needs
+
+returns-7 : tie.Need-returns-7
+returns-7 c =
+    let k = c .before .before .before .before in
+    let l = k .before .before .before in
+    let x = l .before .before .before .before .before in
+    takes-judged (x .args .c) (x .args .s) (x .args .head) (x .args .writers .now) (x .args .lost .now) (x .args .out .now) (x .pre .4)
+    (k .take-lost .result) (x .pre .0 .counted) (l .enum-told7 .given .1) _ _ (k .take-lost .ensures)
+
+returns-8 : tie.Need-returns-8
+returns-8 c =
+    let x = c .before .before .before .before .before .before in
+    keeps-judged (x .args .c) (x .args .s) (x .args .head) (x .args .writers .now) (x .args .lost .now) (x .args .out .now) (x .pre .4)
+    (c .take-status .result) (x .pre .0 .counted) TakeStatus (c .before .enum-told8 .given .1) (status-same (x .args .s)) (λ gone lost. refl)
+    (λ st. refl) (c .take-status .ensures)
+
+returns-9 : tie.Need-returns-9
+returns-9 c =
+    let x = c .before .before .before .before .before .before in
+    keeps-judged (x .args .c) (x .args .s) (x .args .head) (x .args .writers .now) (x .args .lost .now) (x .args .out .now) (x .pre .4)
+    (c .acknowledge .result) (x .pre .0 .counted) Acknowledge (c .before .enum-told9 .given .1) (acknowledge-same (x .args .s)) (λ gone lost. refl)
+    (λ st. refl) (c .acknowledge .ensures)
+
+pub turn-spec : {M : Type 1} → statement M
+turn-spec =
+    tie.close
+    (tie.spec
+    enum-told
+    matched-requires
+    enum-told-2
+    leave-requires
+    enum-told-3
+    leave-requires-2
+    enum-told-4
+    writer-asserted-requires
+    enum-told-5
+    participant-asserted-requires
+    enum-told-6
+    expire-requires
+    enum-told-7
+    take-lost-requires
+    enum-told-8
+    take-status-requires
+    enum-told-9
+    acknowledge-requires
+    same-length
+    returns
+    same-length-2
+    returns-2
+    same-length-3
+    returns-3
+    same-length-4
+    returns-4
+    same-length-5
+    returns-5
+    same-length-6
+    same-length-7
+    returns-6
+    same-length-8
+    same-length-9
+    returns-7
+    returns-8
+    returns-9)

@@ -1,0 +1,2 @@
+-- Laws that the proofs of writer_effects cite.
+pub mod Laws

@@ -1,0 +1,2 @@
+-- What the contracts of writer_effects cite.
+pub mod Acts

@@ -1,0 +1,3 @@
+-- Laws that the proofs of writer_expiry cite.
+pub mod Expiring
+pub mod Taking

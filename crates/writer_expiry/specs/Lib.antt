@@ -1,0 +1,2 @@
+-- What the contracts of writer_expiry cite.
+pub mod Losing

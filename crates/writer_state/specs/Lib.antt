@@ -1,2 +1,0 @@
--- What the contracts of writer_state cite.
-pub mod Acts

@@ -1,0 +1,2 @@
+-- What the contracts of writer_status cite.
+pub mod Status

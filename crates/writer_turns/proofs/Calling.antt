@@ -1,0 +1,148 @@
+-- What the calls' callees ask, and the calls that pass over every writer, over plain variables.
+--     keys-are, find-rises, found-in        a GUID looked for among the records' keys
+--     at-place                              the record at a place
+--     room-pass, room-still, room-gone, room-departs      the tallies fit the head
+--     alive-there, not-alive-there          a writer that is there is counted
+--     pass-settles                          a call that passes over every writer leaves model's turn
+-- Assumes nothing.
+use Prim.Native.Nat.{ℕ, suc, _+_, _-_, _*_, _≤_, _<_}
+use mathlib.Core.Bool.{Bool, true, false, cond}
+use mathlib.Core.Path.{_≡_, refl, sym, ap, _∙_}
+use mathlib.Core.List.{List, [], _∷_, _++_, map}
+use native.Mathlib.Omega.{arith}
+use lib.ListN.{length, take, drop, getD, length-map}
+use Rattle.octets.specs.Lay.{lay}
+use Rattle.model.specs.declared.Called.{Called}
+use Rattle.model.specs.declared.Head.{Head}
+use Rattle.model.specs.declared.LastWriter.{LastWriter}
+use Rattle.model.specs.declared.Sheet.{Sheet}
+use Rattle.model.specs.declared.TrackerCall.{TrackerCall}
+use Rattle.model.specs.declared.Writer.{Writer}
+use Rattle.model.specs.InstanceRecord.{bit}
+use Rattle.model.specs.State.{Class, alive, notAlive, neither, classOf, isAliveClass, isNotAliveClass, countsAlive, countsNotAlive, aliveCount, notAliveCount, writersIn, writerKey}
+use Rattle.model.specs.Tables.{pick}
+use Rattle.model.specs.Writers.{guidIn, movers, writersAfter, trackerCall}
+use Rattle.model.specs.WriterRecord.{writerOf, writerBytes}
+use Rattle.tables.specs.declared.Found.{Found}
+use Rattle.tables.specs.Found.{foundIn}
+use Rattle.tables.specs.Keys.{keys, rising}
+use Rattle.tables.proofs.RecordLaws.{keys-read, rising-records}
+use Rattle.writer_pass.specs.declared.Act.{Act}
+use Rattle.writer_pass.specs.declared.Tally.{Tally}
+use Rattle.writer_pass.specs.Passes.{actOf, shiftsBy, tallyOf}
+use Rattle.writer_pass.proofs.Passing.{counts-small}
+use Rattle.writer_pass.proofs.Picks.{read-at}
+use Rattle.writer_turns.specs.Turns.{CountsFit, calledBy, stillTally, shiftedTally, goneTally, departsTally}
+use Rattle.writer_turns.specs.WriterCalls.{heldBy, Passable, Settles}
+use Rattle.writer_turns.proofs.Holding.{Good, count-out}
+use Rattle.writer_turns.proofs.Turning.{Plain, turn-settles}
+
+pub keys-are : (n : ℕ) (w : List ℕ) → keys 40 n w ≡ map writerKey (writersIn n w)
+unfolding writerOf
+keys-are n w = keys-read writerOf 40 writerKey (λ r. refl) (omega arith) n w
+
+module _ (head : Head) (w : List ℕ) (good : Good head w) where
+  abbrev ws : List Writer
+  ws = writersIn (head .«writer_count») w
+
+  pub find-rises : rising (keys 40 (head .«writer_count») w) ≡ true
+  find-rises = ap rising (keys-are (head .«writer_count») w) ∙ rising-records writerKey ws ∙ good .rises
+
+  pub found-in : (k : ℕ) (f : Found) → foundIn (keys 40 (head .«writer_count») w) k ≡ f → foundIn (map writerKey ws) k ≡ f
+  found-in k f e = ap (λ (z : List ℕ). foundIn z k) (sym (keys-are (head .«writer_count») w)) ∙ e
+
+  pub at-place : (i : ℕ) (x : Writer) → i < head .«writer_count» → x ≡ writerOf (take 40 (drop (i * 40) w)) → x ≡ getD ws i x
+  at-place i x h e = e ∙ sym (read-at writerOf 40 (head .«writer_count») w i x h)
+
+  module _ (i : ℕ) (x : Writer) (h : i < head .«writer_count») (e : x ≡ writerOf (take 40 (drop (i * 40) w))) where
+    out-alive : aliveCount ws ≡ bit (countsAlive x) + length (pick countsAlive (take i ws ++ drop (suc i) ws))
+    unfolding aliveCount
+    out-alive = rw (← at-place i x h e) at (count-out countsAlive ws i x (omega (arith, good .size)))
+
+    out-not-alive : notAliveCount ws ≡ bit (countsNotAlive x) + length (pick countsNotAlive (take i ws ++ drop (suc i) ws))
+    unfolding notAliveCount
+    out-not-alive = rw (← at-place i x h e) at (count-out countsNotAlive ws i x (omega (arith, good .size)))
+
+    pub alive-there : isAliveClass (classOf (x .liveliness .state)) ≡ true → 1 ≤ head .alive
+    alive-there b = omega (arith, good .alive, rw b at out-alive)
+
+    pub not-alive-there : isNotAliveClass (classOf (x .liveliness .state)) ≡ true → 1 ≤ head .«not_alive»
+    not-alive-there b = omega (arith, good .notAlive, rw b at out-not-alive)
+
+-- ---- the tallies fit the head
+
+both-count : (c : Class) → bit (isAliveClass c) + bit (isNotAliveClass c) ≤ 1
+both-count alive = omega arith
+both-count notAlive = omega arith
+both-count neither = omega arith
+
+bit-cond : (b : Bool) (x : Writer) (xs : List Writer) → length (cond b (x ∷ xs) xs) ≡ bit b + length xs
+bit-cond true x xs = omega arith
+bit-cond false x xs = omega arith
+
+pub counts-apart : (ws : List Writer) → aliveCount ws + notAliveCount ws ≤ length ws
+unfolding aliveCount notAliveCount pick
+counts-apart [] = omega arith
+counts-apart (w ∷ ws) =
+    omega (
+      arith,
+      counts-apart ws,
+      both-count (classOf (w .liveliness .state)),
+      bit-cond (countsAlive w) w (pick countsAlive ws),
+      bit-cond (countsNotAlive w) w (pick countsNotAlive ws),
+    )
+
+module _ (head : Head) (n : ℕ) (w : List ℕ) (ready : Passable head n w) where
+  room : (t : Tally) → t .counts .alive ≤ 128 → t .counts .«not_alive» ≤ 128 → CountsFit head t
+  room t a b = record { alive = a; notAlive = b; ackAlive = ready .ackAlive; ackNotAlive = ready .ackNotAlive }
+
+  pub room-pass : (act : Act) (last : LastWriter) (t : Tally) (ws : List Writer) → length ws ≤ 128 → t ≡ tallyOf act last ws → CountsFit head t
+  unfolding tallyOf
+  room-pass act last t ws h e =
+      let k = counts-small (map (actOf act) ws) in
+      let m : length (map (actOf act) ws) ≡ length ws = length-map ws (actOf act) in
+      rw e (room (tallyOf act last ws) (omega (arith, k .0)) (omega (arith, k .1)))
+
+  pub room-still : (t : Tally) → t ≡ stillTally head → CountsFit head t
+  room-still t e = rw e (room (stillTally head) (ready .alive) (ready .notAlive))
+
+  pub room-gone : (t : Tally) (x : Writer) → t ≡ goneTally head x → CountsFit head t
+  room-gone t x e = rw e (each (classOf (x .liveliness .state)))
+    where
+      each : (c : Class) →
+          CountsFit head
+          (cond (isAliveClass c) (shiftedTally (head .alive - 1) (head .«not_alive») (x .guid))
+          (cond (isNotAliveClass c) (shiftedTally (head .alive) (head .«not_alive» - 1) (x .guid)) (stillTally head)))
+      each alive = room (shiftedTally (head .alive - 1) (head .«not_alive») (x .guid)) (omega (arith, ready .alive)) (ready .notAlive)
+      each notAlive = room (shiftedTally (head .alive) (head .«not_alive» - 1) (x .guid)) (ready .alive) (omega (arith, ready .notAlive))
+      each neither = room (stillTally head) (ready .alive) (ready .notAlive)
+
+  pub room-departs : (t : Tally) (x : Writer) → (isAliveClass (classOf (x .liveliness .state)) ≡ true → 1 ≤ head .alive) → head .alive + head .«not_alive» ≤ 128 →
+      t ≡ departsTally head x → CountsFit head t
+  room-departs t x h m e = rw e (each (classOf (x .liveliness .state)) h)
+    where
+      each : (c : Class) → (isAliveClass c ≡ true → 1 ≤ head .alive) →
+          CountsFit head (cond (isAliveClass c) (shiftedTally (head .alive - 1) (head .«not_alive» + 1) (x .guid)) (stillTally head))
+      each alive h = room (shiftedTally (head .alive - 1) (head .«not_alive» + 1) (x .guid)) (omega (arith, ready .alive)) (omega (arith, h refl))
+      each notAlive h = room (stillTally head) (ready .alive) (ready .notAlive)
+      each neither h = room (stillTally head) (ready .alive) (ready .notAlive)
+
+-- ---- a call that passes over every writer
+
+module _ (c : TrackerCall) (s : Sheet) (act : Act) (head : Head) (w : List ℕ) (long : length w ≡ 5120) (good : Good head w)
+    (after : writersAfter c s (writersIn (head .«writer_count») w) ≡ map (actOf act) (writersIn (head .«writer_count») w))
+    (who : movers c s (writersIn (head .«writer_count») w) ≡ map guidIn (pick (shiftsBy act) (writersIn (head .«writer_count») w))) where
+  pub pass-settles : (pens lost : List ℕ) → Plain c s (heldBy head pens w lost) → (r : Called) (w′ : List ℕ) →
+      w′ ≡ lay writerBytes 40 (length w) (map (actOf act) (writersIn (head .«writer_count») w)) →
+      r ≡ calledBy head (head .«writer_count») (tallyOf act (head .«last_writer») (writersIn (head .«writer_count») w)) →
+      Settles (trackerCall c s (heldBy head pens w lost)) r w′
+  unfolding tallyOf
+  pass-settles pens lost p r w′ f q =
+      let xs = writersIn (head .«writer_count») w in
+      turn-settles c s head pens w lost (map (actOf act) xs) (map guidIn (pick (shiftsBy act) xs)) (tallyOf act (head .«last_writer») xs) (head .«writer_count») after who refl
+      (sym (length-map (pick (shiftsBy act) xs) guidIn)) refl (sym (length-map xs (actOf act) ∙ good .size)) p r w′ q (f ∙ rw long)
+
+-- no more writers are counted than there are
+pub both-few : (head : Head) (w : List ℕ) → Good head w → head .alive + head .«not_alive» ≤ 128
+both-few head w g =
+    omega (arith, g .alive, g .notAlive, counts-apart (writersIn (head .«writer_count») w), g .size, g .ready .sound .few)

@@ -1,0 +1,40 @@
+-- `writer_turns::settle` meets its contract. Assumes nothing.
+use borrow.Author.Needs.{needs}
+use mir.Syntax.{w32}
+use mir.Val.{SFits}
+use Rattle.writer_turns.proofs.Laws.{changed, settled}
+use Rattle.writer_turns.proofs.settle.Statement.{statement}
+use Rattle.writer_turns.proofs.settle.Tie as tie
+
+change-after-requires : tie.Need-change-after-requires
+change-after-requires c κs = search needs
+
+change-after-requires-2 : tie.Need-change-after-requires-2
+change-after-requires-2 c κs = search needs
+
+cast-wrapping-add-u64 : tie.Need-cast-wrapping-add-u64
+cast-wrapping-add-u64 c = search needs
+
+wrapping-add-u64-requires : tie.Need-wrapping-add-u64-requires
+wrapping-add-u64-requires c κs = search needs
+
+returns : tie.Need-returns
+returns c =
+    let h = (c .before .before .before .before .before .before .before .before .args .head) in
+    let t = (c .before .before .before .before .before .before .before .before .args .tally) in
+    let f : SFits w32 (h .«alive_change») = search needs in
+    let g : SFits w32 (h .«not_alive_change») = search needs in
+    settled h (c .before .before .before .before .before .before .before .before .args .writer-count) (c .before .before .before .before .before .before .before .before .args .lost-count) t _ _ _
+    (changed (h .alive) (t .counts .alive) (h .«alive_change») (c .before .before .before .before .change-after .result) f (c .before .before .before .before .before .before .before .before .pre .alive) (c .before .before .before .before .before .before .before .before .pre .ackAlive) (c .before .before .before .before .change-after .ensures))
+    (changed (h .«not_alive») (t .counts .«not_alive») (h .«not_alive_change») (c .before .before .change-after2 .result) g (c .before .before .before .before .before .before .before .before .pre .notAlive) (c .before .before .before .before .before .before .before .before .pre .ackNotAlive) (c .before .before .change-after2 .ensures))
+    (c .wrapping-add-u64 .ensures)
+
+pub settle-spec : {M : Type 1} → statement M
+settle-spec =
+    tie.close
+    (tie.spec
+    change-after-requires
+    change-after-requires-2
+    cast-wrapping-add-u64
+    wrapping-add-u64-requires
+    returns)

@@ -1,0 +1,21 @@
+-- `head_status` meets its contract. Assumes nothing.
+use borrow.Author.Needs.{needs}
+use mir.Facts.{toZ-ofZ}
+use mir.Syntax.{w32}
+use mir.Val.{SFits}
+use Rattle.writer_validity.proofs.Heads.{status-made}
+use Rattle.writer_validity.proofs.head_status.Statement.{statement}
+use Rattle.writer_validity.proofs.head_status.Tie as tie
+
+publication-handle-requires : tie.Need-publication-handle-requires
+publication-handle-requires c κs = search needs
+
+returns : tie.Need-returns
+returns c =
+    let h = c .before .before .args .h in
+    let f : SFits w32 (h .«alive_change») = search needs in
+    let g : SFits w32 (h .«not_alive_change») = search needs in
+    status-made h _ _ _ (toZ-ofZ f) (toZ-ofZ g) (c .before .publication-handle .ensures)
+
+pub head-status-spec : {M : Type 1} → statement M
+head-status-spec = tie.close (tie.spec publication-handle-requires returns)
