@@ -1,77 +1,69 @@
-/* The DDS trackers over lent bytes: calls, the fresh state, and reads.
+/* The DDS trackers over lent bytes: which instances there are and whether they still have a writer, and which writers are
+ * alive. This header is all that a caller needs; include/dcps_inline.h has builders and accessors over it.
  *
- * The state is a head and three buffers (pens, writers, lost), which the caller keeps and lends to each call. Nothing is
- * kept between calls and nothing is allocated. Every function answers any bytes of any length: with a number of 0, or
- * refused with a number of 1 to 13. It writes within the lengths that it is given, it ends, and what it writes is what
- * the definitions of the repository say.
+ *     uint8_t head[DCPS_HEAD_BYTES], pens[DCPS_PENS_BYTES], writers[DCPS_WRITERS_BYTES], lost[DCPS_LOST_BYTES];
+ *     uint8_t sheet[DCPS_SHEET_BYTES] = {0}, out[DCPS_OUT_BYTES], answer[DCPS_ANSWER_BYTES];
+ *     dcps_fresh(head, sizeof head, pens, sizeof pens, writers, sizeof writers, lost, sizeof lost);
+ *     sheet[DCPS_SHEET_CODE] = DCPS_CODE_REGISTER;    the key is 16 zeros here, the holder is empty
+ *     dcps_call(head, sizeof head, sheet, sizeof sheet, pens, sizeof pens, writers, sizeof writers, lost, sizeof lost,
+ *               out, sizeof out, answer, sizeof answer);    0, and the handle is in answer + DCPS_ANSWER_HANDLE
  *
- * Outside the promise: a null pointer (also with length 0), a pointer to fewer bytes than its length says, and two
- * pointers of one call whose bytes overlap where one of them is not const.
+ * How it works
+ *     The state of one reader is a head and three buffers (pens, writers, lost). The caller keeps it and lends it to each
+ *     call. A sheet of 256 bytes says which call to make and with what. The call changes the state in place, writes its
+ *     list, where it has one, to the front of out (the rest of out keeps its bytes) and its answer to answer. An instance
+ *     ("pen") is one keyed object of a topic, named by a key of 16 bytes; the library gives it a handle, 1, 2, 3 and on,
+ *     and no handle is given twice. A writer is named by its GUID of 16 bytes, whose first 12 are its participant's prefix.
  *
- * All numbers in head, sheet, buffers, Out and answers stand most significant byte first; one with a sign in two's
- * complement.
+ * A reader's calls
+ *     a writer is discovered         matched
+ *     it is deleted                  part; lost with its participant: depart
+ *     a sample of it comes           writer_asserted, as a sample asserts its writer and admit does not; then admit
+ *     its participant is heard       participant_asserted
+ *     it disposes an instance        observe_lifecycle, which answers the handle and counts the marker as a sample; dispose
+ *     it unregisters one             where the key is known: unregister_writer, release_owner_of
+ *     time goes by                   lapse, at the latest when its answer's next due says; take_lost before 256 are in lost;
+ *                                    autopurge, where instances that are not alive are to go
+ *     samples are taken or seen      note_taken, mark_view_seen
+ *     the status is asked for        take_status, or dcps_status
+ *     The other calls are parts of these, for a caller that decides more by itself. docs/INTEGRATION.md (in the package
+ *     share/doc/dcps) has the recipes for a DDS reader: shared topics, owners, samples that are turned away, leases, crashes.
  *
- * Lengths
- *     head       64
- *     sheet     256
- *     pens    65536     128 records of 512 bytes, one for each instance
- *     writers  5120     128 records of 40 bytes, one for each writer
- *     lost     4096     256 GUIDs
- *     out      4096
- *     answer     72     of dcps_call and dcps_status
- *     answer     24     of the other reads
+ * Promise
+ *     Every function answers any bytes of any length: with 0, or refused with a number of enum dcps_refusal. It returns
+ *     that number, which is also byte 0 of the answer. On a refusal the answer gets the number and zeros, and nothing else
+ *     is written; where the answer's own length is wrong nothing at all is written. A length of any size other than the
+ *     stated one is refused as 1. It writes within the lengths that it is given, it ends, and what it writes is what the
+ *     definitions (crates/model/specs of the source) say: that is proved of its source, not of the compiler that made the
+ *     archive. dcps_fresh has no answer, only its number; dcps_version takes nothing and returns no number of these.
  *
- * Numbers, lowest first where several would do
- *      0   accepted
- *      1   a length other than stated
- *      2   unknown call code
- *      3   head and buffers are not well formed, or the 64 bytes are no head's
- *      4   nanoseconds of 10^9 or more in a used time
- *      5   a used clock or lease of 2^62 or more
- *      6   a used holder longer than 144 bytes
- *      7   kind 3 in a match
- *      8   an acknowledgement that takes a count less its change beyond +-2^30
- *      9   a new instance, and 128 are there
- *     10   a new writer, and 16 are in that instance's set
- *     11   a new GUID, and 128 writer records are there
- *     12   expiries beyond 256 in lost
- *     13   a new instance, and the next handle is 2^63
+ * Outside the promise
+ *     A null pointer, also with length 0. A pointer to fewer bytes than its length says. Two pointers of one call whose
+ *     bytes overlap, where one of them is not const. So what DCPS_CODE_TAKE_LOST wrote to out has to be copied before it is
+ *     handed as `gone` to dcps_left_writerless with that same out; dcps_would_leave_writerless takes it where it is.
  *
- * On a refusal the answer gets the number and zeros, and nothing else is written. Where the answer's own length is wrong
- * nothing at all is written; each function returns the number too.
+ * Threads
+ *     Nothing is kept between calls: no globals, no thread-locals, no heap, no lock, no system call. Calls on different
+ *     states need nothing, in whatever threads. One state needs its owner's lock: a call writes it, and the reads may only
+ *     run beside each other. Every function is reentrant, calls nobody back and may run in a signal handler, on a state
+ *     that is not in another call at that moment.
  *
- * Head, 64 bytes
- *      0   instance count u32           28   last writer present u16, 0 or 1
- *      4   writer record count u32      30   zero u16
- *      8   lost count u32               32   next handle u64
- *     12   alive u32                    40   changes u64
- *     16   not alive u32                48   the last writer's GUID, 16 bytes; zero where there is none
- *     20   alive change i32
- *     24   not alive change i32
- * Bytes with another presence, a spare that is not zero, or an absent last writer that is not zero are no head's.
+ * A call is not atomic
+ *     A process that ends in the middle of a call leaves a state that is half written, and some such states are well formed
+ *     and still wrong. Whoever keeps a state where it outlives the process (a file, shared memory, battery-backed memory)
+ *     calls on a copy and switches to it after the answer; examples/c/dcps_keep.h (in the package share/dcps/examples) does
+ *     that with two slots.
  *
- * Answer, 72 bytes; what a call does not answer is 0
- *      0   number u8                    20   disposed generations u32
- *      1   outcome u8                   24   no-writers generations u32
- *      2   yes u8                       28   count u32: owners cleared, instances purged
- *      3   present u8: a value is there 32   listed u32: entries written to out
- *      4   view new u8                  36   alive u32
- *      5   kind u8                      40   not alive u32
- *      6   next due present u8          44   alive change i32
- *      7   zero u8                      48   not alive change i32
- *      8   handle u64                   52   zero u32
- *     16   samples u32                  56   next due u64
- *                                       64   last publication handle u64
- *
- * Answer, 24 bytes; what a read does not answer is 0
- *      0   number u8                     4   listed u32: entries written to out; or a stored holder's length
- *      1   yes u8                        8   handle, changes, or a stored holder's offset in pens u64
- *      2   present u8: one was found    16   seconds i32
- *      3   stored u8                    20   nanoseconds u32
- *
- * A key or a GUID of 16 bytes passes as two numbers: high is its first 8 bytes, low its last 8. A list of GUIDs is a
- * multiple of 16 bytes, 4096 at most, else it is refused as 1. The reads of instances are lent pens alone, and meet
- * refusals 1, 3 and 4 for what they are lent.
+ * Alignment: none is needed, of any pointer.
+ * Byte order: all numbers in head, sheet, buffers, out and answers stand most significant byte first, bits too (bit 7 of a
+ *     byte is the first); one with a sign in two's complement. A state may move between machines as it is.
+ * Stack: dcps_call needs less than 16 KiB below its caller's frame, every other function less than 4 KiB
+ *     (DCPS_STACK_BYTES). Measured, not proved: examples/c/stack.c of the source paints a thread's stack, makes every call on
+ *     empty and on full states and looks how far the paint is gone.
+ * Platform: Linux on x86-64, System V ABI, ELF, position-independent; no symbol but memcpy, memmove and memset is
+ *     taken from elsewhere. The archive links into executables and shared objects, C, C++ and Rust.
+ * Times: a time is i32 seconds and u32 nanoseconds (below 10^9) of any epoch. Clocks and leases are u64 nanoseconds
+ *     (below 2^62) of any clock that does not go back. The two need not agree; the library reads no clock.
  */
 #ifndef DCPS_H
 #define DCPS_H
@@ -83,23 +75,433 @@
 extern "C" {
 #endif
 
+/* ---- the version of this header; dcps_version() is that of the library */
+
+#define DCPS_VERSION "0.2.0"
+#define DCPS_VERSION_MAJOR 0
+#define DCPS_VERSION_MINOR 2
+#define DCPS_VERSION_PATCH 0
+#define DCPS_VERSION_NUMBER (DCPS_VERSION_MAJOR * 65536u + DCPS_VERSION_MINOR * 256u + DCPS_VERSION_PATCH)
+
+/* ---- lengths, in bytes */
+
+#define DCPS_HEAD_BYTES 64
+#define DCPS_SHEET_BYTES 256
+#define DCPS_PENS_BYTES 65536   /* 128 records of 512 */
+#define DCPS_WRITERS_BYTES 5120 /* 128 records of 40 */
+#define DCPS_LOST_BYTES 4096    /* 256 GUIDs */
+#define DCPS_OUT_BYTES 4096
+#define DCPS_ANSWER_BYTES 72 /* of dcps_call and dcps_status */
+#define DCPS_READ_BYTES 24   /* of the other reads */
+
+#define DCPS_INSTANCE_BYTES 512
+#define DCPS_WRITER_BYTES 40
+#define DCPS_KEY_BYTES 16
+#define DCPS_GUID_BYTES 16
+#define DCPS_PREFIX_BYTES 12
+#define DCPS_HANDLE_BYTES 8
+#define DCPS_GONE_BYTES 4096 /* at most, of a list of GUIDs that is lent to a read */
+
+#define DCPS_INSTANCE_PLACES 128
+#define DCPS_WRITER_PLACES 128
+#define DCPS_LOST_PLACES 256
+#define DCPS_SET_PLACES 16     /* writers in an instance's set */
+#define DCPS_HOLDER_PLACES 144 /* bytes of a holder */
+
+#define DCPS_STACK_BYTES 16384
+
+/* ---- numbers: 0 accepted, else why it is refused; the lowest where several would do */
+
+enum dcps_refusal {
+    DCPS_ACCEPTED = 0,
+    DCPS_REFUSED_LENGTH = 1,      /* a length other than stated */
+    DCPS_REFUSED_CODE = 2,        /* unknown call code */
+    DCPS_REFUSED_STATE = 3,       /* head and buffers are not well formed (see the records below), or the 64 bytes are no head's */
+    DCPS_REFUSED_NANOSECONDS = 4, /* nanoseconds of 10^9 or more in a used time */
+    DCPS_REFUSED_CLOCK = 5,       /* a used clock or lease of 2^62 or more */
+    DCPS_REFUSED_HOLDER = 6,      /* a used holder longer than 144 bytes */
+    DCPS_REFUSED_KIND = 7,        /* kind 3 in matched */
+    DCPS_REFUSED_ACKNOWLEDGE = 8, /* an acknowledgement that takes a count less its change beyond +-2^30 */
+    DCPS_REFUSED_INSTANCES = 9,   /* a new instance, and 128 are there */
+    DCPS_REFUSED_SET = 10,        /* a new writer, and 16 are in that instance's set */
+    DCPS_REFUSED_WRITERS = 11,    /* a new GUID, and 128 writer records are there; departed ones count: see code 34 */
+    DCPS_REFUSED_LOST = 12,       /* expiries beyond 256 in lost: take_lost first */
+    DCPS_REFUSED_HANDLES = 13     /* a new instance, and the next handle is 2^63 */
+};
+
+/* ---- what an instance, a writer and an admitted sample can be */
+
+enum dcps_kind { DCPS_ALIVE = 0, DCPS_DISPOSED = 1, DCPS_NO_WRITERS = 2 };
+
+enum dcps_liveliness { DCPS_AUTOMATIC = 0, DCPS_BY_PARTICIPANT = 1, DCPS_BY_TOPIC = 2 };
+
+enum dcps_standing {
+    DCPS_WRITER_UNASSERTED = 0, /* matched, and has not asserted yet; in neither count */
+    DCPS_WRITER_ALIVE = 1,      /* asserted within its lease */
+    DCPS_WRITER_NOT_ALIVE = 2,  /* its lease ran out, or it came back from a lost participant and has not asserted since */
+    DCPS_WRITER_DEPARTED = 3    /* lost with its participant, and not matched since; counted with the not alive ones */
+};
+
+/* Of DCPS_CODE_ADMIT. Outcomes 1 to 4 change nothing, and their answers have no other field. */
+enum dcps_outcome {
+    DCPS_ADMITTED = 0,
+    DCPS_OUT_OF_ORDER = 1, /* by source, and not later than the last one delivered */
+    DCPS_FILTERED = 2,     /* not earlier than the last one, and less than the separation later */
+    DCPS_AT_LIMIT = 3,     /* a new instance, and the limit is reached */
+    DCPS_NOT_OWNER = 4     /* another writer owns the instance */
+};
+
+/* View states, as a mask for dcps_would_leave_writerless and dcps_left_writerless. */
+enum dcps_view { DCPS_VIEW_NEW = 1, DCPS_VIEW_NOT_NEW = 2, DCPS_VIEW_ANY = 3 };
+
+/* ---- the sheet: what a call is told, 256 bytes
+ *
+ * A field is used if the call takes it (enum dcps_code) and its presence bit, where the call names one, is set. The rest of
+ * a sheet is ignored, whatever it holds. */
+
+#define DCPS_SHEET_KEY 0     /* 16: the instance */
+#define DCPS_SHEET_GUID 16   /* 16: the writer; a prefix is its first 12 */
+#define DCPS_SHEET_HANDLE 32 /* u64: the instance, where a call goes by handle */
+#define DCPS_SHEET_TIME_1 40 /* i32 seconds, u32 nanoseconds: of the sample, at its source */
+#define DCPS_SHEET_TIME_2 48 /* i32 seconds, u32 nanoseconds: now, and of the filter */
+#define DCPS_SHEET_A 56      /* u64 nanoseconds: separation, disposed delay or clock */
+#define DCPS_SHEET_B 64      /* u64 nanoseconds: deadline, no-writer delay or lease */
+#define DCPS_SHEET_LIMIT 72  /* i32: the most instances; a negative one is no limit, and 0, of a sheet of zeros, lets none in
+                              * that is new. Or the first acknowledged change */
+#define DCPS_SHEET_STRENGTH 76 /* i32: of the writer. Or the second acknowledged change; or u32: n samples */
+#define DCPS_SHEET_BITS 80   /* u8: the bits below */
+#define DCPS_SHEET_CODE 81   /* u8: enum dcps_code */
+#define DCPS_SHEET_HOLDER_LENGTH 82 /* u16 */
+#define DCPS_SHEET_HOLDER 84 /* up to 144: the bytes from which the key was made */
+
+/* Of the byte at DCPS_SHEET_BITS. */
+#define DCPS_BIT_TIME_1 0x80    /* time 1 is present */
+#define DCPS_BIT_DEADLINE 0x40  /* B is a deadline; without it there is none */
+#define DCPS_BIT_LEASE 0x20     /* B is a lease; without it the lease is infinite */
+#define DCPS_BIT_HOLDER 0x10    /* the holder is present */
+#define DCPS_BIT_MANUAL 0x08    /* a manual assertion */
+#define DCPS_BIT_BY_SOURCE 0x04 /* destination order by source time */
+#define DCPS_BITS_KIND 0x03     /* enum dcps_liveliness, of matched */
+
+/* A delay (disposed, no-writer) of this value never runs out. */
+#define DCPS_NEVER (~(uint64_t)0)
+
+/* ---- the calls
+ *
+ * For each: what it does. Uses: the fields of the sheet; [x] is used where its presence bit is set. Answers: the fields of
+ * the answer that it fills, all others are 0 (number is always there). Refused: the numbers it can meet beside 1, 2 and 3.
+ * "present, handle" means that present is 1 and handle the instance's, or both 0 for none.
+ *
+ * To revive: an instance that is not alive becomes alive, and 1 is added to its disposed or its no-writers generations.
+ * A call by an unknown key or handle changes nothing, unless it says that it makes the instance known. A new instance is
+ * alive and new to the reader, and all else of it is 0 or absent. */
+
+enum dcps_code {
+    /* register: makes the instance known, or revives it; 1 more in writer_count; the holder is replaced, also by an empty
+     * one, which is then stored. Reviving does not make it new to the reader.
+     * Uses: key, holder, [time 1: last sample]. Answers: present (1), handle. Refused: 4, 6, 9, 13. */
+    DCPS_CODE_REGISTER = 1,
+
+    /* ensure_registered_limited: makes known or revives (then new to the reader); writer_count is 1 at least. None where
+     * the key is unknown and as many instances as the limit are there; that comes before 9 and 13.
+     * Uses: key, limit. Answers: present, handle. Refused: 9, 13. */
+    DCPS_CODE_ENSURE_REGISTERED_LIMITED = 2,
+
+    /* dispose: the kind becomes disposed. No owner is asked, and the owner stays: a weaker writer's sample does not revive it
+     * (outcome 4).
+     * Uses: handle, [time 1: last sample, disposed_at]. Answers: yes: the handle is known. Refused: 4. */
+    DCPS_CODE_DISPOSE = 3,
+
+    /* unregister: 1 less in writer_count, stopping at 0; at 0 an instance that is not disposed becomes one of no writers.
+     * The writer set stays. It belongs to register: an instance known by admit has a writer_count of 0, becomes one of no
+     * writers at once and keeps its set, so use unregister_writer there.
+     * Uses: handle, [time 1: last sample, no_writers_at]. Answers: yes: the handle is known. Refused: 4. */
+    DCPS_CODE_UNREGISTER = 4,
+
+    /* unregister_writer: the writer leaves the set; an alive instance whose set is then empty becomes one of no writers,
+     * also if the writer was not in it. The owner stays, and turns weaker writers away: call release_owner_of too.
+     * Uses: handle, guid, [time 1: last sample, no_writers_at]. Answers: yes: the handle is known. Refused: 4. */
+    DCPS_CODE_UNREGISTER_WRITER = 5,
+
+    /* note_writer: the writer joins the set, also that of an instance which is not alive; revives nothing.
+     * Uses: handle, guid. Answers: nothing. Refused: 10. */
+    DCPS_CODE_NOTE_WRITER = 6,
+
+    /* drop_writer: the writer leaves the sets of all instances; an alive one whose set it leaves empty becomes one of no
+     * writers.
+     * Uses: guid, [time 1: last sample and no_writers_at of these]. Answers: listed.
+     * Out: their handles, u64 each, in the order of the keys. Refused: 4. */
+    DCPS_CODE_DROP_WRITER = 7,
+
+    /* observe_lifecycle: makes the instance of a dispose or unregister marker known and counts 1 sample; revives nothing.
+     * Uses: key, [holder: replaced], [time 1: last sample]. Answers: present (1), handle. Refused: 4, 6, 9, 13. */
+    DCPS_CODE_OBSERVE_LIFECYCLE = 8,
+
+    /* observe_admitted: makes known or revives (then new to the reader), counts 1 sample, stores the holder where none is:
+     * also an empty one, which stays until register or observe_lifecycle replaces it. None as for ensure_registered_limited.
+     * Uses: key, holder, time 1 (last sample), limit. Answers: present, handle, samples. Refused: 4, 6, 9, 13. */
+    DCPS_CODE_OBSERVE_ADMITTED = 9,
+
+    /* note_admitted: time 1 becomes last delivered, time 2 last of the filter; the writer joins the set.
+     * Uses: key, guid, time 1, time 2. Answers: present: the key is known; then view new, kind, disposed generations,
+     * no-writers generations. Refused: 4, 10. */
+    DCPS_CODE_NOTE_ADMITTED = 10,
+
+    /* record_delivery: time 1 becomes last delivered and last of the filter. Uses: key, time 1. Answers: nothing.
+     * Refused: 4. */
+    DCPS_CODE_RECORD_DELIVERY = 11,
+
+    /* note_taken: n samples fewer, stopping at 0, and new to the reader no more. Uses: handle, n. Answers: nothing. */
+    DCPS_CODE_NOTE_TAKEN = 12,
+
+    /* mark_view_seen: new to the reader no more. Uses: handle. Answers: nothing. */
+    DCPS_CODE_MARK_VIEW_SEEN = 13,
+
+    /* mark_view_new: new to the reader again. Uses: key. Answers: yes: the key is known. */
+    DCPS_CODE_MARK_VIEW_NEW = 14,
+
+    /* drain_samples: n samples fewer, stopping at 0. Uses: handle, n. Answers: nothing. */
+    DCPS_CODE_DRAIN_SAMPLES = 15,
+
+    /* accept_under_exclusive_ownership: yes, and the writer owns the instance at its strength from time 2 on, where there is
+     * no owner, it is the owner, its strength is greater, it is equal and its GUID lower, or the owner's last accepted
+     * sample is a deadline or more before time 2. Else no. An unknown key is yes, and nothing is stored. A deadline of 0 is
+     * missed always, unless time 2 is earlier than that sample: so every writer takes over, as a SHARED topic wants it.
+     * Uses: key, guid, strength, time 2 (now), [B: deadline]. Answers: yes. Refused: 4. */
+    DCPS_CODE_ACCEPT_UNDER_EXCLUSIVE_OWNERSHIP = 16,
+
+    /* update_owner_strength: what the writer owns it holds at that strength. Uses: guid, strength. Answers: nothing. */
+    DCPS_CODE_UPDATE_OWNER_STRENGTH = 17,
+
+    /* clear_owner_for_writer: what the writer owns has no owner. Uses: guid. Answers: count: how many. */
+    DCPS_CODE_CLEAR_OWNER_FOR_WRITER = 18,
+
+    /* clear_owner_for_writer_prefix: what writers of the prefix own has no owner. Uses: guid, its first 12 bytes.
+     * Answers: count: how many. */
+    DCPS_CODE_CLEAR_OWNER_FOR_WRITER_PREFIX = 19,
+
+    /* release_owner_of: the instance has no owner, where the writer is it. Uses: key, guid. Answers: yes: it was. */
+    DCPS_CODE_RELEASE_OWNER_OF = 20,
+
+    /* autopurge: disposed instances whose disposed_at lies A or more before time 2 go, and those of no writers whose
+     * no_writers_at lies B or more before it; DCPS_NEVER is never. Seconds below 0 are taken as 0. A time later than time 2
+     * counts as at it, so that a delay of 0 purges. One without that time stays for ever; one that was disposed or left
+     * again without a time 1 goes by the time before. Samples that are not taken hold nothing back.
+     * Uses: time 2 (now), A, B. Answers: count: how many. Refused: 4. */
+    DCPS_CODE_AUTOPURGE = 21,
+
+    /* matched: the writer takes kind and lease. A new one is unasserted at the clock, a departed one comes back not alive at
+     * 0, any other stays as it stands. An automatic match of a new or departed one then asserts, as participant_asserted
+     * does, not manual.
+     * Uses: guid, kind, [B: lease], A (clock). Answers: yes: a count changed. Refused: 5, 7, 11. */
+    DCPS_CODE_MATCHED = 32,
+
+    /* unmatched: the writer's record goes, unless it is departed. Uses: guid. Answers: yes: a count changed. */
+    DCPS_CODE_UNMATCHED = 33,
+
+    /* lost_with_participant: an unasserted writer's record goes; an alive or not alive one is departed. A departed record
+     * keeps its place until the GUID is matched again: matched (not automatic) and then unmatched frees it.
+     * Uses: guid. Answers: yes: a count changed. */
+    DCPS_CODE_LOST_WITH_PARTICIPANT = 34,
+
+    /* writer_asserted: the writer, the automatic and the by-participant writers of its prefix are asserted at the clock:
+     * each that is not departed and was asserted before it, or at it and is not yet not alive, is alive. Where several move
+     * a count, the greatest of them is the last writer, not the one named.
+     * Uses: guid, A (clock). Answers: yes: a count changed. Refused: 5. */
+    DCPS_CODE_WRITER_ASSERTED = 35,
+
+    /* participant_asserted: so are the automatic writers of the prefix and, where the bit is set, the by-participant ones.
+     * Uses: guid, its first 12 bytes; manual, A (clock). Answers: yes: a count changed. Refused: 5. */
+    DCPS_CODE_PARTICIPANT_ASSERTED = 36,
+
+    /* expire: each alive writer with a lease, whose last assertion lies that or more before the clock, is not alive; its
+     * GUID goes to the end of lost, rising within a call. It stays in its instances' sets, and a later lapse does not drop
+     * it: use lapse or expire, not both.
+     * Uses: A (clock). Answers: yes: a count changed; next due present, next due: when the next lease runs out.
+     * Refused: 5, 12. */
+    DCPS_CODE_EXPIRE = 37,
+
+    /* take_lost: lost is emptied. Answers: listed. Out: its GUIDs, 16 bytes each, in the order of expiry. */
+    DCPS_CODE_TAKE_LOST = 38,
+
+    /* take_status: the changes become 0. Answers, as they were: alive, not alive, alive change, not alive change, last
+     * publication handle. */
+    DCPS_CODE_TAKE_STATUS = 39,
+
+    /* acknowledge: so much is taken off the two changes. Uses: limit (off alive change), strength (off not alive change).
+     * Answers: nothing. Refused: 8. */
+    DCPS_CODE_ACKNOWLEDGE = 40,
+
+    /* admit: all that a received sample asks of its instance; of liveliness nothing, so call writer_asserted before it. In
+     * this order: 4 and 6; by source, time 1 must be later than last delivered (outcome 1); time 2 must be earlier than last
+     * of the filter, or A or more later (outcome 2; seconds below 0 are taken as 0 in both); the limit (outcome 3); 9 and 13,
+     * of a new instance, and 10, of a known one; accept_under_exclusive_ownership (outcome 4), on every topic: a SHARED one
+     * has the deadline present with B = 0; then observe_admitted, so that an empty holder is stored too and stays, and
+     * note_admitted. No last time is always in order. A new instance has no owner yet after its first sample.
+     * Uses: key, guid, holder, time 1, time 2, A (separation), [B: deadline], limit, strength, by source.
+     * Answers: outcome; where that is 0 present (1), handle, samples, view new, kind, disposed generations, no-writers
+     * generations. Refused: 4, 6, 9, 13, 10. */
+    DCPS_CODE_ADMIT = 48,
+
+    /* lapse: expire, and then drop_writer and clear_owner_for_writer for each writer that this call expired, no other.
+     * Uses: A (clock), [time 1: as in drop_writer]. Answers: yes, next due present, next due: as expire; listed; count:
+     * owners cleared. Out: the handles of all instances left without a writer, u64 each, in the order of the keys.
+     * Refused: 4, 5, 12. */
+    DCPS_CODE_LAPSE = 49,
+
+    /* part: unmatched, and then drop_writer and clear_owner_for_writer, whether the writer was tracked or not.
+     * Uses: guid, [time 1]. Answers: yes: as unmatched; listed; count. Out: as lapse. Refused: 4. */
+    DCPS_CODE_PART = 50,
+
+    /* depart: lost_with_participant, and then as part: once for each writer of the lost participant. They do not go to lost.
+     * Uses: guid, [time 1]. Answers: yes: as lost_with_participant; listed; count. Out: as lapse. Refused: 4. */
+    DCPS_CODE_DEPART = 51
+};
+
+/* ---- the answer of dcps_call and dcps_status, 72 bytes; what a call does not answer is 0 */
+
+#define DCPS_ANSWER_NUMBER 0           /* u8: enum dcps_refusal */
+#define DCPS_ANSWER_OUTCOME 1          /* u8: enum dcps_outcome */
+#define DCPS_ANSWER_YES 2              /* u8: 0 or 1 */
+#define DCPS_ANSWER_PRESENT 3          /* u8: 0 or 1, a value is there */
+#define DCPS_ANSWER_VIEW_NEW 4         /* u8: 0 or 1, the instance is new to the reader */
+#define DCPS_ANSWER_KIND 5             /* u8: enum dcps_kind */
+#define DCPS_ANSWER_NEXT_DUE_PRESENT 6 /* u8: 0 or 1; byte 7 is 0 */
+#define DCPS_ANSWER_HANDLE 8           /* u64 */
+#define DCPS_ANSWER_SAMPLES 16         /* u32 */
+#define DCPS_ANSWER_DISPOSED_GENERATIONS 20   /* u32, below 2^31 */
+#define DCPS_ANSWER_NO_WRITERS_GENERATIONS 24 /* u32, below 2^31 */
+#define DCPS_ANSWER_COUNT 28           /* u32: owners cleared, or instances purged */
+#define DCPS_ANSWER_LISTED 32          /* u32: entries written to out */
+#define DCPS_ANSWER_ALIVE 36           /* u32 */
+#define DCPS_ANSWER_NOT_ALIVE 40       /* u32 */
+#define DCPS_ANSWER_ALIVE_CHANGE 44    /* i32 */
+#define DCPS_ANSWER_NOT_ALIVE_CHANGE 48 /* i32; bytes 52 to 55 are 0 */
+#define DCPS_ANSWER_NEXT_DUE 56        /* u64 nanoseconds */
+#define DCPS_ANSWER_LAST_PUBLICATION 64 /* u64: 64-bit FNV-1a of the GUID of the head's last writer, 1 where that is 0; or 0
+                                         * for none */
+
+/* ---- the answer of the other reads, 24 bytes; what a read does not answer is 0 */
+
+#define DCPS_READ_NUMBER 0      /* u8: enum dcps_refusal */
+#define DCPS_READ_YES 1         /* u8: 0 or 1 */
+#define DCPS_READ_PRESENT 2     /* u8: 0 or 1, one was found */
+#define DCPS_READ_STORED 3      /* u8: 0 or 1, a holder is stored */
+#define DCPS_READ_LISTED 4      /* u32: entries written to out */
+#define DCPS_READ_LENGTH 4      /* u32: of a stored holder */
+#define DCPS_READ_HANDLE 8      /* u64 */
+#define DCPS_READ_CHANGES 8     /* u64 */
+#define DCPS_READ_OFFSET 8      /* u64: of a stored holder, in pens */
+#define DCPS_READ_SECONDS 16    /* i32 */
+#define DCPS_READ_NANOSECONDS 20 /* u32 */
+
+/* ---- the head, 64 bytes
+ *
+ * Bytes with another presence than 0 or 1, a spare that is not zero, or an absent last writer that is not zero are no
+ * head's, and are refused as 3. Well formed: the counts agree with the records; the next handle is 1 to 2^63; for both
+ * counts, count less change is within +-2^30. */
+
+#define DCPS_HEAD_INSTANCES 0         /* u32: used records of pens */
+#define DCPS_HEAD_WRITERS 4           /* u32: used records of writers */
+#define DCPS_HEAD_LOST 8              /* u32: entries of lost */
+#define DCPS_HEAD_ALIVE 12            /* u32: writers that are alive */
+#define DCPS_HEAD_NOT_ALIVE 16        /* u32: writers that are not alive or departed */
+#define DCPS_HEAD_ALIVE_CHANGE 20     /* i32: of alive, since it was acknowledged */
+#define DCPS_HEAD_NOT_ALIVE_CHANGE 24 /* i32 */
+#define DCPS_HEAD_LAST_WRITER_PRESENT 28 /* u16: 0 or 1; the u16 at 30 is 0 */
+#define DCPS_HEAD_NEXT_HANDLE 32      /* u64: the handle of the next new instance */
+#define DCPS_HEAD_CHANGES 40          /* u64: how often a writer moved a count, modulo 2^64 */
+#define DCPS_HEAD_LAST_WRITER 48      /* 16: the writer that did so last; of several in one call the greatest GUID */
+
+/* ---- an instance's record in pens, 512 bytes
+ *
+ * The used records stand first, their keys strictly rising as bytes; all behind them is zero, and so are fields marked
+ * absent and unused bytes. Well formed, beside that: handles distinct and from 1 to below the next handle; kind below 3;
+ * generations below 2^31; nanoseconds below 10^9; the holder at most 144 bytes; the set at most 16, strictly rising. */
+
+#define DCPS_INSTANCE_KEY 0     /* 16 */
+#define DCPS_INSTANCE_HANDLE 16 /* u64; 0 in an unused record, and only there */
+#define DCPS_INSTANCE_FLAGS 24  /* u16: the bits below */
+#define DCPS_INSTANCE_HOLDER_LENGTH 26 /* u16 */
+#define DCPS_INSTANCE_DISPOSED_GENERATIONS 28 /* u32: how often it came back after a dispose; stops at 2^31 - 1 */
+#define DCPS_INSTANCE_NO_WRITERS_GENERATIONS 32 /* u32: how often it came back after its last writer left; stops there too */
+#define DCPS_INSTANCE_WRITER_COUNT 36 /* u32: registrations less unregistrations; independent of the set; stops at 2^32 - 1 */
+#define DCPS_INSTANCE_SAMPLES 40      /* u32: observed and not yet taken; stops at 2^32 - 1 */
+#define DCPS_INSTANCE_LAST_SAMPLE 44  /* times: i32 seconds, u32 nanoseconds */
+#define DCPS_INSTANCE_LAST_DELIVERED 52 /* what the destination order compares with */
+#define DCPS_INSTANCE_LAST_FILTER 60  /* what the time-based filter compares with */
+#define DCPS_INSTANCE_DISPOSED_AT 68  /* stays when the instance is revived */
+#define DCPS_INSTANCE_NO_WRITERS_AT 76 /* stays when the instance is revived */
+#define DCPS_INSTANCE_OWNER_AT 84     /* when a sample of an owner was accepted last; stays when the owner is cleared */
+#define DCPS_INSTANCE_OWNER 92        /* 16: the owner's GUID */
+#define DCPS_INSTANCE_STRENGTH 108    /* i32: the owner's */
+#define DCPS_INSTANCE_HOLDER 112      /* up to 144: the bytes from which the key was made */
+#define DCPS_INSTANCE_SET 256         /* up to 16 GUIDs: the writers that write it, rising */
+
+/* Of the u16 at DCPS_INSTANCE_FLAGS. */
+#define DCPS_FLAG_KIND_SHIFT 14 /* the two top bits: enum dcps_kind */
+#define DCPS_FLAG_VIEW_NEW 0x2000
+#define DCPS_FLAG_LAST_SAMPLE 0x1000
+#define DCPS_FLAG_LAST_DELIVERED 0x0800
+#define DCPS_FLAG_LAST_FILTER 0x0400
+#define DCPS_FLAG_DISPOSED_AT 0x0200
+#define DCPS_FLAG_NO_WRITERS_AT 0x0100
+#define DCPS_FLAG_OWNER 0x0080
+#define DCPS_FLAG_OWNER_AT 0x0040
+#define DCPS_FLAG_HOLDER 0x0020
+#define DCPS_FLAGS_SET_SIZE 0x001f
+
+/* ---- a writer's record in writers, 40 bytes
+ *
+ * As in pens: used records first, GUIDs strictly rising as bytes, zeros elsewhere. Well formed, beside that: kind below 3;
+ * lease and last assertion below 2^62; a departed record has only GUID and state. */
+
+#define DCPS_WRITER_GUID 0   /* 16 */
+#define DCPS_WRITER_FLAGS 16 /* u8: the bits below; bytes 17 to 23 are 0 */
+#define DCPS_WRITER_LEASE 24 /* u64 nanoseconds */
+#define DCPS_WRITER_LAST_ASSERTION 32 /* u64 nanoseconds: when it was asserted last, or else matched */
+
+/* Of the byte at DCPS_WRITER_FLAGS. */
+#define DCPS_WRITER_KIND_SHIFT 6  /* the two top bits: enum dcps_liveliness */
+#define DCPS_WRITER_STATE_SHIFT 4 /* the next two: enum dcps_standing */
+#define DCPS_WRITER_LEASE_BIT 0x08 /* a lease is present; without it the lease is infinite */
+
+/* ---- lost and out
+ *
+ * lost: as many GUIDs as the head says, 16 bytes each, in the order of expiry, zeros behind them. out: as many entries as
+ * the answer's `listed` says, from its front, GUIDs of 16 bytes or handles of 8. */
+
+/* ---- functions */
+
+/* The version of the library: major * 65536 + minor * 256 + patch. */
+uint32_t dcps_version(void);
+
 /* A call: the sheet says which (byte 81 is its code). The new head, pens, writers, lost and out are written on number 0
  * only. The lengths of head and answer belong to refusal 1; bytes that are no head's are refused as 3, after 1 and 2. */
 uint32_t dcps_call(uint8_t *head, size_t head_len, const uint8_t *sheet, size_t sheet_len, uint8_t *pens, size_t pens_len,
                    uint8_t *writers, size_t writers_len, uint8_t *lost, size_t lost_len, uint8_t *out, size_t out_len,
                    uint8_t *answer, size_t answer_len);
 
-/* Head and buffers become those of the fresh state; refused as 1, and nothing written, where a length is another. */
+/* Head and buffers become those of the fresh state: no instance, no writer, next handle 1. Refused as 1, and nothing
+ * written, where a length is another. */
 uint32_t dcps_fresh(uint8_t *head, size_t head_len, uint8_t *pens, size_t pens_len, uint8_t *writers, size_t writers_len,
                     uint8_t *lost, size_t lost_len);
 
-/* The liveliness status (DDS 1.4, 2.2.4.1) of the head, in an answer of 72 bytes. */
+/* The liveliness status (DDS 1.4, 2.2.4.1) of the head, in an answer of 72 bytes with the fields of take_status; nothing is
+ * acknowledged. Refused: 1, 3, as dcps_changes. */
 uint32_t dcps_status(const uint8_t *head, size_t head_len, uint8_t *answer, size_t answer_len);
 
-/* How many changes of class the head has counted. */
+/* How often a writer moved a count (became alive, not alive, or neither), as the head has it: changes. Refused: 1; 3, where
+ * no buffers go with the head: it is no head's, is not well formed by itself, has more than 128 instances, 128 writers or 256
+ * lost, as many instances as its next handle or more, or more alive and not alive writers than writers. */
 uint32_t dcps_changes(const uint8_t *head, size_t head_len, uint8_t *answer, size_t answer_len);
 
-/* yes: a sample of the key is delivered under the time-based filter (DDS 1.4, 2.2.3.12). */
+/* The reads of instances are lent pens alone: the used records are those before the first whose handle is 0, and refusal 3 is
+ * about the table alone. A key or a GUID of 16 bytes passes as two numbers: high is its first 8 bytes, low its last 8. A list
+ * of GUIDs is a multiple of 16 bytes, 4096 at most, else it is refused as 1. Each meets 1 and 3, those with a time also 4. */
+
+/* yes: a sample of the key is delivered under the time-based filter (DDS 1.4, 2.2.3.12), as in admit. In this read and the
+ * next one seconds below 0 are taken as 0 and the nanoseconds stay; an unknown key, or one without a last time, is yes. */
 uint32_t dcps_should_deliver_under_time_based_filter(const uint8_t *pens, size_t pens_len, uint64_t high, uint64_t low,
                                                      int32_t sec, uint32_t nanosec, uint64_t min_separation,
                                                      uint8_t *answer, size_t answer_len);
@@ -113,7 +515,8 @@ uint32_t dcps_should_deliver_under_destination_order(const uint8_t *pens, size_t
 uint32_t dcps_last_delivered_ts(const uint8_t *pens, size_t pens_len, uint64_t high, uint64_t low, uint8_t *answer,
                                 size_t answer_len);
 
-/* The handle that follows another in the order of the keys, the first one behind 0: present and handle. */
+/* The handle that follows another in the order of the keys, the first one behind 0: present and handle. An unknown one is
+ * followed by none. */
 uint32_t dcps_next_handle_after(const uint8_t *pens, size_t pens_len, uint64_t previous, uint8_t *answer, size_t answer_len);
 
 /* The handle of the instance at a position from 0, in the order of the keys: present and handle. */
@@ -128,12 +531,12 @@ uint32_t dcps_holder_in_force(const uint8_t *pens, size_t pens_len, uint64_t hig
 uint32_t dcps_writer_lookup(const uint8_t *pens, size_t pens_len, uint64_t high, uint64_t low, uint8_t *answer,
                             size_t answer_len);
 
-/* yes: without the writers of the list, an alive instance of the view states (1 new, 2 not new, 3 both) that has writers
- * would have none. */
+/* yes: without the writers of the list, an alive instance of the view states (enum dcps_view) that has writers would have
+ * none. View states of 0 take in no instance; bits above the two are ignored. */
 uint32_t dcps_would_leave_writerless(const uint8_t *pens, size_t pens_len, const uint8_t *gone, size_t gone_len,
                                      uint32_t view_states, uint8_t *answer, size_t answer_len);
 
-/* The handles of those instances, u64 each, to the front of out; listed is how many. */
+/* The handles of those instances, u64 each in the order of the keys, to the front of out; listed is how many. */
 uint32_t dcps_left_writerless(const uint8_t *pens, size_t pens_len, const uint8_t *gone, size_t gone_len,
                               uint32_t view_states, uint8_t *out, size_t out_len, uint8_t *answer, size_t answer_len);
 

@@ -1,117 +1,24 @@
 //! A day's list: one call a line, `VERB [SUBJECT] [WORD VALUE]..`, comments from `#` on.
 
-use crate::words::{self, quoted};
+use crate::dates;
+use crate::forms::{Subject, Verb, Word, FORMS};
+use crate::names::Names;
+use crate::nearest::nearest;
+use crate::words::{self, quoted, Moment};
 use dcps::{KeyHash, LivelinessKind, Time};
+use std::io::{self, BufRead};
 use std::time::Duration;
 
-/// What a line asks for. Names are the library's, but for the few that read badly.
-#[derive(Debug, Clone, Copy, PartialEq, Eq)]
-pub enum Verb {
-    Register,
-    EnsureRegisteredLimited,
-    Dispose,
-    Unregister,
-    NoteWriter,
-    DropWriter,
-    ObserveLifecycle,
-    ObserveAdmitted,
-    NoteAdmitted,
-    RecordDelivery,
-    NoteTaken,
-    MarkViewSeen,
-    MarkViewNew,
-    DrainSamples,
-    AcceptUnderExclusiveOwnership,
-    UpdateOwnerStrength,
-    ClearOwnerForWriter,
-    ReleaseOwnerOf,
-    Autopurge,
-    Match,
-    Unmatch,
-    LostWithParticipant,
-    Assert,
-    Expire,
-    TakeLost,
-    TakeStatus,
-    Acknowledge,
-    Admit,
-    Lapse,
-    Part,
-    Depart,
-}
-
-/// What stands behind the verb.
-#[derive(Clone, Copy, PartialEq, Eq)]
-enum Subject {
-    Nothing,
-    Key,
-    Writer,
-    /// A writer, or all of a participant.
-    WriterOrParticipant,
-}
-
-/// A word that a verb takes; with `!` it must be there.
-type Word = &'static str;
-
-const FORMS: &[(&str, Verb, Subject, &[Word])] = &[
-    ("match", Verb::Match, Subject::Writer, &["kind!", "lease", "at!"]),
-    ("unmatch", Verb::Unmatch, Subject::Writer, &[]),
-    ("lost_with_participant", Verb::LostWithParticipant, Subject::Writer, &[]),
-    ("assert", Verb::Assert, Subject::WriterOrParticipant, &["manual", "at!"]),
-    ("expire", Verb::Expire, Subject::Nothing, &["at!"]),
-    ("take_lost", Verb::TakeLost, Subject::Nothing, &[]),
-    ("take_status", Verb::TakeStatus, Subject::Nothing, &[]),
-    ("acknowledge", Verb::Acknowledge, Subject::Nothing, &["alive!", "not-alive!"]),
-    (
-        "admit",
-        Verb::Admit,
-        Subject::Key,
-        &[
-            "from!",
-            "at!",
-            "now",
-            "strength",
-            "separation",
-            "deadline",
-            "limit",
-            "holder",
-            "by-source",
-        ],
-    ),
-    ("lapse", Verb::Lapse, Subject::Nothing, &["at!", "stamp"]),
-    ("part", Verb::Part, Subject::Writer, &["at"]),
-    ("depart", Verb::Depart, Subject::Writer, &["at"]),
-    ("register", Verb::Register, Subject::Key, &["holder", "at"]),
-    ("ensure_registered_limited", Verb::EnsureRegisteredLimited, Subject::Key, &["limit"]),
-    ("dispose", Verb::Dispose, Subject::Key, &["at"]),
-    ("unregister", Verb::Unregister, Subject::Key, &["from", "at"]),
-    ("note_writer", Verb::NoteWriter, Subject::Key, &["from!"]),
-    ("drop_writer", Verb::DropWriter, Subject::Writer, &["at"]),
-    ("observe_lifecycle", Verb::ObserveLifecycle, Subject::Key, &["holder", "at"]),
-    ("observe_admitted", Verb::ObserveAdmitted, Subject::Key, &["holder", "at!", "limit"]),
-    ("note_admitted", Verb::NoteAdmitted, Subject::Key, &["from!", "at!", "now"]),
-    ("record_delivery", Verb::RecordDelivery, Subject::Key, &["at!"]),
-    ("note_taken", Verb::NoteTaken, Subject::Key, &["samples!"]),
-    ("mark_view_seen", Verb::MarkViewSeen, Subject::Key, &[]),
-    ("mark_view_new", Verb::MarkViewNew, Subject::Key, &[]),
-    ("drain_samples", Verb::DrainSamples, Subject::Key, &["samples!"]),
-    (
-        "accept_under_exclusive_ownership",
-        Verb::AcceptUnderExclusiveOwnership,
-        Subject::Key,
-        &["from!", "strength!", "at!", "deadline"],
-    ),
-    ("update_owner_strength", Verb::UpdateOwnerStrength, Subject::Writer, &["strength!"]),
-    ("clear_owner_for_writer", Verb::ClearOwnerForWriter, Subject::WriterOrParticipant, &[]),
-    ("release_owner_of", Verb::ReleaseOwnerOf, Subject::Key, &["from!"]),
-    ("autopurge", Verb::Autopurge, Subject::Nothing, &["at!", "disposed", "no-writers"]),
-];
+/// A longer line is a fault, and is not kept.
+const LONGEST_LINE: usize = 4_096;
 
 /// The words of a line, as the calls take them.
 #[derive(Debug, Clone, PartialEq, Eq)]
 pub struct Words {
     pub key: KeyHash,
     pub writer: [u8; 16],
+    /// Set where the subject is a key.
+    pub names_key: bool,
     /// Set where the subject or `from` is a writer.
     pub names_writer: bool,
     pub participant: Option<[u8; 12]>,
@@ -141,6 +48,7 @@ impl Default for Words {
         Self {
             key: [0; 16],
             writer: [0; 16],
+            names_key: false,
             names_writer: false,
             participant: None,
             kind: LivelinessKind::Automatic,
@@ -174,6 +82,18 @@ pub struct Call {
     pub words: Words,
 }
 
+impl Call {
+    /// When it is made, where it says so: for a sample `now`, else its own time.
+    pub fn moment(&self) -> Option<Moment> {
+        match self.verb {
+            Verb::Match | Verb::Assert | Verb::Expire | Verb::Lapse => {
+                Some(words::moment_of_clock(self.words.clock))
+            }
+            _ => self.words.now.or(self.words.time).map(words::moment_of_time),
+        }
+    }
+}
+
 /// What is wrong with a line.
 #[derive(Debug, Clone, PartialEq, Eq)]
 pub struct Fault {
@@ -181,25 +101,48 @@ pub struct Fault {
     pub what: String,
 }
 
-/// The calls of a file, or all its faults.
-pub fn read(file: &[u8]) -> Result<Vec<Call>, Vec<Fault>> {
-    let mut calls = Vec::new();
-    let mut faults = Vec::new();
-    for (line, bytes) in (1..).zip(file.split(|b| *b == b'\n')) {
-        match read_line(line, bytes) {
-            Ok(call) => calls.extend(call),
-            Err(what) => faults.push(Fault { line, what }),
+/// Gives each line with its number; one that is too long comes cut. Answers the first error of the source.
+pub fn each_line(
+    source: &mut dyn BufRead,
+    mut each: impl FnMut(usize, &[u8]),
+) -> Result<(), io::Error> {
+    let mut line = Vec::new();
+    let mut number = 1;
+    loop {
+        let (used, ended) = match source.fill_buf() {
+            Ok([]) => break,
+            Ok(bytes) => {
+                let end = bytes.iter().position(|b| *b == b'\n');
+                let part = &bytes[..end.unwrap_or(bytes.len())];
+                let room = (LONGEST_LINE + 1).saturating_sub(line.len());
+                line.extend_from_slice(&part[..part.len().min(room)]);
+                (part.len() + usize::from(end.is_some()), end.is_some())
+            }
+            Err(e) if e.kind() == io::ErrorKind::Interrupted => continue,
+            Err(e) => return Err(e),
+        };
+        source.consume(used);
+        if ended {
+            each(number, &line);
+            line.clear();
+            number += 1;
         }
     }
-    if faults.is_empty() {
-        Ok(calls)
-    } else {
-        Err(faults)
+    if !line.is_empty() {
+        each(number, &line);
     }
+    Ok(())
 }
 
-fn read_line(line: usize, bytes: &[u8]) -> Result<Option<Call>, String> {
-    let text = std::str::from_utf8(bytes).map_err(|_| "not UTF-8 text".to_owned())?;
+/// The call of a line, if it has one, or what is wrong with it.
+pub fn read_line(line: usize, bytes: &[u8], names: &mut Names) -> Result<Option<Call>, String> {
+    if bytes.len() > LONGEST_LINE {
+        return Err(format!("longer than {LONGEST_LINE} bytes: write one call a line"));
+    }
+    let mark: &[u8] = if line == 1 { b"\xef\xbb\xbf" } else { b"" };
+    let bytes = bytes.strip_prefix(mark).unwrap_or(bytes);
+    let text = std::str::from_utf8(bytes)
+        .map_err(|_| "not UTF-8 text: save the file as UTF-8".to_owned())?;
     let parts: Vec<&str> =
         text.split_whitespace().take_while(|part| !part.starts_with('#')).collect();
     let Some((name, rest)) = parts.split_first() else {
@@ -208,14 +151,16 @@ fn read_line(line: usize, bytes: &[u8]) -> Result<Option<Call>, String> {
     let (_, verb, subject, takes) =
         FORMS.iter().find(|(form, ..)| form == name).ok_or_else(|| unknown_verb(name))?;
     let mut words = Words::default();
-    let rest = read_subject(name, *subject, rest, &mut words)?;
+    let rest = read_subject(name, *subject, rest, names, &mut words)?;
     read_words(name, *verb, takes, rest, &mut words)?;
     Ok(Some(Call { line, text: parts.join(" "), verb: *verb, words }))
 }
 
 fn unknown_verb(name: &str) -> String {
     let known: Vec<_> = FORMS.iter().map(|(form, ..)| *form).collect();
-    format!("{} is no call; the calls are {}", quoted(name), known.join(", "))
+    let meant = nearest(name, known.iter().copied());
+    let meant = meant.map_or(String::new(), |form| format!(" (did you mean '{form}'?)"));
+    format!("{} is no call{meant}; the calls are {}", quoted(name), known.join(", "))
 }
 
 /// Reads what stands behind the verb; what is left.
@@ -223,6 +168,7 @@ fn read_subject<'a, 'b>(
     name: &str,
     subject: Subject,
     rest: &'a [&'b str],
+    names: &mut Names,
     words: &mut Words,
 ) -> Result<&'a [&'b str], String> {
     let wanted = match subject {
@@ -234,7 +180,8 @@ fn read_subject<'a, 'b>(
     let (word, rest) =
         rest.split_first().ok_or_else(|| format!("{name} needs {wanted} behind it"))?;
     if subject == Subject::Key {
-        words.key = words::key(word)?;
+        words.key = names.key(word)?;
+        words.names_key = true;
         return Ok(rest);
     }
     if subject == Subject::WriterOrParticipant {
@@ -257,14 +204,9 @@ fn read_words(
 ) -> Result<(), String> {
     let mut seen: Vec<&str> = Vec::new();
     while let Some((word, behind)) = rest.split_first() {
-        let Some(form) = takes.iter().find(|form| form.trim_end_matches('!') == *word) else {
-            let known: Vec<_> = takes.iter().map(|form| form.trim_end_matches('!')).collect();
-            let known = if known.is_empty() { "no words".to_owned() } else { known.join(", ") };
-            return Err(format!("{name} takes {known}, not {}", quoted(word)));
-        };
-        let word = form.trim_end_matches('!');
+        let word = known_word(name, takes, word)?;
         if seen.contains(&word) {
-            return Err(format!("'{word}' stands twice"));
+            return Err(format!("'{word}' stands twice: leave one of them"));
         }
         seen.push(word);
         rest = match word {
@@ -276,18 +218,44 @@ fn read_words(
                 words.by_source = true;
                 behind
             }
-            _ => {
-                let (value, behind) =
-                    behind.split_first().ok_or_else(|| format!("'{word}' needs a value"))?;
-                read_value(verb, word, value, words)?;
-                behind
-            }
+            _ => read_behind(verb, word, behind, words)?,
         };
     }
     let mut needed = takes.iter().filter_map(|form| form.strip_suffix('!'));
     match needed.find(|word| !seen.contains(word)) {
-        Some(word) => Err(format!("{name} needs '{word}'")),
+        Some(word) => Err(format!("{name} needs '{word}' and a value behind it")),
         None => Ok(()),
+    }
+}
+
+fn known_word(name: &str, takes: &[Word], word: &str) -> Result<&'static str, String> {
+    let mut forms = takes.iter().map(|form| form.trim_end_matches('!'));
+    forms.find(|form| *form == word).ok_or_else(|| {
+        let known: Vec<_> = takes.iter().map(|form| form.trim_end_matches('!')).collect();
+        let known = if known.is_empty() { "no words".to_owned() } else { known.join(", ") };
+        format!("{name} takes {known}, not {}", quoted(word))
+    })
+}
+
+/// Reads the value of a word; what is left. A date and the hour behind it are one value.
+fn read_behind<'a, 'b>(
+    verb: Verb,
+    word: &str,
+    behind: &'a [&'b str],
+    words: &mut Words,
+) -> Result<&'a [&'b str], String> {
+    match behind {
+        [] => Err(format!("'{word}' needs a value")),
+        [date, hour, rest @ ..]
+            if date.len() == 10 && dates::is_date(date) && hour.contains(':') =>
+        {
+            read_value(verb, word, &format!("{date} {hour}"), words)?;
+            Ok(rest)
+        }
+        [value, rest @ ..] => {
+            read_value(verb, word, value, words)?;
+            Ok(rest)
+        }
     }
 }
 
@@ -299,17 +267,7 @@ fn read_value(verb: Verb, word: &str, value: &str, words: &mut Words) -> Result<
         }
         "kind" => words.kind = kind(value)?,
         "lease" => words.lease = Some(words::duration(value)?),
-        "at" => match verb {
-            Verb::Match | Verb::Assert | Verb::Expire => words.clock = words::duration(value)?,
-            Verb::Lapse => {
-                words.clock = words::duration(value)?;
-                // The moment from which instances are without writers, unless `stamp` says another.
-                if words.time.is_none() {
-                    words.time = Some(words::time(value)?);
-                }
-            }
-            _ => words.time = Some(words::time(value)?),
-        },
+        "at" => read_at(verb, value, words)?,
         "stamp" => words.time = Some(words::time(value)?),
         "now" => words.now = Some(words::time(value)?),
         "strength" => words.strength = number(value)?,
@@ -327,6 +285,22 @@ fn read_value(verb: Verb, word: &str, value: &str, words: &mut Words) -> Result<
     Ok(())
 }
 
+/// `at` is a clock of the liveliness or a time, by the call.
+fn read_at(verb: Verb, value: &str, words: &mut Words) -> Result<(), String> {
+    match verb {
+        Verb::Match | Verb::Assert | Verb::Expire => words.clock = words::duration(value)?,
+        Verb::Lapse => {
+            words.clock = words::duration(value)?;
+            // The moment from which instances are without writers, unless `stamp` says another.
+            if words.time.is_none() {
+                words.time = Some(words::time(value)?);
+            }
+        }
+        _ => words.time = Some(words::time(value)?),
+    }
+    Ok(())
+}
+
 fn kind(value: &str) -> Result<LivelinessKind, String> {
     match value {
         "automatic" => Ok(LivelinessKind::Automatic),
@@ -340,7 +314,27 @@ fn kind(value: &str) -> Result<LivelinessKind, String> {
 }
 
 fn number<T: std::str::FromStr>(value: &str) -> Result<T, String> {
-    value.parse().map_err(|_| format!("{} is no number that fits", quoted(value)))
+    value
+        .parse()
+        .map_err(|_| format!("{} is no number that fits: write a whole number", quoted(value)))
+}
+
+/// The calls of a text, or all its faults.
+#[cfg(test)]
+pub fn read(file: &[u8], names: &mut Names) -> Result<Vec<Call>, Vec<Fault>> {
+    let mut calls = Vec::new();
+    let mut faults = Vec::new();
+    let mut source = file;
+    let read = each_line(&mut source, |line, bytes| match read_line(line, bytes, names) {
+        Ok(call) => calls.extend(call),
+        Err(what) => faults.push(Fault { line, what }),
+    });
+    assert!(read.is_ok());
+    if faults.is_empty() {
+        Ok(calls)
+    } else {
+        Err(faults)
+    }
 }
 
 #[cfg(test)]
@@ -348,16 +342,15 @@ mod tests {
     use super::*;
 
     fn fault(line: &str) -> String {
-        let faults = read(line.as_bytes()).expect_err("a bad line");
+        let faults = read(line.as_bytes(), &mut Names::default()).expect_err("a bad line");
         assert_eq!(faults.len(), 1);
         faults[0].what.clone()
     }
 
     #[test]
     fn a_line_in_full() {
-        let calls =
-            read(b"\n  # a comment\nmatch  press-1/w1 kind automatic lease 2s at 1s # behind\n")
-                .expect("a good file");
+        let day = b"\n  # a comment\nmatch  press-1/w1 kind automatic lease 2s at 1s # behind\n";
+        let calls = read(day, &mut Names::default()).expect("a good file");
         assert_eq!(calls.len(), 1);
         assert_eq!(calls[0].line, 3);
         assert_eq!(calls[0].text, "match press-1/w1 kind automatic lease 2s at 1s");
@@ -366,28 +359,77 @@ mod tests {
     }
 
     #[test]
+    fn as_people_have_it() {
+        let file = b"\xef\xbb\xbfexpire at 2026-11-15 08:15\r\n\r\nadmit pen-serial-000000000001 from a/b at 2026-11-15T08:15:01Z strength 1\r\n";
+        let calls = read(file, &mut Names::default()).expect("a good file");
+        assert_eq!(calls[0].words.clock, Duration::from_secs(1_794_730_500));
+        assert_eq!(calls[1].line, 3);
+        assert_eq!(calls[1].words.time, Some(Time { sec: 1_794_730_501, nanosec: 0 }));
+        assert_eq!(calls[1].words.strength, 1);
+    }
+
+    #[test]
     fn what_is_wrong_is_said() {
-        assert!(fault("mtach a/b").starts_with("'mtach' is no call; the calls are match, "));
+        assert!(fault("mtach a/b")
+            .starts_with("'mtach' is no call (did you mean 'match'?); the calls are match, "));
         assert_eq!(fault("match"), "match needs a writer behind it");
-        assert_eq!(fault("match a/b kind automatic"), "match needs 'at'");
-        assert_eq!(fault("match a/b at 1s"), "match needs 'kind'");
+        assert_eq!(fault("match a/b kind automatic"), "match needs 'at' and a value behind it");
+        assert_eq!(fault("match a/b at 1s"), "match needs 'kind' and a value behind it");
         assert_eq!(fault("part a/b at"), "'at' needs a value");
-        assert_eq!(fault("part a/b at 1s at 2s"), "'at' stands twice");
+        assert_eq!(fault("part a/b at 1s at 2s"), "'at' stands twice: leave one of them");
         assert_eq!(fault("part a/b on 1s"), "part takes at, not 'on'");
         assert_eq!(fault("unmatch a/b at 1s"), "unmatch takes no words, not 'at'");
         assert!(fault("part ab").starts_with("'ab' is no writer"));
         assert!(fault("admit pen-01 from a/b at noon").starts_with("'noon' is no time"));
         assert!(fault("match a/b kind manual at 1s").starts_with("'manual' is no kind"));
-        assert_eq!(fault("note_taken pen-01 samples -1"), "'-1' is no number that fits");
+        assert_eq!(
+            fault("note_taken pen-01 samples -1"),
+            "'-1' is no number that fits: write a whole number"
+        );
         assert!(fault("expire at -1s").contains("negative"));
     }
 
     #[test]
     fn every_fault_has_its_line() {
-        let faults = read(b"expire at 1s\nbad\nexpire at x\n\xff\xfe\n").expect_err("bad lines");
+        let file = b"expire at 1s\nbad\nexpire at x\n\xff\xfe\n";
+        let faults = read(file, &mut Names::default()).expect_err("bad lines");
         assert_eq!(faults.iter().map(|f| f.line).collect::<Vec<_>>(), [2, 3, 4]);
-        assert_eq!(faults[2].what, "not UTF-8 text");
+        assert_eq!(faults[2].what, "not UTF-8 text: save the file as UTF-8");
     }
+
+    const PARTS: &[&str] = &[
+        "match",
+        "admit",
+        "part",
+        "autopurge",
+        "at",
+        "from",
+        "kind",
+        "lease",
+        "a/b",
+        "a/*",
+        "pen",
+        "0x",
+        "-",
+        "1s",
+        "99999999999999999999h",
+        "never",
+        "limit",
+        "holder",
+        "#",
+        "\n",
+        "\u{fe0f}",
+        "2026-11-15",
+        "08:15",
+        "2026-11-15T",
+        "2026-99-99T99:99",
+        ":",
+        "::",
+        "-1:0",
+        "1e9s",
+        "strength",
+        "-2147483648",
+    ];
 
     #[test]
     fn any_bytes_are_read_or_faulted() {
@@ -398,40 +440,11 @@ mod tests {
                 .wrapping_add(1_442_695_040_888_963_407);
             (seed >> 33) as usize
         };
-        let parts = [
-            "match",
-            "admit",
-            "part",
-            "autopurge",
-            "at",
-            "from",
-            "kind",
-            "lease",
-            "a/b",
-            "a/*",
-            "pen",
-            "0x",
-            "-",
-            "1s",
-            "99999999999999999999h",
-            "never",
-            "limit",
-            "holder",
-            "#",
-            "\n",
-            "\u{fe0f}",
-            ":",
-            "::",
-            "-1:0",
-            "1e9s",
-            "strength",
-            "-2147483648",
-        ];
         for _ in 0..20_000 {
-            let line: Vec<_> = (0..next() % 9).map(|_| parts[next() % parts.len()]).collect();
-            let _ = read(line.join(" ").as_bytes());
+            let line: Vec<_> = (0..next() % 9).map(|_| PARTS[next() % PARTS.len()]).collect();
+            let _ = read(line.join(" ").as_bytes(), &mut Names::default());
             let bytes: Vec<u8> = (0..next() % 30).map(|_| next() as u8).collect();
-            let _ = read(&bytes);
+            let _ = read(&bytes, &mut Names::default());
         }
     }
 }

@@ -1,21 +1,23 @@
 //! The history of one instance: each call that changed its record, what changed, and so why it is shown as it
 //! is.
 
-use crate::day::{Call, Verb};
-use crate::play::play;
-use crate::table::shown;
-use crate::words::{show_guid, show_key, show_time};
+use crate::day::Call;
+use crate::forms::Verb;
+use crate::play::{Step, Watch};
+use crate::table::{is_abandoned, shown};
+use crate::tell::how_often;
+use crate::words::{show_guid, show_time};
 use dcps::{InstanceState, InstanceStateKind, KeyHash, Time};
 use std::fmt::Write;
 
 /// A call that changed the record.
-struct Change<'a> {
-    call: &'a Call,
+struct Change {
+    call: Call,
     before: Option<InstanceState>,
     after: Option<InstanceState>,
 }
 
-impl Change<'_> {
+impl Change {
     fn line(&self) -> String {
         format!("line {} ({})", self.call.line, self.call.text)
     }
@@ -28,31 +30,64 @@ impl Change<'_> {
         }
     }
 
-    fn kinds(&self) -> [Option<InstanceStateKind>; 2] {
-        [&self.before, &self.after].map(|i| i.as_ref().map(|i| i.kind))
+    fn moved(&self) -> bool {
+        let kind = |i: &Option<InstanceState>| i.as_ref().map(|i| i.kind);
+        kind(&self.before) != kind(&self.after)
     }
 }
 
-/// The history of a key; none where the day never has it.
-pub fn explain(calls: &[Call], key: &KeyHash) -> Option<String> {
-    let mut changes = Vec::new();
-    play(calls, |call, before, after| {
-        let [before, after] = [before, after].map(|state| state.get_by_keyhash(key));
-        if before != after {
-            changes.push(Change { call, before, after });
+/// The history of one key, written as it goes.
+pub struct Explain {
+    key: KeyHash,
+    changes: usize,
+    text: String,
+    /// The latest change that moved where the instance stands.
+    cause: Option<Change>,
+    after: Option<InstanceState>,
+    abandoned: u64,
+}
+
+impl Watch for Explain {
+    fn see(&mut self, step: &Step<'_>) {
+        let changed = step.changes.instances.iter().find(|(key, _)| *key == self.key);
+        let Some((key, before)) = changed else {
+            return;
+        };
+        let after = step.mirror.instance(key).cloned();
+        let change = Change { call: step.call.clone(), before: before.clone(), after };
+        self.changes += 1;
+        let _ = writeln!(self.text, "\n  line {:<4} {}", change.call.line, change.call.text);
+        for what in differences(&change) {
+            let _ = writeln!(self.text, "            {what}");
         }
-    });
-    let last = changes.last()?;
-    let mut text = format!("{}: {}\n", show_key(key), calls_that_changed(changes.len()));
-    for change in &changes {
-        let _ = writeln!(text, "\n  line {:<4} {}", change.call.line, change.call.text);
-        for what in differences(change) {
-            let _ = writeln!(text, "            {what}");
+        let left = is_abandoned(change.before.as_ref(), change.after.as_ref());
+        self.abandoned += u64::from(left);
+        self.after.clone_from(&change.after);
+        if change.moved() {
+            self.cause = Some(change);
         }
     }
-    let cause = changes.iter().rev().find(|c| c.kinds()[0] != c.kinds()[1]).unwrap_or(last);
-    let _ = writeln!(text, "\n{}", verdict(&show_key(key), last.after.as_ref(), cause));
-    Some(text)
+}
+
+impl Explain {
+    pub fn new(key: KeyHash) -> Self {
+        Self { key, changes: 0, text: String::new(), cause: None, after: None, abandoned: 0 }
+    }
+
+    /// The history; none where the day never has the key.
+    pub fn text(&self, key: &str) -> Option<String> {
+        let cause = self.cause.as_ref()?;
+        let changed = calls_that_changed(self.changes);
+        let mut verdict = verdict(key, self.after.as_ref(), cause);
+        let alive = self.after.as_ref().is_some_and(|i| i.kind == InstanceStateKind::Alive);
+        if alive && self.abandoned > 0 {
+            verdict += &format!(
+                " It was shown abandoned {} before; `why` counts by what.",
+                how_often(self.abandoned)
+            );
+        }
+        Some(format!("{key}: {changed}\n{}\n{verdict}\n", self.text))
+    }
 }
 
 fn calls_that_changed(number: usize) -> String {
@@ -64,7 +99,7 @@ fn calls_that_changed(number: usize) -> String {
 }
 
 /// Why it is shown as it is: the call that brought it there, and what that call did.
-fn verdict(key: &str, after: Option<&InstanceState>, cause: &Change<'_>) -> String {
+fn verdict(key: &str, after: Option<&InstanceState>, cause: &Change) -> String {
     let line = cause.line();
     let Some(after) = after else {
         let was = cause.before.as_ref().map_or("", |b| shown(b.kind));
@@ -93,7 +128,7 @@ fn verdict(key: &str, after: Option<&InstanceState>, cause: &Change<'_>) -> Stri
     }
 }
 
-fn how_it_was_left(cause: &Change<'_>) -> String {
+fn how_it_was_left(cause: &Change) -> String {
     let gone = cause.writers_gone().join(", ");
     if gone.is_empty() {
         return match cause.call.verb {
@@ -119,7 +154,7 @@ fn abandoned_at(i: &InstanceState) -> Option<Time> {
 }
 
 /// What a call changed, field by field.
-fn differences(change: &Change<'_>) -> Vec<String> {
+fn differences(change: &Change) -> Vec<String> {
     match (&change.before, &change.after) {
         (None, Some(after)) => {
             let mut all = vec![format!("starts, with handle {}: alive", after.handle.as_raw())];
@@ -197,7 +232,7 @@ fn fields(before: &InstanceState, after: &InstanceState) -> Vec<String> {
 fn times(before: &InstanceState, after: &InstanceState) -> Vec<String> {
     let of = |i: &InstanceState| {
         [
-            ("last sample", i.last_sample_timestamp),
+            ("last sample or marker", i.last_sample_timestamp),
             ("last delivered", i.last_delivered_ts),
             ("last for the filter", i.last_filter_ts),
             ("disposed at", i.disposed_at),
@@ -223,11 +258,15 @@ fn times(before: &InstanceState, after: &InstanceState) -> Vec<String> {
 #[cfg(test)]
 mod tests {
     use super::*;
-    use crate::{day, table};
+    use crate::names::Names;
+    use crate::play::play_text;
+    use crate::random::Days;
+    use crate::table::{Log, Tables};
 
     fn last_line(day: &str, key: &[u8; 16]) -> String {
-        let calls = day::read(day.as_bytes()).expect("a good day");
-        let text = explain(&calls, key).expect("it stands in the day");
+        let (mut explain, mut names) = (Explain::new(*key), Names::default());
+        play_text(day, &mut names, &mut [&mut explain]);
+        let text = explain.text(&names.show(key)).expect("it stands in the day");
         text.lines().last().unwrap_or_default().to_owned()
     }
 
@@ -237,7 +276,8 @@ mod tests {
     fn why_it_is_shown_so() {
         assert_eq!(
             last_line("register pen\nunregister pen\nregister pen", PEN),
-            "pen is shown alive: line 3 (register pen) made it so, and no writer has joined it since."
+            "pen is shown alive: line 3 (register pen) made it so, and no writer has joined it since. \
+             It was shown abandoned once before; `why` counts by what."
         );
         assert_eq!(
             last_line("register pen\nnote_writer pen from a/b\nunregister pen", PEN),
@@ -254,65 +294,25 @@ mod tests {
             "pen is purged: it was abandoned (disposed) since 00:00:01, and line 3 (autopurge at 1s \
              disposed 0s) took it away."
         );
-        assert!(explain(&[], PEN).is_none());
+        assert!(Explain::new(*PEN).text("pen").is_none());
     }
 
     /// Any day is played, shown and explained, and the two agree.
     #[test]
     fn any_day_is_explained() {
-        let lines = [
-            "match a/b kind automatic lease 2s at 1s",
-            "match a/c kind by-participant lease 1s at 2s",
-            "assert a/* manual at 3s",
-            "assert a/c at 4s",
-            "expire at 5s",
-            "lapse at 6s",
-            "part a/b at 7s",
-            "depart a/c",
-            "unmatch a/b",
-            "take_lost",
-            "take_status",
-            "acknowledge alive 1 not-alive -1",
-            "acknowledge alive 2147483647 not-alive 0",
-            "admit pen from a/b at 1s by-source",
-            "admit ink from a/c at 2s now -3s strength 2 deadline 1s limit 1",
-            "admit 0x00000000000000000000000000000000 from a/c at 9s separation never",
-            "register pen holder h at -1s",
-            "ensure_registered_limited ink limit 1",
-            "dispose pen at 3s",
-            "dispose ink",
-            "unregister pen",
-            "unregister ink from a/c at 4s",
-            "note_writer pen from a/c",
-            "drop_writer a/b at 5s",
-            "observe_lifecycle ink",
-            "observe_admitted pen at 5s limit 0",
-            "note_admitted pen from a/b at 6s",
-            "record_delivery ink at 2s",
-            "note_taken pen samples 1",
-            "mark_view_new pen",
-            "drain_samples ink samples 4294967295",
-            "accept_under_exclusive_ownership pen from a/c strength 4 at 1s",
-            "update_owner_strength a/c strength -1",
-            "clear_owner_for_writer a/*",
-            "release_owner_of pen from a/c",
-            "autopurge at 9s disposed 1s no-writers 1s",
-        ];
-        let mut seed = 7_u64;
-        let mut next = move || {
-            seed = seed.wrapping_mul(6_364_136_223_846_793_005).wrapping_add(1);
-            (seed >> 33) as usize
-        };
+        let mut days = Days::new(7);
         for _ in 0..60 {
-            let day: Vec<_> = (0..40).map(|_| lines[next() % lines.len()]).collect();
-            let calls = day::read(day.join("\n").as_bytes()).expect("good lines");
-            let played = play(&calls, |_, _, _| ());
-            assert!(table::tables("day", &played).is_ok());
-            assert_eq!(table::log(&played).lines().count(), 41);
-            for instance in played.state.instances() {
-                let text = explain(&calls, &instance.keyhash).expect("it is there");
-                let shown =
-                    format!("{} is shown {}:", show_key(&instance.keyhash), shown(instance.kind));
+            let (day, mut names) = (days.next_day(40), Names::default());
+            let (mut tables, mut log) = (Tables::default(), Log::default());
+            let state = play_text(&day, &mut names, &mut [&mut tables, &mut log]);
+            assert!(tables.text("day", &state, &names).is_ok());
+            assert_eq!(log.text().lines().count(), 41);
+            for instance in state.instances() {
+                let mut explain = Explain::new(instance.keyhash);
+                play_text(&day, &mut Names::default(), &mut [&mut explain]);
+                let key = names.show(&instance.keyhash);
+                let text = explain.text(&key).expect("it is there");
+                let shown = format!("{key} is shown {}:", shown(instance.kind));
                 assert!(text.lines().last().is_some_and(|l| l.starts_with(&shown)), "{text}");
             }
         }

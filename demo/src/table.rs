@@ -1,9 +1,13 @@
 //! The tables of instances and writers after a day.
 
-use crate::play::{self, Played};
-use crate::words::{show_clock, show_delay, show_guid, show_key, show_time};
+use crate::make::Said;
+use crate::names::Names;
+use crate::play::{Step, Watch};
+use crate::said::{in_words, status};
+use crate::words::{show_clock, show_delay, show_guid, show_time};
 use dcps::{
-    InstanceState, InstanceStateKind, LivelinessKind, Refusal, State, WriterLiveliness, WriterState,
+    Instance, InstanceState, InstanceStateKind, LivelinessKind, Refusal, State, WriterLiveliness,
+    WriterState,
 };
 use std::fmt::Write;
 
@@ -18,64 +22,114 @@ pub fn shown(kind: InstanceStateKind) -> &'static str {
     }
 }
 
-/// The whole of a day: what was refused, instances, what was purged, writers.
-pub fn tables(name: &str, played: &Played<'_>) -> Result<String, Refusal> {
-    let state = &played.state;
-    let mut text = summary(name, played);
-    let _ = writeln!(text, "\nInstances: {}", state.len());
-    text += &instances(state);
-    for purged in &played.purged {
-        let was = shown(purged.kind);
-        let _ = writeln!(
-            text,
-            "  {} was {was} and is purged, in line {}",
-            show_key(&purged.key),
-            purged.call.line
-        );
-    }
-    let _ = writeln!(text, "\nWriters: {}", state.writers().count());
-    text += &writers(state);
-    let _ = writeln!(text, "\nLiveliness: {}", play::status(&state.status()?));
-    Ok(text)
+/// What a day's tables need of its calls.
+#[derive(Default)]
+pub struct Tables {
+    calls: usize,
+    refused: usize,
+    turned_away: usize,
+    abandoned: usize,
+    /// Calls that were refused or turned away, in words.
+    notable: Vec<String>,
+    purged: Vec<String>,
 }
 
-fn summary(name: &str, played: &Played<'_>) -> String {
-    let refused = played.made.iter().filter(|m| m.answer.is_err()).count();
-    let turned_away = played.made.iter().filter(|m| m.turned_away).count();
-    let mut text = format!(
-        "{name}: {} calls, {refused} refused, {turned_away} samples turned away\n",
-        played.made.len()
-    );
-    for made in &played.made {
-        match &made.answer {
+/// So many lines are printed of what can be without end.
+const LINES_KEPT: usize = 40;
+
+impl Watch for Tables {
+    fn see(&mut self, step: &Step<'_>) {
+        self.calls += 1;
+        match step.said {
             Err(refusal) => {
-                let _ = writeln!(text, "  line {}: {}: {refusal}", made.call.line, made.call.text);
+                self.refused += 1;
+                self.note(step, || refusal.to_string());
             }
-            Ok(said) if made.turned_away => {
-                let _ = writeln!(text, "  line {}: {}: {said}", made.call.line, made.call.text);
+            Ok(said @ Said::Admission(admission)) if !admission.is_admitted() => {
+                self.turned_away += 1;
+                self.note(step, || in_words(said, step.state, step.names));
             }
             Ok(_) => {}
         }
+        for (key, before) in &step.changes.instances {
+            self.abandoned += usize::from(is_abandoned(before.as_ref(), step.mirror.instance(key)));
+            if let (Some(before), None) = (before, step.mirror.instance(key)) {
+                let (key, line) = (step.names.show(key), step.call.line);
+                self.purged.push(format!(
+                    "{key} was {} and is purged, in line {line}",
+                    shown(before.kind)
+                ));
+            }
+        }
     }
-    text
+}
+
+/// Whether an instance was alive and is no more.
+pub fn is_abandoned(before: Option<&InstanceState>, after: Option<&InstanceState>) -> bool {
+    let alive = |i: &InstanceState| i.kind == InstanceStateKind::Alive;
+    before.is_some_and(alive) && after.is_some_and(|i| !alive(i))
+}
+
+impl Tables {
+    fn note(&mut self, step: &Step<'_>, said: impl FnOnce() -> String) {
+        if self.notable.len() < LINES_KEPT {
+            self.notable.push(format!("line {}: {}: {}", step.call.line, step.call.text, said()));
+        }
+    }
+
+    /// The whole of a day: what was refused, instances, what was purged, writers.
+    pub fn text(&self, name: &str, state: &State, names: &Names) -> Result<String, Refusal> {
+        let mut text = format!(
+            "{name}: {} calls, {} refused, {} samples turned away, {} abandonments\n",
+            self.calls, self.refused, self.turned_away, self.abandoned
+        );
+        lines(&mut text, &self.notable, self.refused + self.turned_away);
+        let _ = writeln!(text, "\nInstances: {}", state.len());
+        text += &instances(state, names);
+        lines(&mut text, &self.purged, self.purged.len());
+        let _ = writeln!(text, "\nWriters: {}", state.writers().count());
+        text += &writers(state, names);
+        let _ = writeln!(text, "\nLiveliness: {}", status(&state.status()?));
+        Ok(text)
+    }
+}
+
+fn lines(text: &mut String, lines: &[String], all: usize) {
+    let kept = lines.len().min(LINES_KEPT);
+    for line in &lines[..kept] {
+        let _ = writeln!(text, "  {line}");
+    }
+    if all > kept {
+        let _ = writeln!(text, "  … and {} more", all - kept);
+    }
 }
 
 /// Every call with its answer.
-pub fn log(played: &Played<'_>) -> String {
-    let rows = played.made.iter().map(|made| {
-        let answer = match &made.answer {
-            Ok(said) => said.clone(),
-            Err(refusal) => refusal.to_string(),
-        };
-        vec![made.call.line.to_string(), made.call.text.clone(), answer]
-    });
-    columns(&["LINE", "CALL", "ANSWER"], rows.collect())
+#[derive(Default)]
+pub struct Log {
+    rows: Vec<Vec<String>>,
 }
 
-fn instances(state: &State) -> String {
+impl Watch for Log {
+    fn see(&mut self, step: &Step<'_>) {
+        let answer = match step.said {
+            Ok(said) => in_words(said, step.state, step.names),
+            Err(refusal) => refusal.to_string(),
+        };
+        self.rows.push(vec![step.call.line.to_string(), step.call.text.clone(), answer]);
+    }
+}
+
+impl Log {
+    pub fn text(self) -> String {
+        columns(&["LINE", "CALL", "ANSWER"], self.rows)
+    }
+}
+
+fn instances(state: &State, names: &Names) -> String {
     let rows = state.instances().map(|i| {
         vec![
-            show_key(&i.keyhash),
+            names.show(&i.keyhash),
             i.handle.as_raw().to_string(),
             shown(i.kind).to_owned(),
             since(&i),
@@ -89,14 +143,22 @@ fn instances(state: &State) -> String {
             i.last_sample_timestamp.map_or_else(|| NOTHING.to_owned(), show_time),
         ]
     });
-    columns(
-        &["KEY", "HANDLE", "SHOWN", "SINCE", "WRITERS", "OWNER", "SAMPLES", "VIEW", "LAST SAMPLE"],
-        rows.collect(),
-    )
+    let titles = [
+        "KEY",
+        "HANDLE",
+        "SHOWN",
+        "SINCE",
+        "WRITERS",
+        "OWNER",
+        "SAMPLES",
+        "VIEW",
+        "LAST SAMPLE OR MARKER",
+    ];
+    columns(&titles, rows.collect())
 }
 
 /// From when on an instance is abandoned, where a time was given.
-fn since(i: &InstanceState) -> String {
+fn since(i: &Instance<'_>) -> String {
     let at = match i.kind {
         InstanceStateKind::Alive => None,
         InstanceStateKind::NotAliveDisposed => i.disposed_at,
@@ -105,10 +167,10 @@ fn since(i: &InstanceState) -> String {
     at.map_or_else(|| NOTHING.to_owned(), show_time)
 }
 
-fn writers(state: &State) -> String {
+fn writers(state: &State, names: &Names) -> String {
     let rows = state.writers().map(|w| {
         let writes = state.instances().filter(|i| i.writers.contains(&w.guid));
-        let writes = or_nothing(writes.map(|i| show_key(&i.keyhash)).collect());
+        let writes = or_nothing(writes.map(|i| names.show(&i.keyhash)).collect());
         let [kind, lease, asserted] = offered(&w);
         vec![show_guid(&w.guid), liveliness(w.state).to_owned(), kind, lease, asserted, writes]
     });
@@ -150,7 +212,7 @@ fn or_nothing(words: Vec<String>) -> String {
 }
 
 /// Rows in columns as wide as they need; nothing where there are no rows.
-fn columns(titles: &[&str], rows: Vec<Vec<String>>) -> String {
+pub fn columns(titles: &[&str], rows: Vec<Vec<String>>) -> String {
     if rows.is_empty() {
         return String::new();
     }

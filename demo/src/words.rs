@@ -1,7 +1,11 @@
 //! Keys, GUIDs and times as a person writes and reads them.
 
+use crate::dates;
 use dcps::{KeyHash, Time};
 use std::time::Duration;
+
+/// A time or a clock in nanoseconds; both fit, by refusals 4 and 5.
+pub type Moment = i64;
 
 const SECOND: i128 = 1_000_000_000;
 
@@ -44,13 +48,9 @@ fn named<const N: usize>(word: &str) -> Option<[u8; N]> {
     }
 }
 
-pub fn key(word: &str) -> Result<KeyHash, String> {
-    named(word).ok_or_else(|| {
-        format!(
-            "{} is no key: write 1 to 16 characters, or 0x and 32 hexadecimal digits",
-            quoted(word)
-        )
-    })
+/// A key of up to 16 characters or 32 digits.
+pub fn key(word: &str) -> Option<KeyHash> {
+    named(word)
 }
 
 pub fn guid(word: &str) -> Result<[u8; 16], String> {
@@ -96,7 +96,8 @@ fn as_hex(bytes: &[u8]) -> String {
     bytes.iter().fold(String::from("0x"), |digits, byte| digits + &format!("{byte:02x}"))
 }
 
-pub fn show_key(key: &KeyHash) -> String {
+/// A key that no long name stands for.
+pub fn show_short_key(key: &KeyHash) -> String {
     as_text(key).map_or_else(|| as_hex(key), str::to_owned)
 }
 
@@ -126,21 +127,34 @@ fn decimal(word: &str, unit: i128) -> Option<i128> {
     (scaled % parts == 0).then_some(scaled / parts)
 }
 
-/// Nanoseconds of `3s`, `2.5s`, `250ms`, `10m`, `8h`, `08:15` or `08:15:30.5`, with a minus or without.
+/// Nanoseconds of `08:15` or `08:15:30.5`.
+fn of_day(word: &str) -> Option<i128> {
+    let mut parts = word.splitn(3, ':');
+    let hours = decimal(parts.next()?, 1)?;
+    let minutes = decimal(parts.next()?, 1).filter(|m| *m < 60)?;
+    let seconds =
+        parts.next().map_or(Some(0), |s| decimal(s, SECOND)).filter(|s| *s < 60 * SECOND)?;
+    hours.checked_mul(3_600)?.checked_mul(SECOND)?.checked_add(minutes * 60 * SECOND + seconds)
+}
+
+/// Nanoseconds since 1970 of `2026-11-15`, with `T08:15` behind it or without.
+fn date(word: &str) -> Option<i128> {
+    let (date, time) = word.split_once(['T', ' ']).unwrap_or((word, "00:00"));
+    let days = i128::from(dates::days(date)?);
+    let time = of_day(time.trim_end_matches('Z')).filter(|t| *t < 86_400 * SECOND)?;
+    Some(days * 86_400 * SECOND + time)
+}
+
+/// Nanoseconds of `3s`, `2.5s`, `250ms`, `10m`, `8h`, a time of day or a date, with a minus or without.
 fn nanos(word: &str) -> Option<i128> {
     if let Some(rest) = word.strip_prefix('-') {
         return (!rest.starts_with('-')).then(|| nanos(rest).map(|n| -n))?;
     }
+    if dates::is_date(word) {
+        return date(word);
+    }
     if word.contains(':') {
-        let mut parts = word.splitn(3, ':');
-        let hours = decimal(parts.next()?, 1)?;
-        let minutes = decimal(parts.next()?, 1).filter(|m| *m < 60)?;
-        let seconds =
-            parts.next().map_or(Some(0), |s| decimal(s, SECOND)).filter(|s| *s < 60 * SECOND)?;
-        return hours
-            .checked_mul(3_600)?
-            .checked_mul(SECOND)?
-            .checked_add(minutes * 60 * SECOND + seconds);
+        return of_day(word);
     }
     let units = [
         ("ns", 1),
@@ -155,7 +169,10 @@ fn nanos(word: &str) -> Option<i128> {
 
 fn span(word: &str) -> Result<i128, String> {
     nanos(word).ok_or_else(|| {
-        format!("{} is no time: write as 3s, 2.5s, 250ms, 10m, 08:15 or 08:15:30", quoted(word))
+        format!(
+            "{} is no time: write it as 3s, 2.5s, 250ms, 10m, 08:15, 08:15:30 or 2026-11-15 08:15 (1974 to 2037)",
+            quoted(word)
+        )
     })
 }
 
@@ -193,21 +210,54 @@ fn show_fraction(nanos: u32) -> String {
     digits.trim_end_matches('0').to_owned()
 }
 
-fn show_clock_nanos(nanos: i128) -> String {
+/// The hour, or date and hour where it is so late that a date was meant.
+pub fn show_moment(moment: Moment) -> String {
+    let nanos = i128::from(moment);
     let sign = if nanos < 0 { "-" } else { "" };
-    let nanos = nanos.abs();
-    let seconds = nanos / SECOND;
+    let seconds = nanos.abs() / SECOND;
+    let fraction = show_fraction((nanos.abs() % SECOND) as u32);
+    let (date, seconds) = match i64::try_from(nanos.div_euclid(SECOND)) {
+        Ok(s) if s >= dates::FIRST_SHOWN => {
+            (format!("{} ", dates::show(s / 86_400)), i128::from(s % 86_400))
+        }
+        _ => (String::new(), seconds),
+    };
     let (hours, minutes) = (seconds / 3_600, seconds / 60 % 60);
-    let fraction = show_fraction((nanos % SECOND) as u32);
-    format!("{sign}{hours:02}:{minutes:02}:{:02}{fraction}", seconds % 60)
+    format!("{date}{sign}{hours:02}:{minutes:02}:{:02}{fraction}", seconds % 60)
+}
+
+pub fn moment_of_time(time: Time) -> Moment {
+    i64::from(time.sec) * SECOND as i64 + i64::from(time.nanosec)
+}
+
+pub fn moment_of_clock(clock: Duration) -> Moment {
+    i64::try_from(clock.as_nanos()).unwrap_or(i64::MAX)
 }
 
 pub fn show_time(time: Time) -> String {
-    show_clock_nanos(i128::from(time.sec) * SECOND + i128::from(time.nanosec))
+    show_moment(moment_of_time(time))
 }
 
 pub fn show_clock(clock: Duration) -> String {
-    show_clock_nanos(clock.as_nanos() as i128)
+    show_moment(moment_of_clock(clock))
+}
+
+/// A span of time as it is said: `9 min`, `1 h 20 min`, `1.5 s`.
+pub fn spoken(span: Moment) -> String {
+    let span = span.max(0);
+    let (seconds, fraction) = (span / SECOND as i64, (span % SECOND as i64) as u32);
+    let (days, hours, minutes) = (seconds / 86_400, seconds / 3_600 % 24, seconds / 60 % 60);
+    let mut parts = Vec::new();
+    for (number, unit) in [(days, "d"), (hours, "h"), (minutes, "min")] {
+        if number != 0 {
+            parts.push(format!("{number} {unit}"));
+        }
+    }
+    if parts.is_empty() || seconds % 60 != 0 || fraction != 0 {
+        parts.push(format!("{}{} s", seconds % 60, show_fraction(fraction)));
+    }
+    parts.truncate(2);
+    parts.join(" ")
 }
 
 pub fn show_delay(delay: Duration) -> String {
@@ -226,13 +276,13 @@ mod tests {
     #[test]
     fn names_come_back_as_written() {
         for word in ["pen-01", "a", "sixteen-letters!", "0x00112233445566778899aabbccddeeff"] {
-            assert_eq!(key(word).map(|k| show_key(&k)), Ok(word.to_owned()));
+            assert_eq!(key(word).map(|k| show_short_key(&k)), Some(word.to_owned()));
         }
         for word in ["press-1/w1", "a/b", "0x00112233445566778899aabbccddeeff"] {
             assert_eq!(guid(word).map(|g| show_guid(&g)), Ok(word.to_owned()));
         }
         for word in ["", "seventeen-letters", "0x12", "ключ"] {
-            assert!(key(word).is_err(), "{word}");
+            assert!(key(word).is_none(), "{word}");
         }
         for word in ["press-1", "/w1", "press-1/", "press-1/*", "a/b/c", "0x12", "thirteen-long/w"]
         {
@@ -242,6 +292,32 @@ mod tests {
         assert!(participant("a/b").is_none());
         assert!(participant("/*").is_some_and(|p| p.is_err()));
     }
+
+    const NO_TIMES: &[&str] = &[
+        "",
+        "2026-02-29",
+        "2026-13-01",
+        "2026-11-15T24:00",
+        "1970-01-01",
+        "2038-01-19",
+        "s",
+        "3",
+        "3.s",
+        ".5s",
+        "--3s",
+        "3x",
+        "08:60",
+        "08:15:60",
+        ":15",
+        "08:",
+        "1.5ns",
+        "2147483648s",
+        "99999999999999999999999s",
+        "9999999999999999h",
+        "08:15:30:1",
+        "3 s",
+        "∞",
+    ];
 
     #[test]
     fn times_are_exact() {
@@ -254,26 +330,10 @@ mod tests {
         assert_eq!(time("08:15"), at(29_700, 0));
         assert_eq!(time("08:15:30.25"), at(29_730, 250_000_000));
         assert_eq!(time("2147483647s"), at(i32::MAX, 0));
-        for word in [
-            "",
-            "s",
-            "3",
-            "3.s",
-            ".5s",
-            "--3s",
-            "3x",
-            "08:60",
-            "08:15:60",
-            ":15",
-            "08:",
-            "1.5ns",
-            "2147483648s",
-            "99999999999999999999999s",
-            "9999999999999999h",
-            "08:15:30:1",
-            "3 s",
-            "∞",
-        ] {
+        assert_eq!(time("2026-11-15T08:15"), at(1_794_730_500, 0));
+        assert_eq!(time("2026-11-15T08:15:30.5Z"), at(1_794_730_530, 500_000_000));
+        assert_eq!(time("2024-02-29"), at(1_709_164_800, 0));
+        for word in NO_TIMES {
             assert!(time(word).is_err(), "{word}");
         }
         assert!(duration("-1s").is_err());
@@ -288,5 +348,10 @@ mod tests {
         assert_eq!(show_delay(Duration::from_secs(600)), "10m");
         assert_eq!(show_delay(Duration::from_millis(1_500)), "1.5s");
         assert_eq!(show_delay(Duration::ZERO), "0s");
+        assert_eq!(show_time(Time { sec: 1_794_730_530, nanosec: 0 }), "2026-11-15 08:15:30");
+        assert_eq!(spoken(540 * SECOND as i64), "9 min");
+        assert_eq!(spoken(4_800 * SECOND as i64), "1 h 20 min");
+        assert_eq!(spoken(1_500_000_000), "1.5 s");
+        assert_eq!(spoken(0), "0 s");
     }
 }

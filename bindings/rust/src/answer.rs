@@ -43,7 +43,9 @@ pub struct Answer {
 }
 
 impl Answer {
-    pub(crate) fn of(b: &[u8; ANSWER_BYTES]) -> Self {
+    /// The answer of the 72 bytes that include/dcps.h describes, of a call that is accepted.
+    #[must_use]
+    pub fn from_bytes(b: &[u8; ANSWER_BYTES]) -> Self {
         Self {
             outcome: b[1],
             yes: b[2] != 0,

@@ -1,72 +1,18 @@
 //! The C boundary, as include/dcps.h has it. Fixed lengths here are why no call of this crate can be refused as 1.
 
 use crate::layout::{
-    i32_at, u32_at, u64_at, ANSWER_BYTES, HEAD_BYTES, LOST_BYTES, OUT_BYTES, PENS_BYTES,
-    READ_BYTES, SHEET_BYTES, WRITERS_BYTES,
+    i32_at, u32_at, u64_at, ANSWER_BYTES, HEAD_BYTES, OUT_BYTES, PENS_BYTES, READ_BYTES,
+    SHEET_BYTES,
 };
-use crate::state::refusal;
+use crate::state::{refusal, Lent};
 use crate::{InstanceHandle, Refusal, Time};
 
-mod c {
-    extern "C" {
-        pub fn dcps_call(
-            head: *mut u8,
-            head_len: usize,
-            sheet: *const u8,
-            sheet_len: usize,
-            pens: *mut u8,
-            pens_len: usize,
-            writers: *mut u8,
-            writers_len: usize,
-            lost: *mut u8,
-            lost_len: usize,
-            out: *mut u8,
-            out_len: usize,
-            answer: *mut u8,
-            answer_len: usize,
-        ) -> u32;
-        pub fn dcps_fresh(
-            head: *mut u8,
-            head_len: usize,
-            pens: *mut u8,
-            pens_len: usize,
-            writers: *mut u8,
-            writers_len: usize,
-            lost: *mut u8,
-            lost_len: usize,
-        ) -> u32;
-        pub fn dcps_status(
-            head: *const u8,
-            head_len: usize,
-            answer: *mut u8,
-            answer_len: usize,
-        ) -> u32;
-        pub fn dcps_left_writerless(
-            pens: *const u8,
-            pens_len: usize,
-            gone: *const u8,
-            gone_len: usize,
-            view_states: u32,
-            out: *mut u8,
-            out_len: usize,
-            answer: *mut u8,
-            answer_len: usize,
-        ) -> u32;
-    }
-}
-
-/// The state and Out, as they are lent with a call.
-#[derive(Clone)]
-pub(crate) struct Lent {
-    pub head: [u8; HEAD_BYTES],
-    pub pens: [u8; PENS_BYTES],
-    pub writers: [u8; WRITERS_BYTES],
-    pub lost: [u8; LOST_BYTES],
-    pub out: [u8; OUT_BYTES],
-}
+#[allow(dead_code)]
+#[path = "c.rs"]
+mod c;
 
 /// The number and the answer of a call.
-pub(crate) fn call(lent: &mut Lent, sheet: &[u8; SHEET_BYTES]) -> (u32, [u8; ANSWER_BYTES]) {
+pub(crate) fn call(lent: Lent<'_>, sheet: &[u8; SHEET_BYTES]) -> (u32, [u8; ANSWER_BYTES]) {
     let mut answer = [0; ANSWER_BYTES];
     // SAFETY: each pointer comes from a borrow of that many bytes, and no two of them overlap.
     let number = unsafe {
@@ -91,7 +37,7 @@ pub(crate) fn call(lent: &mut Lent, sheet: &[u8; SHEET_BYTES]) -> (u32, [u8; ANS
 }
 
 /// Head and buffers become those of the fresh state.
-pub(crate) fn fresh(lent: &mut Lent) -> u32 {
+pub(crate) fn fresh(lent: Lent<'_>) -> u32 {
     // SAFETY: as in `call`.
     unsafe {
         c::dcps_fresh(
@@ -158,15 +104,10 @@ macro_rules! reads {
     ($($name:ident = $symbol:ident($($lent:ident: $bytes:ty),*; $($value:ident: $type:ty),*);)*) => {
         $(
             pub(crate) fn $name($($lent: $bytes,)* $($value: $type),*) -> Result<Read, Refusal> {
-                extern "C" {
-                    fn $symbol(
-                        $($lent: *const u8, _: usize,)* $($value: $type,)* answer: *mut u8, answer_len: usize,
-                    ) -> u32;
-                }
                 // SAFETY: each pointer comes from a borrow of that many bytes, and what is written overlaps with
                 // nothing else.
                 read(|answer, length| unsafe {
-                    $symbol($($lent.as_ptr(), $lent.len(),)* $($value,)* answer, length)
+                    c::$symbol($($lent.as_ptr(), $lent.len(),)* $($value,)* answer, length)
                 })
             }
         )*
@@ -217,4 +158,10 @@ pub(crate) fn status(head: &[u8; HEAD_BYTES]) -> (u32, [u8; ANSWER_BYTES]) {
     let number =
         unsafe { c::dcps_status(head.as_ptr(), head.len(), answer.as_mut_ptr(), answer.len()) };
     (number, answer)
+}
+
+/// The version of the library.
+pub(crate) fn version() -> u32 {
+    // SAFETY: nothing is lent.
+    unsafe { c::dcps_version() }
 }

@@ -4,11 +4,13 @@
 //! Copyright 2026 ZeroDDS Contributors. SPDX-License-Identifier: Apache-2.0. Changed: written anew, each call
 //! by a sheet to the library, and refusals answered.
 
-use crate::sheet::{delay, Sheet};
-use crate::{InstanceHandle, InstanceStateKind, KeyHash, Refusal, State, Time};
+use crate::state::Buffers;
+use crate::{InstanceHandle, InstanceStateKind, KeyHash, Refusal, Sheet, State, Time};
+#[cfg(feature = "alloc")]
+use alloc::vec::Vec;
 
 /// Calls on the instances.
-impl State {
+impl<B: Buffers> State<B> {
     /// An instance is registered: made known or brought back, its registrations one more, its holder
     /// replaced (DDS 1.4, 2.2.2.4.2.5). Bringing it back does not make it new to the reader.
     ///
@@ -24,11 +26,10 @@ impl State {
     pub fn register(
         &mut self,
         keyhash: KeyHash,
-        key_holder: Vec<u8>,
+        key_holder: impl AsRef<[u8]>,
         timestamp: Option<Time>,
     ) -> Result<InstanceHandle, Refusal> {
-        let sheet = Sheet::of(1).key(&keyhash).holder(&key_holder).optional_time1(timestamp);
-        Ok(self.make(&sheet)?.handle)
+        Ok(self.call(&Sheet::register(&keyhash, key_holder.as_ref(), timestamp))?.handle)
     }
 
     /// An instance is made known or brought back, with one registration at least; none where it is new and
@@ -47,7 +48,7 @@ impl State {
         keyhash: KeyHash,
         max_instances: i32,
     ) -> Result<Option<InstanceHandle>, Refusal> {
-        Ok(self.make(&Sheet::of(2).key(&keyhash).limit(max_instances))?.found())
+        Ok(self.call(&Sheet::ensure_registered_limited(&keyhash, max_instances))?.found())
     }
 
     /// An instance is disposed (DDS 1.4, 2.2.2.4.2.10). No where the handle is unknown.
@@ -69,7 +70,7 @@ impl State {
         handle: InstanceHandle,
         timestamp: Option<Time>,
     ) -> Result<bool, Refusal> {
-        Ok(self.make(&Sheet::of(3).handle(handle).optional_time1(timestamp))?.yes)
+        Ok(self.call(&Sheet::dispose(handle, timestamp))?.yes)
     }
 
     /// One registration fewer; without any, an instance that is not disposed has no writers
@@ -92,7 +93,7 @@ impl State {
         handle: InstanceHandle,
         timestamp: Option<Time>,
     ) -> Result<bool, Refusal> {
-        Ok(self.make(&Sheet::of(4).handle(handle).optional_time1(timestamp))?.yes)
+        Ok(self.call(&Sheet::unregister(handle, timestamp))?.yes)
     }
 
     /// A writer unregistered an instance and leaves its set; an alive one whose set is then empty has no
@@ -117,8 +118,7 @@ impl State {
         writer: [u8; 16],
         timestamp: Option<Time>,
     ) -> Result<bool, Refusal> {
-        let sheet = Sheet::of(5).handle(handle).guid(&writer).optional_time1(timestamp);
-        Ok(self.make(&sheet)?.yes)
+        Ok(self.call(&Sheet::unregister_writer(handle, &writer, timestamp))?.yes)
     }
 
     /// A writer writes an instance: it joins its set.
@@ -133,7 +133,7 @@ impl State {
     /// # Ok::<(), dcps::Refusal>(())
     /// ```
     pub fn note_writer(&mut self, handle: InstanceHandle, writer: [u8; 16]) -> Result<(), Refusal> {
-        self.make(&Sheet::of(6).handle(handle).guid(&writer))?;
+        self.call(&Sheet::note_writer(handle, &writer))?;
         Ok(())
     }
 
@@ -149,13 +149,14 @@ impl State {
     /// assert_eq!(state.drop_writer(&[9; 16], None)?, [handle]);
     /// # Ok::<(), dcps::Refusal>(())
     /// ```
+    #[cfg(feature = "alloc")]
     pub fn drop_writer(
         &mut self,
         writer: &[u8; 16],
         timestamp: Option<Time>,
     ) -> Result<Vec<InstanceHandle>, Refusal> {
-        let answer = self.make(&Sheet::of(7).guid(writer).optional_time1(timestamp))?;
-        Ok(self.listed_handles(answer.listed))
+        let answer = self.call(&Sheet::drop_writer(writer, timestamp))?;
+        Ok(self.listed_handles(answer.listed).collect())
     }
 
     /// The instance of a dispose or unregister marker, made known and counted, but not brought back.
@@ -171,14 +172,10 @@ impl State {
     pub fn observe_lifecycle(
         &mut self,
         keyhash: KeyHash,
-        key_holder: Option<Vec<u8>>,
+        key_holder: Option<&[u8]>,
         timestamp: Option<Time>,
     ) -> Result<InstanceHandle, Refusal> {
-        let sheet = Sheet::of(8)
-            .key(&keyhash)
-            .optional_holder(key_holder.as_deref())
-            .optional_time1(timestamp);
-        Ok(self.make(&sheet)?.handle)
+        Ok(self.call(&Sheet::observe_lifecycle(&keyhash, key_holder, timestamp))?.handle)
     }
 
     /// A sample of an instance that is known or has room: made known or brought back, and counted. Its
@@ -197,18 +194,18 @@ impl State {
     /// assert_eq!(state.observe_admitted([2; 16], Vec::new, Time::ZERO, 1)?, None);
     /// # Ok::<(), dcps::Refusal>(())
     /// ```
-    pub fn observe_admitted(
+    pub fn observe_admitted<H: AsRef<[u8]>>(
         &mut self,
         keyhash: KeyHash,
-        key_holder: impl FnOnce() -> Vec<u8>,
+        key_holder: impl FnOnce() -> H,
         timestamp: Time,
         max_instances: i32,
     ) -> Result<Option<(InstanceHandle, u32)>, Refusal> {
-        let stored = self.get_by_keyhash(&keyhash).is_some_and(|i| i.key_holder.is_some());
-        let holder = if stored { Vec::new() } else { key_holder() };
-        let sheet =
-            Sheet::of(9).key(&keyhash).holder(&holder).time1(timestamp).limit(max_instances);
-        let answer = self.make(&sheet)?;
+        let stored = self.instance_of_key(&keyhash).is_some_and(|i| i.key_holder.is_some());
+        let holder = (!stored).then(key_holder);
+        let holder = holder.as_ref().map_or(&[][..], |holder| holder.as_ref());
+        let answer =
+            self.call(&Sheet::observe_admitted(&keyhash, holder, timestamp, max_instances))?;
         Ok(answer.found().map(|handle| (handle, answer.samples)))
     }
 
@@ -234,8 +231,7 @@ impl State {
         filter_ts: Time,
         writer: [u8; 16],
     ) -> Result<Option<(bool, InstanceStateKind, i32, i32)>, Refusal> {
-        let sheet = Sheet::of(10).key(keyhash).time1(order_ts).time2(filter_ts).guid(&writer);
-        let a = self.make(&sheet)?;
+        let a = self.call(&Sheet::note_admitted(keyhash, order_ts, filter_ts, &writer))?;
         let state =
             (a.view_new, a.kind, a.disposed_generation_count, a.no_writers_generation_count);
         Ok(a.present.then_some(state))
@@ -256,7 +252,7 @@ impl State {
     /// # Ok::<(), dcps::Refusal>(())
     /// ```
     pub fn record_delivery(&mut self, keyhash: &KeyHash, sample_ts: Time) -> Result<(), Refusal> {
-        self.make(&Sheet::of(11).key(keyhash).time1(sample_ts))?;
+        self.call(&Sheet::record_delivery(keyhash, sample_ts))?;
         Ok(())
     }
 
@@ -271,7 +267,7 @@ impl State {
     /// # Ok::<(), dcps::Refusal>(())
     /// ```
     pub fn note_taken(&mut self, handle: InstanceHandle, n: u32) -> Result<(), Refusal> {
-        self.make(&Sheet::of(12).handle(handle).n(n))?;
+        self.call(&Sheet::note_taken(handle, n))?;
         Ok(())
     }
 
@@ -285,7 +281,7 @@ impl State {
     /// # Ok::<(), dcps::Refusal>(())
     /// ```
     pub fn mark_view_seen(&mut self, handle: InstanceHandle) -> Result<(), Refusal> {
-        self.make(&Sheet::of(13).handle(handle))?;
+        self.call(&Sheet::mark_view_seen(handle))?;
         Ok(())
     }
 
@@ -299,7 +295,7 @@ impl State {
     /// # Ok::<(), dcps::Refusal>(())
     /// ```
     pub fn mark_view_new(&mut self, keyhash: &KeyHash) -> Result<bool, Refusal> {
-        Ok(self.make(&Sheet::of(14).key(keyhash))?.yes)
+        Ok(self.call(&Sheet::mark_view_new(keyhash))?.yes)
     }
 
     /// So many samples of an instance fewer.
@@ -312,7 +308,7 @@ impl State {
     /// # Ok::<(), dcps::Refusal>(())
     /// ```
     pub fn drain_samples(&mut self, handle: InstanceHandle, n: u32) -> Result<(), Refusal> {
-        self.make(&Sheet::of(15).handle(handle).n(n))?;
+        self.call(&Sheet::drain_samples(handle, n))?;
         Ok(())
     }
 
@@ -342,13 +338,14 @@ impl State {
         now: Time,
         deadline_nanos: Option<u128>,
     ) -> Result<bool, Refusal> {
-        let sheet = Sheet::of(16)
-            .key(keyhash)
-            .guid(&writer_guid)
-            .strength(writer_strength)
-            .time2(now)
-            .deadline(deadline_nanos);
-        Ok(self.make(&sheet)?.yes)
+        let sheet = Sheet::accept_under_exclusive_ownership(
+            keyhash,
+            &writer_guid,
+            writer_strength,
+            now,
+            deadline_nanos,
+        );
+        Ok(self.call(&sheet)?.yes)
     }
 
     /// [`State::accept_under_exclusive_ownership`] at second 0 and without a deadline.
@@ -391,7 +388,7 @@ impl State {
         writer: [u8; 16],
         strength: i32,
     ) -> Result<(), Refusal> {
-        self.make(&Sheet::of(17).guid(&writer).strength(strength))?;
+        self.call(&Sheet::update_owner_strength(&writer, strength))?;
         Ok(())
     }
 
@@ -405,7 +402,7 @@ impl State {
     /// # Ok::<(), dcps::Refusal>(())
     /// ```
     pub fn clear_owner_for_writer(&mut self, writer_guid: [u8; 16]) -> Result<usize, Refusal> {
-        Ok(self.make(&Sheet::of(18).guid(&writer_guid))?.count as usize)
+        Ok(self.call(&Sheet::clear_owner_for_writer(&writer_guid))?.count as usize)
     }
 
     /// The writers of a participant give up the instances they own; their number.
@@ -418,7 +415,7 @@ impl State {
     /// # Ok::<(), dcps::Refusal>(())
     /// ```
     pub fn clear_owner_for_writer_prefix(&mut self, prefix: [u8; 12]) -> Result<usize, Refusal> {
-        Ok(self.make(&Sheet::of(19).prefix(prefix))?.count as usize)
+        Ok(self.call(&Sheet::clear_owner_for_writer_prefix(prefix))?.count as usize)
     }
 
     /// A writer gives up an instance; yes if it owned it.
@@ -436,7 +433,7 @@ impl State {
         keyhash: &KeyHash,
         writer: [u8; 16],
     ) -> Result<bool, Refusal> {
-        Ok(self.make(&Sheet::of(20).key(keyhash).guid(&writer))?.yes)
+        Ok(self.call(&Sheet::release_owner_of(keyhash, &writer))?.yes)
     }
 
     /// Instances that were disposed, or without writers, for their delay go (DDS 1.4, 2.2.3.22); their
@@ -461,10 +458,8 @@ impl State {
         autopurge_disposed_delay_nanos: u128,
         autopurge_nowriter_delay_nanos: u128,
     ) -> Result<usize, Refusal> {
-        let sheet = Sheet::of(21)
-            .time2(now)
-            .a(delay(autopurge_disposed_delay_nanos))
-            .b(delay(autopurge_nowriter_delay_nanos));
-        Ok(self.make(&sheet)?.count as usize)
+        let sheet =
+            Sheet::autopurge(now, autopurge_disposed_delay_nanos, autopurge_nowriter_delay_nanos);
+        Ok(self.call(&sheet)?.count as usize)
     }
 }

@@ -1,8 +1,9 @@
 //! The joined calls, 48 to 51: what a reader does for a sample, for the clock and for a writer that leaves.
 
-use crate::sheet::{delay, Sheet};
-use crate::{InstanceHandle, InstanceStateKind, KeyHash, Refusal, State, Time};
-use std::time::Duration;
+use crate::state::Buffers;
+use crate::{InstanceHandle, InstanceStateKind, KeyHash, Refusal, Sheet, State, Time};
+#[cfg(feature = "alloc")]
+use {alloc::vec::Vec, core::time::Duration};
 
 /// A received sample, with what the reader asks of it, for [`State::admit`].
 ///
@@ -13,11 +14,11 @@ use std::time::Duration;
 /// assert_eq!((sample.filter_ts, sample.max_instances), (sample.order_ts, -1));
 /// ```
 #[derive(Debug, Clone, PartialEq, Eq)]
-pub struct Sample {
+pub struct Sample<'a> {
     /// The instance.
     pub keyhash: KeyHash,
     /// The serialized key; kept where the instance has none stored.
-    pub key_holder: Vec<u8>,
+    pub key_holder: &'a [u8],
     /// The writer.
     pub writer: [u8; 16],
     /// The strength that it writes with.
@@ -36,7 +37,7 @@ pub struct Sample {
     pub max_instances: i32,
 }
 
-impl Sample {
+impl Sample<'_> {
     /// A sample of one time, from a reader that asks nothing of it.
     ///
     /// ```
@@ -50,7 +51,7 @@ impl Sample {
     pub fn new(keyhash: KeyHash, writer: [u8; 16], time: Time) -> Self {
         Self {
             keyhash,
-            key_holder: Vec::new(),
+            key_holder: &[],
             writer,
             strength: 0,
             order_ts: time,
@@ -104,6 +105,7 @@ impl Admission {
 }
 
 /// What [`State::lapse`] did.
+#[cfg(feature = "alloc")]
 #[derive(Debug, Clone, PartialEq, Eq)]
 pub struct Lapse {
     /// Whether a writer expired.
@@ -117,6 +119,7 @@ pub struct Lapse {
 }
 
 /// What [`State::part`] or [`State::depart`] did.
+#[cfg(feature = "alloc")]
 #[derive(Debug, Clone, PartialEq, Eq)]
 pub struct Parting {
     /// Whether a liveliness count moved.
@@ -128,7 +131,7 @@ pub struct Parting {
 }
 
 /// Calls on instances and writers together.
-impl State {
+impl<B: Buffers> State<B> {
     /// A sample came in: destination order, filter, limit and ownership are asked in this order, and then
     /// it is counted in its instance, with its writer.
     ///
@@ -145,19 +148,8 @@ impl State {
     /// assert_eq!(state.admit(&sample)?, Admission::TimeBasedFilter);
     /// # Ok::<(), dcps::Refusal>(())
     /// ```
-    pub fn admit(&mut self, sample: &Sample) -> Result<Admission, Refusal> {
-        let sheet = Sheet::of(48)
-            .key(&sample.keyhash)
-            .holder(&sample.key_holder)
-            .guid(&sample.writer)
-            .strength(sample.strength)
-            .time1(sample.order_ts)
-            .time2(sample.filter_ts)
-            .by_source(sample.by_source_timestamp)
-            .a(delay(sample.min_separation_nanos))
-            .deadline(sample.deadline_nanos)
-            .limit(sample.max_instances);
-        let answer = self.make(&sheet)?;
+    pub fn admit(&mut self, sample: &Sample<'_>) -> Result<Admission, Refusal> {
+        let answer = self.call(&Sheet::admit(sample))?;
         Ok(match answer.outcome {
             0 => Admission::Admitted {
                 handle: answer.handle,
@@ -191,12 +183,13 @@ impl State {
     /// assert_eq!(lapse.writerless, [state.lookup(&[1; 16]).expect("it is there")]);
     /// # Ok::<(), dcps::Refusal>(())
     /// ```
+    #[cfg(feature = "alloc")]
     pub fn lapse(&mut self, now: Duration, timestamp: Option<Time>) -> Result<Lapse, Refusal> {
-        let answer = self.make(&Sheet::of(49).clock(now).optional_time1(timestamp))?;
+        let answer = self.call(&Sheet::lapse(now, timestamp))?;
         Ok(Lapse {
             changed: answer.yes,
             next_due: answer.next_due.map(Duration::from_nanos),
-            writerless: self.listed_handles(answer.listed),
+            writerless: self.listed_handles(answer.listed).collect(),
             owners_cleared: answer.count as usize,
         })
     }
@@ -215,8 +208,9 @@ impl State {
     /// assert_eq!(parting.writerless.len(), 1);
     /// # Ok::<(), dcps::Refusal>(())
     /// ```
+    #[cfg(feature = "alloc")]
     pub fn part(&mut self, writer: [u8; 16], timestamp: Option<Time>) -> Result<Parting, Refusal> {
-        self.parting(50, writer, timestamp)
+        self.parting(&Sheet::part(&writer, timestamp))
     }
 
     /// [`State::lost_with_participant`], and then as [`State::part`].
@@ -233,24 +227,21 @@ impl State {
     /// assert_eq!(state.head().not_alive, 1);
     /// # Ok::<(), dcps::Refusal>(())
     /// ```
+    #[cfg(feature = "alloc")]
     pub fn depart(
         &mut self,
         writer: [u8; 16],
         timestamp: Option<Time>,
     ) -> Result<Parting, Refusal> {
-        self.parting(51, writer, timestamp)
+        self.parting(&Sheet::depart(&writer, timestamp))
     }
 
-    fn parting(
-        &mut self,
-        code: u8,
-        writer: [u8; 16],
-        timestamp: Option<Time>,
-    ) -> Result<Parting, Refusal> {
-        let answer = self.make(&Sheet::of(code).guid(&writer).optional_time1(timestamp))?;
+    #[cfg(feature = "alloc")]
+    fn parting(&mut self, sheet: &Sheet) -> Result<Parting, Refusal> {
+        let answer = self.call(sheet)?;
         Ok(Parting {
             changed: answer.yes,
-            writerless: self.listed_handles(answer.listed),
+            writerless: self.listed_handles(answer.listed).collect(),
             owners_cleared: answer.count as usize,
         })
     }

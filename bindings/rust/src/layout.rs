@@ -44,13 +44,16 @@ pub(crate) fn put(b: &mut [u8], at: usize, bytes: &[u8]) {
 }
 
 /// The first handles of an Out.
-pub(crate) fn handles(out: &[u8; OUT_BYTES], listed: u32) -> Vec<InstanceHandle> {
+pub(crate) fn handles(
+    out: &[u8; OUT_BYTES],
+    listed: u32,
+) -> impl Iterator<Item = InstanceHandle> + '_ {
     let entries = out.chunks_exact(HANDLE_BYTES).take(listed as usize);
-    entries.map(|entry| InstanceHandle::from_raw(u64_at(entry, 0))).collect()
+    entries.map(|entry| InstanceHandle::from_raw(u64_at(entry, 0)))
 }
 
-/// The first GUIDs of an Out or of Lost.
-pub(crate) fn guids(list: &[u8; OUT_BYTES], listed: u32) -> Vec<[u8; GUID_BYTES]> {
-    let entries = list.chunks_exact(GUID_BYTES).take(listed as usize);
-    entries.map(|entry| array_at(entry, 0)).collect()
+/// The first GUIDs of a list; all of them where it has no more.
+pub(crate) fn guids(list: &[u8], listed: usize) -> &[[u8; GUID_BYTES]] {
+    let (guids, _) = list.as_chunks();
+    &guids[..listed.min(guids.len())]
 }

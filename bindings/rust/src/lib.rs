@@ -1,47 +1,93 @@
-#![cfg_attr(dcps_library, doc = include_str!("../README.md"))]
-#![cfg_attr(dcps_library, warn(missing_docs))]
+#![cfg_attr(not(feature = "std"), no_std)]
+#![cfg_attr(feature = "std", doc = include_str!("../README.md"))]
+#![cfg_attr(
+    not(feature = "std"),
+    doc = "The proved DDS trackers, over the static library libdcps_c.a."
+)]
+#![warn(missing_docs)]
+// Without its features the crate lacks what some of its documentation leads to.
+#![cfg_attr(not(feature = "std"), allow(rustdoc::broken_intra_doc_links))]
 
-// Without the library the crate is empty: there is nothing that it could call.
-#[cfg(dcps_library)]
+#[cfg(not(any(dcps_library, doc)))]
+compile_error!(
+    "libdcps_c.a is not there: run `rt staticlib dcps_c`, or name the directory that has it in DCPS_LIB_DIR"
+);
+
+#[cfg(feature = "alloc")]
+extern crate alloc;
+#[cfg(feature = "alloc")]
+use alloc::vec::Vec;
+
 mod answer;
-#[cfg(dcps_library)]
 mod ffi;
-#[cfg(dcps_library)]
 mod instances;
-#[cfg(dcps_library)]
 mod joined;
-#[cfg(dcps_library)]
+pub mod keep;
 mod layout;
-#[cfg(dcps_library)]
 mod liveliness;
-#[cfg(dcps_library)]
 mod reads;
-#[cfg(dcps_library)]
 mod refusal;
-#[cfg(dcps_library)]
 mod sheet;
-#[cfg(dcps_library)]
 mod snapshot;
-#[cfg(dcps_library)]
 mod state;
-#[cfg(dcps_library)]
+#[cfg(feature = "std")]
+mod trackers;
 mod types;
 
-#[cfg(dcps_library)]
 pub use {
     answer::Answer,
-    joined::{Admission, Lapse, Parting, Sample},
+    joined::{Admission, Sample},
     reads::Walker,
     refusal::Refusal,
-    snapshot::{InstanceState, WriterLiveliness, WriterState},
-    state::{Head, State},
+    sheet::Sheet,
+    snapshot::{Instance, WriterLiveliness, WriterState},
+    state::{version, Buffers, Head, Lent, Seen, State},
     types::{
         view_state_mask, InstanceHandle, InstanceStateKind, KeyHash, LivelinessChangedStatus,
         LivelinessKind, Time, HANDLE_NIL,
     },
 };
 
-#[cfg(not(dcps_library))]
-#[test]
-#[ignore = "libdcps_c.a is not there, so all tests are skipped"]
-fn all_tests() {}
+#[cfg(feature = "alloc")]
+pub use {
+    joined::{Lapse, Parting},
+    snapshot::InstanceState,
+    state::Owned,
+};
+
+#[cfg(feature = "std")]
+pub use trackers::{InstanceHandleAllocator, InstanceTracker, LivelinessTracker, SharedState};
+
+/// The modules of ZeroDDS in which these items are, so that a `use` changes in its first name alone.
+pub mod instance_handle {
+    #[cfg(feature = "std")]
+    pub use crate::InstanceHandleAllocator;
+    pub use crate::{InstanceHandle, HANDLE_NIL};
+}
+
+/// As [`instance_handle`].
+#[cfg(feature = "std")]
+pub mod instance_tracker {
+    pub use crate::{InstanceState, InstanceTracker, KeyHash};
+}
+
+/// As [`instance_handle`].
+#[cfg(feature = "std")]
+pub mod liveliness_tracker {
+    pub use crate::LivelinessTracker;
+}
+
+/// As [`instance_handle`].
+pub mod sample_info {
+    pub use crate::{view_state_mask, InstanceStateKind};
+}
+
+/// As [`instance_handle`].
+pub mod status {
+    pub use crate::LivelinessChangedStatus;
+}
+
+/// As [`instance_handle`].
+pub mod time {
+    pub use crate::Time;
+}

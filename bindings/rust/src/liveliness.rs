@@ -4,12 +4,14 @@
 //! Copyright 2026 ZeroDDS Contributors. SPDX-License-Identifier: Apache-2.0. Changed: written anew, each call
 //! by a sheet to the library, and refusals answered.
 
-use crate::sheet::Sheet;
-use crate::{LivelinessChangedStatus, LivelinessKind, Refusal, State};
-use std::time::Duration;
+use crate::state::Buffers;
+use crate::{LivelinessChangedStatus, LivelinessKind, Refusal, Sheet, State};
+#[cfg(feature = "alloc")]
+use alloc::vec::Vec;
+use core::time::Duration;
 
 /// Calls on the writers.
-impl State {
+impl<B: Buffers> State<B> {
     /// A writer matched, with the liveliness that it offers. Yes if a count moved. One that is matched
     /// already only takes the new kind and lease.
     ///
@@ -33,8 +35,7 @@ impl State {
         lease: Option<Duration>,
         now: Duration,
     ) -> Result<bool, Refusal> {
-        let sheet = Sheet::of(32).guid(&writer).kind(kind).lease(lease).clock(now);
-        Ok(self.make(&sheet)?.yes)
+        Ok(self.call(&Sheet::matched(&writer, kind, lease, now))?.yes)
     }
 
     /// A writer is matched no more, deleted as usual. Yes if a count moved.
@@ -50,7 +51,7 @@ impl State {
     /// # Ok::<(), dcps::Refusal>(())
     /// ```
     pub fn unmatched(&mut self, writer: [u8; 16]) -> Result<bool, Refusal> {
-        Ok(self.make(&Sheet::of(33).guid(&writer))?.yes)
+        Ok(self.call(&Sheet::unmatched(&writer))?.yes)
     }
 
     /// A writer is matched no more because its participant fell silent: it counts as not alive until it
@@ -68,7 +69,7 @@ impl State {
     /// # Ok::<(), dcps::Refusal>(())
     /// ```
     pub fn lost_with_participant(&mut self, writer: [u8; 16]) -> Result<bool, Refusal> {
-        Ok(self.make(&Sheet::of(34).guid(&writer))?.yes)
+        Ok(self.call(&Sheet::lost_with_participant(&writer))?.yes)
     }
 
     /// A writer asserted itself, which asserts its participant too. Yes if a count moved.
@@ -85,7 +86,7 @@ impl State {
     /// # Ok::<(), dcps::Refusal>(())
     /// ```
     pub fn writer_asserted(&mut self, writer: [u8; 16], now: Duration) -> Result<bool, Refusal> {
-        Ok(self.make(&Sheet::of(35).guid(&writer).clock(now))?.yes)
+        Ok(self.call(&Sheet::writer_asserted(&writer, now))?.yes)
     }
 
     /// A participant was heard: asserts its automatic writers and, where it was a manual assertion, those
@@ -109,7 +110,7 @@ impl State {
         manual: bool,
         now: Duration,
     ) -> Result<bool, Refusal> {
-        Ok(self.make(&Sheet::of(36).prefix(prefix).manual(manual).clock(now))?.yes)
+        Ok(self.call(&Sheet::participant_asserted(prefix, manual, now))?.yes)
     }
 
     /// Alive writers whose lease ran out become not alive and go to Lost. Whether a count moved, and when
@@ -129,7 +130,7 @@ impl State {
     /// # Ok::<(), dcps::Refusal>(())
     /// ```
     pub fn expire(&mut self, now: Duration) -> Result<(bool, Option<Duration>), Refusal> {
-        let answer = self.make(&Sheet::of(37).clock(now))?;
+        let answer = self.call(&Sheet::expire(now))?;
         Ok((answer.yes, answer.next_due.map(Duration::from_nanos)))
     }
 
@@ -147,9 +148,10 @@ impl State {
     /// assert!(state.take_lost()?.is_empty());
     /// # Ok::<(), dcps::Refusal>(())
     /// ```
+    #[cfg(feature = "alloc")]
     pub fn take_lost(&mut self) -> Result<Vec<[u8; 16]>, Refusal> {
-        let answer = self.make(&Sheet::of(38))?;
-        Ok(self.listed_guids(answer.listed))
+        let answer = self.call(&Sheet::take_lost())?;
+        Ok(self.listed_guids(answer.listed).copied().collect())
     }
 
     /// The status; its changes are then acknowledged.
@@ -165,7 +167,7 @@ impl State {
     /// # Ok::<(), dcps::Refusal>(())
     /// ```
     pub fn take_status(&mut self) -> Result<LivelinessChangedStatus, Refusal> {
-        Ok(self.make(&Sheet::of(39))?.status)
+        Ok(self.call(&Sheet::take_status())?.status)
     }
 
     /// A listener was handed a status: its changes are pending no more, later ones still are.
@@ -184,10 +186,7 @@ impl State {
     /// # Ok::<(), dcps::Refusal>(())
     /// ```
     pub fn acknowledge(&mut self, reported: &LivelinessChangedStatus) -> Result<(), Refusal> {
-        let sheet = Sheet::of(40)
-            .limit(reported.alive_count_change)
-            .strength(reported.not_alive_count_change);
-        self.make(&sheet)?;
+        self.call(&Sheet::acknowledge(reported))?;
         Ok(())
     }
 }

@@ -5,15 +5,19 @@
 //! the library's, and refusals answered.
 
 use crate::ffi::{self, halves};
-use crate::layout::{handles, OUT_BYTES};
 use crate::sheet::delay;
-use crate::state::accepted;
+use crate::state::{accepted, Buffers};
+#[cfg(feature = "alloc")]
+use crate::{
+    layout::{handles, OUT_BYTES},
+    Vec,
+};
 use crate::{InstanceHandle, KeyHash, LivelinessChangedStatus, Refusal, State, Time};
 
 /// The handles of a state in the order of their keys, of [`State::walk`].
 #[derive(Debug, Clone)]
 pub struct Walker<'a> {
-    state: &'a State,
+    pens: &'a [u8; 65_536],
     position: usize,
 }
 
@@ -21,7 +25,7 @@ impl Iterator for Walker<'_> {
     type Item = InstanceHandle;
 
     fn next(&mut self) -> Option<InstanceHandle> {
-        let read = ffi::handle_at_position(&self.state.lent().pens, self.position);
+        let read = ffi::handle_at_position(self.pens, self.position);
         let handle = read.ok()?.found()?;
         self.position += 1;
         Some(handle)
@@ -29,7 +33,7 @@ impl Iterator for Walker<'_> {
 }
 
 /// Reads.
-impl State {
+impl<B: Buffers> State<B> {
     /// Whether a sample is delivered under the time-based filter (DDS 1.4, 2.2.3.12): earlier than the last
     /// one, or so far from it. Yes where there is no last one.
     ///
@@ -55,7 +59,7 @@ impl State {
     ) -> Result<bool, Refusal> {
         let separation = delay(min_separation_nanos);
         let ((high, low), Time { sec, nanosec }) = (halves(keyhash), sample_ts);
-        Ok(ffi::filter(&self.lent().pens, high, low, sec, nanosec, separation)?.yes)
+        Ok(ffi::filter(self.seen().pens, high, low, sec, nanosec, separation)?.yes)
     }
 
     /// Whether a sample is delivered under the destination order (DDS 1.4, 2.2.3.17): by source, later than
@@ -82,7 +86,7 @@ impl State {
     ) -> Result<bool, Refusal> {
         let ((high, low), Time { sec, nanosec }) = (halves(keyhash), source_ts);
         let by_source = u8::from(by_source_timestamp);
-        Ok(ffi::order(&self.lent().pens, high, low, sec, nanosec, by_source)?.yes)
+        Ok(ffi::order(self.seen().pens, high, low, sec, nanosec, by_source)?.yes)
     }
 
     /// When a sample of an instance was delivered last.
@@ -99,7 +103,7 @@ impl State {
     /// ```
     pub fn last_delivered_ts(&self, keyhash: &KeyHash) -> Result<Option<Time>, Refusal> {
         let (high, low) = halves(keyhash);
-        let read = ffi::last_delivered_ts(&self.lent().pens, high, low)?;
+        let read = ffi::last_delivered_ts(self.seen().pens, high, low)?;
         Ok(read.present.then_some(read.time))
     }
 
@@ -123,7 +127,7 @@ impl State {
         gone: &[[u8; 16]],
         view_states: u32,
     ) -> Result<bool, Refusal> {
-        Ok(ffi::would_leave_writerless(&self.lent().pens, gone.as_flattened(), view_states)?.yes)
+        Ok(ffi::would_leave_writerless(self.seen().pens, gone.as_flattened(), view_states)?.yes)
     }
 
     /// The handles of those instances, in the order of their keys.
@@ -139,6 +143,7 @@ impl State {
     /// assert_eq!(state.left_writerless(&[[9; 16], [8; 16]], NEW | NOT_NEW)?, [handle]);
     /// # Ok::<(), dcps::Refusal>(())
     /// ```
+    #[cfg(feature = "alloc")]
     pub fn left_writerless(
         &self,
         gone: &[[u8; 16]],
@@ -146,8 +151,21 @@ impl State {
     ) -> Result<Vec<InstanceHandle>, Refusal> {
         let mut out = [0; OUT_BYTES];
         let read =
-            ffi::left_writerless(&self.lent().pens, gone.as_flattened(), view_states, &mut out)?;
-        Ok(handles(&out, read.listed))
+            ffi::left_writerless(self.seen().pens, gone.as_flattened(), view_states, &mut out)?;
+        Ok(handles(&out, read.listed).collect())
+    }
+
+    /// The same, to the front of Out, where [`State::listed_handles`] reads them: how many.
+    ///
+    /// Refused as 1 for more than 256 writers.
+    pub fn list_left_writerless(
+        &mut self,
+        gone: &[[u8; 16]],
+        view_states: u32,
+    ) -> Result<u32, Refusal> {
+        let lent = self.lent();
+        let read = ffi::left_writerless(lent.pens, gone.as_flattened(), view_states, lent.out)?;
+        Ok(read.listed)
     }
 
     /// The handle that follows another in the order of the keys; the first one after nil. None after the
@@ -166,7 +184,7 @@ impl State {
         &self,
         previous: InstanceHandle,
     ) -> Result<Option<InstanceHandle>, Refusal> {
-        Ok(ffi::next_handle_after(&self.lent().pens, previous.as_raw())?.found())
+        Ok(ffi::next_handle_after(self.seen().pens, previous.as_raw())?.found())
     }
 
     /// All handles, in the order of their keys.
@@ -180,7 +198,7 @@ impl State {
     /// ```
     #[must_use]
     pub fn walk(&self) -> Walker<'_> {
-        Walker { state: self, position: 0 }
+        Walker { pens: self.seen().pens, position: 0 }
     }
 
     /// The bytes from which an instance's key was made: those stored, or, where none are, those offered.
@@ -194,7 +212,7 @@ impl State {
     /// ```
     #[must_use]
     pub fn holder_in_force<'a>(&'a self, keyhash: &KeyHash, offered: &'a [u8]) -> &'a [u8] {
-        let pens = &self.lent().pens;
+        let pens = self.seen().pens;
         let (high, low) = halves(keyhash);
         let stored = ffi::holder_in_force(pens, high, low).ok().and_then(|read| read.stored);
         stored.map_or(offered, |(at, length)| &pens[at..at + length])
@@ -212,7 +230,7 @@ impl State {
     /// ```
     pub fn writer_lookup(&self, writer: &[u8; 16]) -> Result<Option<InstanceHandle>, Refusal> {
         let (high, low) = halves(writer);
-        Ok(ffi::writer_lookup(&self.lent().pens, high, low)?.found())
+        Ok(ffi::writer_lookup(self.seen().pens, high, low)?.found())
     }
 
     /// The status, whose changes stay pending.
@@ -228,7 +246,7 @@ impl State {
     /// # Ok::<(), dcps::Refusal>(())
     /// ```
     pub fn status(&self) -> Result<LivelinessChangedStatus, Refusal> {
-        let (number, answer) = ffi::status(&self.lent().head);
+        let (number, answer) = ffi::status(self.seen().head);
         Ok(accepted(number, &answer)?.status)
     }
 
@@ -245,6 +263,6 @@ impl State {
     /// # Ok::<(), dcps::Refusal>(())
     /// ```
     pub fn changes(&self) -> Result<u64, Refusal> {
-        Ok(ffi::changes(&self.lent().head)?.changes)
+        Ok(ffi::changes(self.seen().head)?.changes)
     }
 }

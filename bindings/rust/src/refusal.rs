@@ -1,7 +1,7 @@
 //! Why a call is refused.
 
-use std::error::Error;
-use std::fmt;
+use core::error::Error;
+use core::fmt;
 
 /// Why a call was refused. A refused call leaves the state as it was.
 ///
@@ -26,7 +26,8 @@ pub enum Refusal {
     BufferLength,
     /// 2: unknown code. Only [`State::raw_call`](crate::State::raw_call) can meet it.
     UnknownCode,
-    /// 3: not well formed. Only [`State::from_parts`](crate::State::from_parts) can meet it.
+    /// 3: not well formed. Only bytes that a state is made of can meet it, in
+    /// [`State::from_parts`](crate::State::from_parts) and [`State::over`](crate::State::over).
     NotWellFormed,
     /// 4: nanoseconds of 10^9 or more in a used time.
     Nanoseconds,

@@ -1,8 +1,8 @@
 //! The 256 bytes that tell the library which call to make, and with what.
 
 use crate::layout::{put, GUID_BYTES, HOLDER_PLACES, SHEET_BYTES};
-use crate::{InstanceHandle, KeyHash, LivelinessKind, Time};
-use std::time::Duration;
+use crate::{InstanceHandle, KeyHash, LivelinessChangedStatus, LivelinessKind, Sample, Time};
+use core::time::Duration;
 
 const TIME1: u8 = 0x80;
 const DEADLINE: u8 = 0x40;
@@ -14,18 +14,286 @@ const BY_SOURCE: u8 = 0x04;
 const BITS: usize = 80;
 const CODE: usize = 81;
 
-/// A call sheet, filled in field by field.
-pub(crate) struct Sheet([u8; SHEET_BYTES]);
+/// A call with what it takes, for [`State::call`](crate::State::call): a function for each code, which fills in the 256 bytes
+/// that include/dcps.h describes. What a call does stands at the method of [`State`](crate::State) that has its name.
+///
+/// ```
+/// use dcps::{Sheet, State};
+///
+/// let mut state = State::new();
+/// let answer = state.call(&Sheet::register(&[1; 16], b"serial 1", None))?;
+/// assert_eq!(answer.found().map(|handle| handle.as_raw()), Some(1));
+/// # Ok::<(), dcps::Refusal>(())
+/// ```
+#[derive(Debug, Clone, Copy, PartialEq, Eq)]
+pub struct Sheet([u8; SHEET_BYTES]);
 
+/// The calls.
 impl Sheet {
-    pub fn of(code: u8) -> Self {
+    /// Its bytes.
+    #[must_use]
+    pub const fn bytes(&self) -> &[u8; 256] {
+        &self.0
+    }
+
+    /// Code 1.
+    #[must_use]
+    pub fn register(keyhash: &KeyHash, key_holder: &[u8], timestamp: Option<Time>) -> Self {
+        Self::of(1).key(keyhash).holder(key_holder).optional_time1(timestamp)
+    }
+
+    /// Code 2.
+    #[must_use]
+    pub fn ensure_registered_limited(keyhash: &KeyHash, max_instances: i32) -> Self {
+        Self::of(2).key(keyhash).limit(max_instances)
+    }
+
+    /// Code 3.
+    #[must_use]
+    pub fn dispose(handle: InstanceHandle, timestamp: Option<Time>) -> Self {
+        Self::of(3).handle(handle).optional_time1(timestamp)
+    }
+
+    /// Code 4.
+    #[must_use]
+    pub fn unregister(handle: InstanceHandle, timestamp: Option<Time>) -> Self {
+        Self::of(4).handle(handle).optional_time1(timestamp)
+    }
+
+    /// Code 5.
+    #[must_use]
+    pub fn unregister_writer(
+        handle: InstanceHandle,
+        writer: &[u8; 16],
+        timestamp: Option<Time>,
+    ) -> Self {
+        Self::of(5).handle(handle).guid(writer).optional_time1(timestamp)
+    }
+
+    /// Code 6.
+    #[must_use]
+    pub fn note_writer(handle: InstanceHandle, writer: &[u8; 16]) -> Self {
+        Self::of(6).handle(handle).guid(writer)
+    }
+
+    /// Code 7. The instances are listed: [`State::listed_handles`](crate::State::listed_handles).
+    #[must_use]
+    pub fn drop_writer(writer: &[u8; 16], timestamp: Option<Time>) -> Self {
+        Self::of(7).guid(writer).optional_time1(timestamp)
+    }
+
+    /// Code 8.
+    #[must_use]
+    pub fn observe_lifecycle(
+        keyhash: &KeyHash,
+        key_holder: Option<&[u8]>,
+        timestamp: Option<Time>,
+    ) -> Self {
+        Self::of(8).key(keyhash).optional_holder(key_holder).optional_time1(timestamp)
+    }
+
+    /// Code 9.
+    #[must_use]
+    pub fn observe_admitted(
+        keyhash: &KeyHash,
+        key_holder: &[u8],
+        timestamp: Time,
+        max_instances: i32,
+    ) -> Self {
+        Self::of(9).key(keyhash).holder(key_holder).time1(timestamp).limit(max_instances)
+    }
+
+    /// Code 10.
+    #[must_use]
+    pub fn note_admitted(
+        keyhash: &KeyHash,
+        order_ts: Time,
+        filter_ts: Time,
+        writer: &[u8; 16],
+    ) -> Self {
+        Self::of(10).key(keyhash).time1(order_ts).time2(filter_ts).guid(writer)
+    }
+
+    /// Code 11.
+    #[must_use]
+    pub fn record_delivery(keyhash: &KeyHash, sample_ts: Time) -> Self {
+        Self::of(11).key(keyhash).time1(sample_ts)
+    }
+
+    /// Code 12.
+    #[must_use]
+    pub fn note_taken(handle: InstanceHandle, n: u32) -> Self {
+        Self::of(12).handle(handle).n(n)
+    }
+
+    /// Code 13.
+    #[must_use]
+    pub fn mark_view_seen(handle: InstanceHandle) -> Self {
+        Self::of(13).handle(handle)
+    }
+
+    /// Code 14.
+    #[must_use]
+    pub fn mark_view_new(keyhash: &KeyHash) -> Self {
+        Self::of(14).key(keyhash)
+    }
+
+    /// Code 15.
+    #[must_use]
+    pub fn drain_samples(handle: InstanceHandle, n: u32) -> Self {
+        Self::of(15).handle(handle).n(n)
+    }
+
+    /// Code 16.
+    #[must_use]
+    pub fn accept_under_exclusive_ownership(
+        keyhash: &KeyHash,
+        writer_guid: &[u8; 16],
+        writer_strength: i32,
+        now: Time,
+        deadline_nanos: Option<u128>,
+    ) -> Self {
+        let sheet = Self::of(16).key(keyhash).guid(writer_guid).strength(writer_strength);
+        sheet.time2(now).deadline(deadline_nanos)
+    }
+
+    /// Code 17.
+    #[must_use]
+    pub fn update_owner_strength(writer: &[u8; 16], strength: i32) -> Self {
+        Self::of(17).guid(writer).strength(strength)
+    }
+
+    /// Code 18.
+    #[must_use]
+    pub fn clear_owner_for_writer(writer_guid: &[u8; 16]) -> Self {
+        Self::of(18).guid(writer_guid)
+    }
+
+    /// Code 19.
+    #[must_use]
+    pub fn clear_owner_for_writer_prefix(prefix: [u8; 12]) -> Self {
+        Self::of(19).prefix(prefix)
+    }
+
+    /// Code 20.
+    #[must_use]
+    pub fn release_owner_of(keyhash: &KeyHash, writer: &[u8; 16]) -> Self {
+        Self::of(20).key(keyhash).guid(writer)
+    }
+
+    /// Code 21.
+    #[must_use]
+    pub fn autopurge(now: Time, disposed_delay_nanos: u128, nowriter_delay_nanos: u128) -> Self {
+        Self::of(21).time2(now).a(delay(disposed_delay_nanos)).b(delay(nowriter_delay_nanos))
+    }
+
+    /// Code 32.
+    #[must_use]
+    pub fn matched(
+        writer: &[u8; 16],
+        kind: LivelinessKind,
+        lease: Option<Duration>,
+        now: Duration,
+    ) -> Self {
+        Self::of(32).guid(writer).kind(kind).lease(lease).clock(now)
+    }
+
+    /// Code 33.
+    #[must_use]
+    pub fn unmatched(writer: &[u8; 16]) -> Self {
+        Self::of(33).guid(writer)
+    }
+
+    /// Code 34.
+    #[must_use]
+    pub fn lost_with_participant(writer: &[u8; 16]) -> Self {
+        Self::of(34).guid(writer)
+    }
+
+    /// Code 35.
+    #[must_use]
+    pub fn writer_asserted(writer: &[u8; 16], now: Duration) -> Self {
+        Self::of(35).guid(writer).clock(now)
+    }
+
+    /// Code 36.
+    #[must_use]
+    pub fn participant_asserted(prefix: [u8; 12], manual: bool, now: Duration) -> Self {
+        Self::of(36).prefix(prefix).manual(manual).clock(now)
+    }
+
+    /// Code 37.
+    #[must_use]
+    pub fn expire(now: Duration) -> Self {
+        Self::of(37).clock(now)
+    }
+
+    /// Code 38. The writers are listed: [`State::listed_guids`](crate::State::listed_guids).
+    #[must_use]
+    pub fn take_lost() -> Self {
+        Self::of(38)
+    }
+
+    /// Code 39.
+    #[must_use]
+    pub fn take_status() -> Self {
+        Self::of(39)
+    }
+
+    /// Code 40.
+    #[must_use]
+    pub fn acknowledge(reported: &LivelinessChangedStatus) -> Self {
+        Self::of(40).limit(reported.alive_count_change).strength(reported.not_alive_count_change)
+    }
+
+    /// Code 48.
+    #[must_use]
+    pub fn admit(sample: &Sample<'_>) -> Self {
+        Self::of(48)
+            .key(&sample.keyhash)
+            .holder(sample.key_holder)
+            .guid(&sample.writer)
+            .strength(sample.strength)
+            .time1(sample.order_ts)
+            .time2(sample.filter_ts)
+            .by_source(sample.by_source_timestamp)
+            .a(delay(sample.min_separation_nanos))
+            .deadline(sample.deadline_nanos)
+            .limit(sample.max_instances)
+    }
+
+    /// Code 49. The instances are listed, as by code 7.
+    #[must_use]
+    pub fn lapse(now: Duration, timestamp: Option<Time>) -> Self {
+        Self::of(49).clock(now).optional_time1(timestamp)
+    }
+
+    /// Code 50. The instances are listed, as by code 7.
+    #[must_use]
+    pub fn part(writer: &[u8; 16], timestamp: Option<Time>) -> Self {
+        Self::of(50).guid(writer).optional_time1(timestamp)
+    }
+
+    /// Code 51. The instances are listed, as by code 7.
+    #[must_use]
+    pub fn depart(writer: &[u8; 16], timestamp: Option<Time>) -> Self {
+        Self::of(51).guid(writer).optional_time1(timestamp)
+    }
+}
+
+/// The bytes of any sheet, also of one that no call reads.
+impl From<[u8; 256]> for Sheet {
+    fn from(bytes: [u8; 256]) -> Self {
+        Self(bytes)
+    }
+}
+
+/// The fields.
+impl Sheet {
+    fn of(code: u8) -> Self {
         let mut bytes = [0; SHEET_BYTES];
         bytes[CODE] = code;
         Self(bytes)
-    }
-
-    pub fn bytes(&self) -> &[u8; SHEET_BYTES] {
-        &self.0
     }
 
     fn with(mut self, at: usize, bytes: &[u8]) -> Self {
@@ -44,59 +312,59 @@ impl Sheet {
         self.with(at, &time.sec.to_be_bytes()).with(at + 4, &time.nanosec.to_be_bytes())
     }
 
-    pub fn key(self, key: &KeyHash) -> Self {
+    fn key(self, key: &KeyHash) -> Self {
         self.with(0, key)
     }
 
-    pub fn guid(self, guid: &[u8; GUID_BYTES]) -> Self {
+    fn guid(self, guid: &[u8; GUID_BYTES]) -> Self {
         self.with(16, guid)
     }
 
-    pub fn prefix(self, prefix: [u8; 12]) -> Self {
+    fn prefix(self, prefix: [u8; 12]) -> Self {
         self.with(16, &prefix)
     }
 
-    pub fn handle(self, handle: InstanceHandle) -> Self {
+    fn handle(self, handle: InstanceHandle) -> Self {
         self.with(32, &handle.as_raw().to_be_bytes())
     }
 
     /// Time 1 of a call that takes it in any case.
-    pub fn time1(self, time: Time) -> Self {
+    fn time1(self, time: Time) -> Self {
         self.time(40, time)
     }
 
     /// Time 1 of a call that may go without.
-    pub fn optional_time1(self, time: Option<Time>) -> Self {
+    fn optional_time1(self, time: Option<Time>) -> Self {
         match time {
             Some(time) => self.time1(time).bit(TIME1, true),
             None => self,
         }
     }
 
-    pub fn time2(self, time: Time) -> Self {
+    fn time2(self, time: Time) -> Self {
         self.time(48, time)
     }
 
-    pub fn a(self, a: u64) -> Self {
+    fn a(self, a: u64) -> Self {
         self.with(56, &a.to_be_bytes())
     }
 
-    pub fn b(self, b: u64) -> Self {
+    fn b(self, b: u64) -> Self {
         self.with(64, &b.to_be_bytes())
     }
 
-    pub fn clock(self, clock: Duration) -> Self {
+    fn clock(self, clock: Duration) -> Self {
         self.a(nanos(clock))
     }
 
-    pub fn lease(self, lease: Option<Duration>) -> Self {
+    fn lease(self, lease: Option<Duration>) -> Self {
         match lease {
             Some(lease) => self.b(nanos(lease)).bit(LEASE, true),
             None => self,
         }
     }
 
-    pub fn deadline(self, deadline: Option<u128>) -> Self {
+    fn deadline(self, deadline: Option<u128>) -> Self {
         match deadline {
             Some(deadline) => self.b(delay(deadline)).bit(DEADLINE, true),
             None => self,
@@ -104,41 +372,41 @@ impl Sheet {
     }
 
     /// The limit, or the first acknowledged change.
-    pub fn limit(self, limit: i32) -> Self {
+    fn limit(self, limit: i32) -> Self {
         self.with(72, &limit.to_be_bytes())
     }
 
     /// The strength, or the second acknowledged change.
-    pub fn strength(self, strength: i32) -> Self {
+    fn strength(self, strength: i32) -> Self {
         self.with(76, &strength.to_be_bytes())
     }
 
-    pub fn n(self, n: u32) -> Self {
+    fn n(self, n: u32) -> Self {
         self.with(76, &n.to_be_bytes())
     }
 
-    pub fn manual(self, manual: bool) -> Self {
+    fn manual(self, manual: bool) -> Self {
         self.bit(MANUAL, manual)
     }
 
-    pub fn by_source(self, by_source: bool) -> Self {
+    fn by_source(self, by_source: bool) -> Self {
         self.bit(BY_SOURCE, by_source)
     }
 
-    pub fn kind(self, kind: LivelinessKind) -> Self {
+    fn kind(self, kind: LivelinessKind) -> Self {
         self.bit(kind.bits(), true)
     }
 
     /// The holder of a call that takes it in any case. One that is too long goes by its length alone,
     /// which is refused as 6.
-    pub fn holder(self, holder: &[u8]) -> Self {
+    fn holder(self, holder: &[u8]) -> Self {
         let length = u16::try_from(holder.len()).unwrap_or(u16::MAX);
         let kept = if holder.len() <= HOLDER_PLACES { holder } else { &[] };
         self.with(82, &length.to_be_bytes()).with(84, kept)
     }
 
     /// The holder of a call that may go without.
-    pub fn optional_holder(self, holder: Option<&[u8]>) -> Self {
+    fn optional_holder(self, holder: Option<&[u8]>) -> Self {
         match holder {
             Some(holder) => self.holder(holder).bit(HOLDER, true),
             None => self,

@@ -5,19 +5,59 @@
 //! Copyright 2026 ZeroDDS Contributors. SPDX-License-Identifier: Apache-2.0. Changed: written anew, over bytes.
 
 use crate::layout::{
-    array_at, guids, i32_at, u16_at, u32_at, u64_at, GUID_BYTES, HOLDER_PLACES, INSTANCE_BYTES,
-    SET_PLACES, WRITER_BYTES,
+    array_at, guids, i32_at, u16_at, u32_at, u64_at, HOLDER_PLACES, INSTANCE_BYTES, SET_PLACES,
+    WRITER_BYTES,
 };
+use crate::state::Buffers;
 use crate::{InstanceHandle, InstanceStateKind, KeyHash, LivelinessKind, State, Time};
-use std::collections::BTreeSet;
-use std::time::Duration;
+use core::time::Duration;
+#[cfg(feature = "alloc")]
+use {crate::Vec, alloc::collections::BTreeSet};
 
-/// An instance as its record has it.
-#[derive(Debug, Clone, PartialEq, Eq)]
+/// An instance as its record has it, its holder and its writers borrowed from there.
+#[derive(Debug, Clone, Copy, PartialEq, Eq)]
 #[non_exhaustive]
-pub struct InstanceState {
+pub struct Instance<'a> {
     /// The key that names it.
     pub keyhash: KeyHash,
+    /// Its handle.
+    pub handle: InstanceHandle,
+    /// Where it stands.
+    pub kind: InstanceStateKind,
+    /// How often it came back after a dispose.
+    pub disposed_generation_count: i32,
+    /// How often it came back after its last writer left.
+    pub no_writers_generation_count: i32,
+    /// Registrations less unregistrations; independent of `writers`.
+    pub writer_count: u32,
+    /// The time of the latest sample or marker that had one.
+    pub last_sample_timestamp: Option<Time>,
+    /// What the destination order compares with.
+    pub last_delivered_ts: Option<Time>,
+    /// What the time-based filter compares with.
+    pub last_filter_ts: Option<Time>,
+    /// When it was disposed; stays when it comes back.
+    pub disposed_at: Option<Time>,
+    /// When its last writer left it; stays when it comes back.
+    pub no_writers_at: Option<Time>,
+    /// The writer that owns it, and at which strength.
+    pub current_owner: Option<([u8; 16], i32)>,
+    /// When a sample of an owner was accepted last.
+    pub owner_at: Option<Time>,
+    /// The serialized key.
+    pub key_holder: Option<&'a [u8]>,
+    /// The writers that write it, rising.
+    pub writers: &'a [[u8; 16]],
+    /// Whether it is new to the reader.
+    pub reader_view_new: bool,
+    /// Samples of it that were not taken yet.
+    pub samples_in_cache: u32,
+}
+
+/// An instance as its record has it, with the fields of ZeroDDS's.
+#[cfg(feature = "alloc")]
+#[derive(Debug, Clone, PartialEq, Eq)]
+pub struct InstanceState {
     /// Its handle.
     pub handle: InstanceHandle,
     /// Where it stands.
@@ -86,8 +126,8 @@ const TIME_BITS: [u16; 6] = [12, 11, 10, 9, 8, 6];
 const OWNER_BIT: u16 = 7;
 const HOLDER_BIT: u16 = 5;
 
-impl InstanceState {
-    fn of(b: &[u8]) -> Self {
+impl<'a> Instance<'a> {
+    fn of(b: &'a [u8]) -> Self {
         let flags = u16_at(b, 24);
         let bit = |bit: u16| flags >> bit & 1 == 1;
         let time = |place: usize| {
@@ -110,10 +150,34 @@ impl InstanceState {
             no_writers_at: time(4),
             current_owner: bit(OWNER_BIT).then(|| (array_at(b, 92), i32_at(b, 108))),
             owner_at: time(5),
-            key_holder: bit(HOLDER_BIT).then(|| b[112..112 + holder].to_vec()),
-            writers: (0..set).map(|place| array_at(b, 256 + GUID_BYTES * place)).collect(),
+            key_holder: bit(HOLDER_BIT).then(|| &b[112..112 + holder]),
+            writers: guids(&b[256..], set),
             reader_view_new: bit(13),
             samples_in_cache: u32_at(b, 40),
+        }
+    }
+}
+
+#[cfg(feature = "alloc")]
+impl From<Instance<'_>> for InstanceState {
+    fn from(i: Instance<'_>) -> Self {
+        Self {
+            handle: i.handle,
+            kind: i.kind,
+            disposed_generation_count: i.disposed_generation_count,
+            no_writers_generation_count: i.no_writers_generation_count,
+            writer_count: i.writer_count,
+            last_sample_timestamp: i.last_sample_timestamp,
+            last_delivered_ts: i.last_delivered_ts,
+            last_filter_ts: i.last_filter_ts,
+            disposed_at: i.disposed_at,
+            no_writers_at: i.no_writers_at,
+            current_owner: i.current_owner,
+            owner_at: i.owner_at,
+            key_holder: i.key_holder.map(<[u8]>::to_vec),
+            writers: i.writers.iter().copied().collect(),
+            reader_view_new: i.reader_view_new,
+            samples_in_cache: i.samples_in_cache,
         }
     }
 }
@@ -137,10 +201,10 @@ impl WriterState {
 }
 
 /// What the records hold, read in Rust.
-impl State {
+impl<B: Buffers> State<B> {
     fn records(&self) -> impl Iterator<Item = &[u8]> {
         let used = self.head().instance_count as usize;
-        self.lent().pens.chunks_exact(INSTANCE_BYTES).take(used)
+        self.seen().pens.chunks_exact(INSTANCE_BYTES).take(used)
     }
 
     fn record_of_key(&self, keyhash: &KeyHash) -> Option<&[u8]> {
@@ -161,8 +225,18 @@ impl State {
     /// assert_eq!(keys, [[1; 16], [2; 16]]);
     /// # Ok::<(), dcps::Refusal>(())
     /// ```
-    pub fn instances(&self) -> impl Iterator<Item = InstanceState> + '_ {
-        self.records().map(InstanceState::of)
+    pub fn instances(&self) -> impl Iterator<Item = Instance<'_>> + '_ {
+        self.records().map(Instance::of)
+    }
+
+    /// The instance of a key, without a copy.
+    pub fn instance_of_key(&self, keyhash: &KeyHash) -> Option<Instance<'_>> {
+        self.record_of_key(keyhash).map(Instance::of)
+    }
+
+    /// The instance of a handle, without a copy.
+    pub fn instance_of_handle(&self, handle: InstanceHandle) -> Option<Instance<'_>> {
+        self.record_of_handle(handle).map(Instance::of)
     }
 
     /// The writers, in the order of their GUIDs, those that departed among them.
@@ -180,7 +254,7 @@ impl State {
     /// ```
     pub fn writers(&self) -> impl Iterator<Item = WriterState> + '_ {
         let used = self.head().writer_count as usize;
-        self.lent().writers.chunks_exact(WRITER_BYTES).take(used).map(WriterState::of)
+        self.seen().writers.chunks_exact(WRITER_BYTES).take(used).map(WriterState::of)
     }
 
     /// The writers that expired since [`State::take_lost`], in the order of their expiry, left in place.
@@ -196,9 +270,10 @@ impl State {
     /// assert_eq!(state.lost(), [[1; 16]]);
     /// # Ok::<(), dcps::Refusal>(())
     /// ```
+    #[cfg(feature = "alloc")]
     #[must_use]
     pub fn lost(&self) -> Vec<[u8; 16]> {
-        guids(&self.lent().lost, self.head().lost_count)
+        guids(self.seen().lost, self.head().lost_count as usize).to_vec()
     }
 
     /// The instance of a key.
@@ -210,9 +285,10 @@ impl State {
     /// assert_eq!(instance.key_holder.as_deref(), Some(&b"serial 1"[..]));
     /// # Ok::<(), dcps::Refusal>(())
     /// ```
+    #[cfg(feature = "alloc")]
     #[must_use]
     pub fn get_by_keyhash(&self, keyhash: &KeyHash) -> Option<InstanceState> {
-        self.record_of_key(keyhash).map(InstanceState::of)
+        self.instance_of_key(keyhash).map(Into::into)
     }
 
     /// The instance of a handle.
@@ -220,12 +296,13 @@ impl State {
     /// ```
     /// let mut state = dcps::State::new();
     /// let handle = state.register([1; 16], Vec::new(), None)?;
-    /// assert_eq!(state.get_by_handle(handle).map(|i| i.keyhash), Some([1; 16]));
+    /// assert_eq!(state.get_by_handle(handle).map(|i| i.handle), Some(handle));
     /// # Ok::<(), dcps::Refusal>(())
     /// ```
+    #[cfg(feature = "alloc")]
     #[must_use]
     pub fn get_by_handle(&self, handle: InstanceHandle) -> Option<InstanceState> {
-        self.record_of_handle(handle).map(InstanceState::of)
+        self.instance_of_handle(handle).map(Into::into)
     }
 
     /// The handle of a key.
@@ -270,7 +347,7 @@ impl State {
         &self,
         keyhash: &KeyHash,
     ) -> Option<(InstanceHandle, InstanceStateKind)> {
-        self.get_by_keyhash(keyhash).map(|instance| (instance.handle, instance.kind))
+        self.instance_of_key(keyhash).map(|instance| (instance.handle, instance.kind))
     }
 
     /// The serialized key of a handle, where it is stored.
@@ -281,9 +358,10 @@ impl State {
     /// assert_eq!(state.get_key_holder(handle), Some(b"serial 1".to_vec()));
     /// # Ok::<(), dcps::Refusal>(())
     /// ```
+    #[cfg(feature = "alloc")]
     #[must_use]
     pub fn get_key_holder(&self, handle: InstanceHandle) -> Option<Vec<u8>> {
-        self.get_by_handle(handle).and_then(|instance| instance.key_holder)
+        self.instance_of_handle(handle)?.key_holder.map(<[u8]>::to_vec)
     }
 
     /// The writer that owns the instance of a key.
@@ -297,7 +375,7 @@ impl State {
     /// ```
     #[must_use]
     pub fn owner_of(&self, keyhash: &KeyHash) -> Option<[u8; 16]> {
-        let instance = self.get_by_keyhash(keyhash)?;
+        let instance = self.instance_of_key(keyhash)?;
         instance.current_owner.map(|(writer, _)| writer)
     }
 
@@ -310,6 +388,7 @@ impl State {
     /// assert_eq!(state.ordered_handles(), [first, second]);
     /// # Ok::<(), dcps::Refusal>(())
     /// ```
+    #[cfg(feature = "alloc")]
     #[must_use]
     pub fn ordered_handles(&self) -> Vec<InstanceHandle> {
         self.records().map(|record| InstanceHandle::from_raw(u64_at(record, 16))).collect()
@@ -349,6 +428,7 @@ impl State {
     /// assert_eq!(state.matched_writers_of([3; 12]), [[3; 16]]);
     /// # Ok::<(), dcps::Refusal>(())
     /// ```
+    #[cfg(feature = "alloc")]
     #[must_use]
     pub fn matched_writers_of(&self, prefix: [u8; 12]) -> Vec<[u8; 16]> {
         let matched =

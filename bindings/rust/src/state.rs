@@ -1,18 +1,22 @@
-//! The state of both trackers, owned: head and buffers.
+//! The state of both trackers: head and buffers, owned or borrowed.
 
-use crate::ffi::{self, Lent};
-use crate::layout::{
-    array_at, guids, handles, i32_at, u32_at, u64_at, ANSWER_BYTES, HEAD_BYTES, LOST_BYTES,
-    OUT_BYTES, PENS_BYTES, SHEET_BYTES, WRITERS_BYTES,
+use crate::ffi;
+use crate::layout::{array_at, guids, handles, i32_at, u32_at, u64_at, ANSWER_BYTES, GUID_BYTES};
+use crate::{Answer, InstanceHandle, Refusal, Sheet};
+use core::fmt;
+#[cfg(feature = "alloc")]
+use {
+    crate::layout::{HEAD_BYTES, LOST_BYTES, OUT_BYTES, PENS_BYTES, WRITERS_BYTES},
+    crate::Vec,
+    alloc::boxed::Box,
 };
-use crate::sheet::Sheet;
-use crate::{Answer, InstanceHandle, Refusal};
-use std::fmt;
 
 /// The instances and the writers of one reader, with what the library asks to be lent for them.
 ///
-/// Calls take `&mut self` where ZeroDDS has a lock inside; who shares a state puts it behind one.
-/// A refused call leaves the state as it was.
+/// Calls take `&mut self` where ZeroDDS has a lock inside; who shares a state puts it behind one, as
+/// [`InstanceTracker`](crate::InstanceTracker) does. A refused call leaves the state as it was.
+///
+/// The bytes are its own, on the heap ([`State::new`]), or borrowed ([`State::fresh_over`], [`State::over`]).
 ///
 /// ```
 /// use dcps::{InstanceStateKind, State, Time};
@@ -25,9 +29,114 @@ use std::fmt;
 /// assert_eq!(pen.kind, InstanceStateKind::NotAliveNoWriters);
 /// # Ok::<(), dcps::Refusal>(())
 /// ```
+#[cfg(feature = "alloc")]
 #[derive(Clone)]
-pub struct State {
-    lent: Box<Lent>,
+pub struct State<B = Owned> {
+    buffers: B,
+}
+
+/// The instances and the writers of one reader, over borrowed bytes ([`State::fresh_over`], [`State::over`]).
+#[cfg(not(feature = "alloc"))]
+pub struct State<B> {
+    buffers: B,
+}
+
+/// Head and buffers where they are, and Out, which is no part of the state: it keeps the list of an earlier call.
+///
+/// ```
+/// use dcps::{Lent, Sheet, State};
+///
+/// let (mut head, mut pens, mut writers) = ([0; 64], vec![0; 65_536], [0; 5_120]);
+/// let (mut lost, mut out) = ([0; 4_096], [0; 4_096]);
+/// let pens = pens.as_mut_slice().try_into().expect("65,536 bytes");
+/// let lent = Lent { head: &mut head, pens, writers: &mut writers, lost: &mut lost, out: &mut out };
+/// let mut state = State::fresh_over(lent);
+/// state.call(&Sheet::register(&[1; 16], b"serial 1", None))?;
+/// assert_eq!(state.len(), 1);
+/// # Ok::<(), dcps::Refusal>(())
+/// ```
+#[derive(Debug)]
+pub struct Lent<'a> {
+    /// The counts.
+    pub head: &'a mut [u8; 64],
+    /// The instances' records.
+    pub pens: &'a mut [u8; 65_536],
+    /// The writers' records.
+    pub writers: &'a mut [u8; 5_120],
+    /// The writers that expired.
+    pub lost: &'a mut [u8; 4_096],
+    /// Where lists go.
+    pub out: &'a mut [u8; 4_096],
+}
+
+/// The same, to be read.
+#[derive(Debug, Clone, Copy)]
+pub struct Seen<'a> {
+    /// The counts.
+    pub head: &'a [u8; 64],
+    /// The instances' records.
+    pub pens: &'a [u8; 65_536],
+    /// The writers' records.
+    pub writers: &'a [u8; 5_120],
+    /// The writers that expired.
+    pub lost: &'a [u8; 4_096],
+    /// The list of the latest call that gave one.
+    pub out: &'a [u8; 4_096],
+}
+
+/// What a [`State`] keeps its bytes in: [`Owned`] or [`Lent`].
+pub trait Buffers: sealed::Sealed {
+    /// Lent to a call.
+    fn lent(&mut self) -> Lent<'_>;
+    /// Lent to a read.
+    fn seen(&self) -> Seen<'_>;
+}
+
+mod sealed {
+    pub trait Sealed {}
+    impl Sealed for super::Lent<'_> {}
+    #[cfg(feature = "alloc")]
+    impl Sealed for super::Owned {}
+}
+
+impl Buffers for Lent<'_> {
+    fn lent(&mut self) -> Lent<'_> {
+        let Lent { head, pens, writers, lost, out } = self;
+        Lent { head, pens, writers, lost, out }
+    }
+
+    fn seen(&self) -> Seen<'_> {
+        let Lent { head, pens, writers, lost, out } = self;
+        Seen { head, pens, writers, lost, out }
+    }
+}
+
+/// Bytes of a [`State`]'s own, 78,912 of them on the heap.
+#[cfg(feature = "alloc")]
+#[derive(Clone)]
+pub struct Owned(Box<Bytes>);
+
+#[cfg(feature = "alloc")]
+#[derive(Clone)]
+struct Bytes {
+    head: [u8; HEAD_BYTES],
+    pens: [u8; PENS_BYTES],
+    writers: [u8; WRITERS_BYTES],
+    lost: [u8; LOST_BYTES],
+    out: [u8; OUT_BYTES],
+}
+
+#[cfg(feature = "alloc")]
+impl Buffers for Owned {
+    fn lent(&mut self) -> Lent<'_> {
+        let Bytes { head, pens, writers, lost, out } = &mut *self.0;
+        Lent { head, pens, writers, lost, out }
+    }
+
+    fn seen(&self) -> Seen<'_> {
+        let Bytes { head, pens, writers, lost, out } = &*self.0;
+        Seen { head, pens, writers, lost, out }
+    }
 }
 
 /// The counts that the library keeps beside the tables.
@@ -56,6 +165,7 @@ pub struct Head {
     pub last_writer: Option<[u8; 16]>,
 }
 
+#[cfg(feature = "alloc")]
 impl State {
     /// A fresh state: no instance, no writer, and 1 the next handle.
     ///
@@ -66,16 +176,16 @@ impl State {
     /// ```
     #[must_use]
     pub fn new() -> Self {
-        let mut lent = Box::new(Lent {
+        let mut buffers = Owned(Box::new(Bytes {
             head: [0; HEAD_BYTES],
             pens: [0; PENS_BYTES],
             writers: [0; WRITERS_BYTES],
             lost: [0; LOST_BYTES],
             out: [0; OUT_BYTES],
-        });
-        let number = ffi::fresh(&mut lent);
+        }));
+        let number = ffi::fresh(buffers.lent());
         debug_assert_eq!(number, 0, "only lengths are refused");
-        Self { lent }
+        Self { buffers }
     }
 
     /// The state of the bytes that another one gave by [`Self::parts`]; refused as 3 where they are
@@ -98,18 +208,39 @@ impl State {
         writers: &[u8; 5_120],
         lost: &[u8; 4_096],
     ) -> Result<Self, Refusal> {
-        let mut state = Self {
-            lent: Box::new(Lent {
-                head: *head,
-                pens: *pens,
-                writers: *writers,
-                lost: *lost,
-                out: [0; OUT_BYTES],
-            }),
-        };
-        // Every call judges the whole state, and nil names no instance, so this one only judges.
-        state.mark_view_seen(InstanceHandle::NIL)?;
-        Ok(state)
+        let mut state = Self::new();
+        let lent = state.buffers.lent();
+        *lent.head = *head;
+        *lent.pens = *pens;
+        *lent.writers = *writers;
+        *lent.lost = *lost;
+        state.judged()
+    }
+}
+
+impl<'a> State<Lent<'a>> {
+    /// A fresh state in borrowed bytes, whatever they held.
+    #[must_use]
+    pub fn fresh_over(mut lent: Lent<'a>) -> Self {
+        let number = ffi::fresh(lent.lent());
+        debug_assert_eq!(number, 0, "only lengths are refused");
+        Self { buffers: lent }
+    }
+
+    /// The state that borrowed bytes hold; refused as 3 where they are not well formed.
+    ///
+    /// A call is not atomic: bytes in which a process ended in the middle of one may be well formed and
+    /// still wrong. [`keep`](crate::keep) is for those that have to outlive it.
+    pub fn over(lent: Lent<'a>) -> Result<Self, Refusal> {
+        Self { buffers: lent }.judged()
+    }
+}
+
+impl<B: Buffers> State<B> {
+    /// Every call judges the whole state, and nil names no instance, so this one only judges.
+    fn judged(mut self) -> Result<Self, Refusal> {
+        self.mark_view_seen(InstanceHandle::NIL)?;
+        Ok(self)
     }
 
     /// Head, instances, writers and Lost as the library lays them out.
@@ -122,8 +253,8 @@ impl State {
     /// ```
     #[must_use]
     pub fn parts(&self) -> (&[u8; 64], &[u8; 65_536], &[u8; 5_120], &[u8; 4_096]) {
-        let lent = &self.lent;
-        (&lent.head, &lent.pens, &lent.writers, &lent.lost)
+        let seen = self.seen();
+        (seen.head, seen.pens, seen.writers, seen.lost)
     }
 
     /// Out: the list of the latest call that gave one stands at its front.
@@ -138,7 +269,7 @@ impl State {
     /// ```
     #[must_use]
     pub fn out(&self) -> &[u8; 4_096] {
-        &self.lent.out
+        self.seen().out
     }
 
     /// The counts of the head.
@@ -151,7 +282,7 @@ impl State {
     /// ```
     #[must_use]
     pub fn head(&self) -> Head {
-        let b = &self.lent.head[..];
+        let b = &self.seen().head[..];
         Head {
             instance_count: u32_at(b, 0),
             writer_count: u32_at(b, 4),
@@ -166,7 +297,30 @@ impl State {
         }
     }
 
-    /// Any call, by the 256 bytes of its sheet; lists are in [`Self::out`].
+    /// The fresh state again, whatever it held.
+    pub(crate) fn make_fresh(&mut self) {
+        let number = ffi::fresh(self.buffers.lent());
+        debug_assert_eq!(number, 0, "only lengths are refused");
+    }
+
+    /// Any call, by its sheet; lists are in [`Self::out`].
+    ///
+    /// ```
+    /// use dcps::{Sheet, State};
+    ///
+    /// let mut state = State::new();
+    /// let handle = state.call(&Sheet::register(&[1; 16], b"", None))?.handle;
+    /// state.call(&Sheet::note_writer(handle, &[2; 16]))?;
+    /// let answer = state.call(&Sheet::part(&[2; 16], None))?;
+    /// assert!(state.listed_handles(answer.listed).eq([handle]));
+    /// # Ok::<(), dcps::Refusal>(())
+    /// ```
+    pub fn call(&mut self, sheet: &Sheet) -> Result<Answer, Refusal> {
+        let (number, answer) = ffi::call(self.buffers.lent(), sheet.bytes());
+        accepted(number, &answer)
+    }
+
+    /// Any call, by the 256 bytes of its sheet.
     ///
     /// ```
     /// use dcps::{Refusal, State};
@@ -181,34 +335,34 @@ impl State {
     /// # Ok::<(), dcps::Refusal>(())
     /// ```
     pub fn raw_call(&mut self, sheet: &[u8; 256]) -> Result<Answer, Refusal> {
-        let (number, answer) = ffi::call(&mut self.lent, sheet);
-        accepted(number, &answer)
+        self.call(&Sheet::from(*sheet))
     }
 
-    pub(crate) fn make(&mut self, sheet: &Sheet) -> Result<Answer, Refusal> {
-        let bytes: &[u8; SHEET_BYTES] = sheet.bytes();
-        self.raw_call(bytes)
+    /// The first handles of Out, as many as an answer's `listed`.
+    pub fn listed_handles(&self, listed: u32) -> impl Iterator<Item = InstanceHandle> + '_ {
+        handles(self.seen().out, listed)
     }
 
-    pub(crate) fn lent(&self) -> &Lent {
-        &self.lent
+    /// The first GUIDs of Out, as many as an answer's `listed`.
+    pub fn listed_guids(&self, listed: u32) -> core::slice::Iter<'_, [u8; GUID_BYTES]> {
+        guids(self.seen().out, listed as usize).iter()
     }
 
-    /// The first handles of Out.
-    pub(crate) fn listed_handles(&self, listed: u32) -> Vec<InstanceHandle> {
-        handles(&self.lent.out, listed)
+    pub(crate) fn seen(&self) -> Seen<'_> {
+        self.buffers.seen()
     }
 
-    /// The first GUIDs of Out.
-    pub(crate) fn listed_guids(&self, listed: u32) -> Vec<[u8; 16]> {
-        guids(&self.lent.out, listed)
+    /// For the crate's own writes of the state: the next handle of a shared allocator, a loaded slot.
+    #[allow(dead_code)]
+    pub(crate) fn lent(&mut self) -> Lent<'_> {
+        self.buffers.lent()
     }
 }
 
 /// The answer of a call, or its refusal.
 pub(crate) fn accepted(number: u32, answer: &[u8; ANSWER_BYTES]) -> Result<Answer, Refusal> {
     match refusal(number) {
-        None => Ok(Answer::of(answer)),
+        None => Ok(Answer::from_bytes(answer)),
         Some(refusal) => Err(refusal),
     }
 }
@@ -218,6 +372,7 @@ pub(crate) fn refusal(number: u32) -> Option<Refusal> {
     Refusal::from_number(u8::try_from(number).unwrap_or(u8::MAX))
 }
 
+#[cfg(feature = "alloc")]
 impl Default for State {
     fn default() -> Self {
         Self::new()
@@ -225,22 +380,34 @@ impl Default for State {
 }
 
 /// Out is no part of the state: it keeps the list of an earlier call.
-impl PartialEq for State {
-    fn eq(&self, other: &Self) -> bool {
+impl<B: Buffers, C: Buffers> PartialEq<State<C>> for State<B> {
+    fn eq(&self, other: &State<C>) -> bool {
         self.parts() == other.parts()
     }
 }
 
-impl Eq for State {}
+impl<B: Buffers> Eq for State<B> {}
 
 /// The records in words, not the 78,912 bytes.
-impl fmt::Debug for State {
+impl<B: Buffers> fmt::Debug for State<B> {
     fn fmt(&self, f: &mut fmt::Formatter<'_>) -> fmt::Result {
-        f.debug_struct("State")
-            .field("head", &self.head())
-            .field("instances", &self.instances().collect::<Vec<_>>())
+        let mut text = f.debug_struct("State");
+        text.field("head", &self.head());
+        #[cfg(feature = "alloc")]
+        text.field("instances", &self.instances().collect::<Vec<_>>())
             .field("writers", &self.writers().collect::<Vec<_>>())
-            .field("lost", &self.lost())
-            .finish()
+            .field("lost", &self.lost());
+        text.finish_non_exhaustive()
     }
+}
+
+/// The version of the library: major, minor, patch.
+///
+/// ```
+/// assert_eq!(dcps::version(), (0, 2, 0));
+/// ```
+#[must_use]
+pub fn version() -> (u32, u32, u32) {
+    let number = ffi::version();
+    (number >> 16, number >> 8 & 0xff, number & 0xff)
 }

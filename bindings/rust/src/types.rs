@@ -3,7 +3,7 @@
 //! Names and fields from instance_tracker.rs, liveliness_tracker.rs and instance_handle.rs of ZeroDDS.
 //! Copyright 2026 ZeroDDS Contributors. SPDX-License-Identifier: Apache-2.0. Changed: written anew.
 
-use std::fmt;
+use core::fmt;
 
 /// The 16 bytes that name an instance (DDSI-RTPS KeyHash).
 pub type KeyHash = [u8; 16];

@@ -1,6 +1,5 @@
 //! The recorded lists (docs/LISTS.md) through `raw_call`: number, answer, head, buffers and Out are the recorded
 //! ones. Calls with other lengths are left to program `replay`, as this crate cannot make them.
-#![cfg(dcps_library)]
 
 use dcps::{Answer, InstanceHandle, InstanceStateKind, LivelinessChangedStatus, Refusal, State};
 

@@ -1,6 +1,5 @@
 //! What the doc examples leave out: every refusal that a typed call can meet, values at and beyond what a
 //! sheet has room for, and that a refused call leaves the state as it was.
-#![cfg(dcps_library)]
 
 use dcps::{
     Admission, InstanceHandle, InstanceStateKind, LivelinessChangedStatus, LivelinessKind, Refusal,
@@ -109,8 +108,9 @@ fn a_holder_is_asked_for_only_where_none_is_stored() -> Result<(), Refusal> {
     let mut state = State::new();
     state.observe_lifecycle(id(1), None, None)?;
     state.observe_admitted(id(1), || b"holder".to_vec(), at(1), -1)?;
-    let (handle, samples) =
-        state.observe_admitted(id(1), || panic!("one is stored"), at(2), -1)?.expect("it is known");
+    let (handle, samples) = state
+        .observe_admitted(id(1), || -> Vec<u8> { panic!("one is stored") }, at(2), -1)?
+        .expect("it is known");
     assert_eq!(samples, 3);
     assert_eq!(state.get_key_holder(handle), Some(b"holder".to_vec()));
     Ok(())
@@ -120,7 +120,7 @@ fn a_holder_is_asked_for_only_where_none_is_stored() -> Result<(), Refusal> {
 fn every_field_of_an_instance() -> Result<(), Refusal> {
     let mut state = State::new();
     let sample = Sample {
-        key_holder: vec![5; 144],
+        key_holder: &[5; 144],
         strength: -3,
         filter_ts: Time { sec: -2, nanosec: 7 },
         ..Sample::new(id(1), id(9), at(1))

@@ -141,7 +141,7 @@ pub record After (places : ℕ) (l : Lent) (acc : Accounts) : Type 0 where
   pub held : InStep places state acc
   pub laid : l ≡ layOut places state (l .out)
 
-after-list : (places : ℕ) (is : List Lending) (l : Lent) (acc : Accounts) → All SheetBytes is → After places l acc →
+pub after-list : (places : ℕ) (is : List Lending) (l : Lent) (acc : Accounts) → All SheetBytes is → After places l acc →
     After places (final (callIn places) is l) (accountsFrom (history (callIn places) is l) acc)
 unfolding final history accountsFrom
 after-list places [] l acc b m = m
@@ -220,7 +220,7 @@ told-laid places st out acc m =
       nextHandle = ap handle (m .sim .instances .next);
     }
 
-told-after : (places : ℕ) (l : Lent) (acc : Accounts) → After places l acc → Told places l acc
+pub told-after : (places : ℕ) (l : Lent) (acc : Accounts) → After places l acc → Told places l acc
 told-after places l acc m =
     subst (λ (k : Lent). Told places k acc) (sym (m .laid)) (told-laid places (m .state) (l .out) acc (m .held))
 

@@ -1,5 +1,5 @@
 -- Every effect of an instance call leaves a sound instance sound.
---     effect-sound       codes 1 to 21
+--     effect-sound       each call on instances
 --     lost-sound         codes 7 and 18 for each writer gone
 --     started-sound      a started instance
 --     two-times          both times of a sheet

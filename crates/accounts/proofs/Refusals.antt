@@ -19,6 +19,7 @@ use lib.Dec.{eqb, leb}
 use lib.ListN.{length}
 use mir.Syntax.{w32}
 use mir.Val.{toZ}
+use Rattle.octets.specs.Bounds.{Bytes}
 use Rattle.octets.specs.Lay.{All}
 use Rattle.octets.proofs.LayLaws.{length-lay}
 use Rattle.model.specs.declared.AcknowledgeUse.{AcknowledgeUse}
@@ -235,6 +236,13 @@ lent-anew places i {l} m = ap (withOut (i .out)) (m .laid) ∙ out-replaced plac
 
 -- after any list, a sheet of 256 bytes with an Out of 4,096, a valid code and all in order is refused by nothing but 8 and
 -- 9 to 13, each where section 8 says on the accounts
+-- the number of a call on a state in step with the accounts
+pub held-busy : (places : ℕ) (sheet : List ℕ) (st : State) (out : List ℕ) (acc : Accounts) (c : Call) → Bytes sheet → length sheet ≡ 256 →
+    length out ≡ 4096 → callOfCode (sheetOf sheet .code) ≡ some c → Ordered c (sheetOf sheet) → InStep places st acc →
+    callIn places sheet (layOut places st out) .answer .number ≡ busy places c (sheetOf sheet) acc
+held-busy places sheet st out acc c bytes n o q d m =
+    call-number places sheet st out acc c n o q m ∙ judged-busy places (sheetOf sheet) st acc (sheet-fits sheet bytes n) m c d
+
 pub only-busy : (places : ℕ) (is : List Lending) (out : List ℕ) (i : Lending) (c : Call) → All SheetBytes is →
     SheetBytes i →
     length (i .sheet) ≡ 256 → length (i .out) ≡ 4096 → callOfCode (sheetOf (i .sheet) .code) ≡ some c →
@@ -244,8 +252,7 @@ pub only-busy : (places : ℕ) (is : List Lending) (out : List ℕ) (i : Lending
 only-busy places is out i c b bytes n o q d =
     let m = after-fresh places is out b in
     ap (λ (l : Lent). callIn places (i .sheet) l .answer .number) (lent-anew places i m)
-    ∙ call-number places (i .sheet) (m .state) (i .out) _ c n o q (m .held)
-    ∙ judged-busy places (sheetOf (i .sheet)) (m .state) _ (sheet-fits (i .sheet) bytes n) (m .held) c d
+    ∙ held-busy places (i .sheet) (m .state) (i .out) _ c bytes n o q d (m .held)
 
 -- ---- which numbers there are
 
@@ -333,7 +340,7 @@ coded-other places (some c) s st out acc m =
     (sheetRefusal c s st)
     (λ e. not-3 lateNumber _ refl (turn-late places c s st)) (λ e. not-3 early _ refl (sheet-early c s st)))
 
-call-other : (places : ℕ) (sheet : List ℕ) (st : State) (out : List ℕ) (acc : Accounts) → InStep places st acc →
+pub call-other : (places : ℕ) (sheet : List ℕ) (st : State) (out : List ℕ) (acc : Accounts) → InStep places st acc →
     eqb (callIn places sheet (layOut places st out) .answer .number) 3 ≡ false
 unfolding callIn
 call-other places sheet st out acc m =

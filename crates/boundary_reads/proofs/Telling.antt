@@ -11,7 +11,7 @@ use lib.ListN.{length}
 use Rattle.octets.specs.Fields.{puts}
 use Rattle.octets.proofs.PatchLaws.{puts-patch}
 use Rattle.boundary.proofs.Written.{whole}
-use Rattle.boundary_reads.specs.declared.ReadAnswer.{ReadAnswer}
+use Rattle.read_answers.specs.declared.ReadAnswer.{ReadAnswer}
 use Rattle.boundary_reads.specs.ReadAnswers.{readWidths, readValues, readBytes, bitWidths, bitValues, valueWidths, valueValues, toldOf, told}
 
 pub told-short : (a : ReadAnswer) (b : List ℕ) → (length b ≡ 24 → ⊥) → toldOf 1 b ≡ told a b

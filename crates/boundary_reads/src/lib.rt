@@ -4,22 +4,12 @@ use model::Decision;
 use model::FoundHandle;
 use model::FoundTime;
 use model::Listing;
+use read_answers::ReadAnswer;
 ghost use mathlib.Core.Path.{_≡_};
 ghost use lib.ListN.{length};
 ghost use Rattle.octets.specs.Fields.{puts};
-ghost use Rattle.boundary_reads.specs.ReadAnswers.{bitWidths, bitValues, valueWidths, valueValues, refusedAnswer, decisionAnswer, handleAnswer, timeAnswer, listingAnswer, holderAnswer, changesAnswer, toldOf, told};
-
-// What a read answers.
-pub struct ReadAnswer {
-    pub number: u8,
-    pub yes: bool,
-    pub present: bool,
-    pub stored: bool,
-    pub size: u32,
-    pub value: u64,
-    pub sec: i32,
-    pub nanosec: u32,
-}
+ghost use Rattle.read_answers.specs.Cases.{refusedAnswer, decisionAnswer, handleAnswer, timeAnswer, listingAnswer, holderAnswer, changesAnswer};
+ghost use Rattle.boundary_reads.specs.ReadAnswers.{bitWidths, bitValues, valueWidths, valueValues, toldOf, told};
 
 // ---- the answers
 

@@ -12,7 +12,7 @@ ghost use lib.ListN.{length};
 ghost use Rattle.model.specs.Call.{coded, lentOf, leftOf};
 ghost use Rattle.model.specs.Calls.{lastInstance, lastTracker, lastJoined, callOfCode};
 
-// Codes 1 to 21: calls on the instances.
+// The codes of the calls on instances.
 pub fn instances(
     s: Sheet,
     head: Head,

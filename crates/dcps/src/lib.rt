@@ -18,7 +18,7 @@ use model::Listing;
 use model::Sheet;
 use model::StatusRead;
 use model::Time;
-ghost use mathlib.Core.Bool.{true, _&&_};
+ghost use mathlib.Core.Bool.{true, _&&_, cond};
 ghost use mathlib.Core.List.{List, []};
 ghost use mathlib.Core.Path.{_≡_};
 ghost use Prim.Native.Nat.{ℕ};
@@ -26,7 +26,8 @@ ghost use lib.Dec.{eqb};
 ghost use lib.ListN.{length};
 ghost use Rattle.model.specs.Call.{coded, callOf, lentOf, leftOf};
 ghost use Rattle.model.specs.Calls.{callOfCode};
-ghost use Rattle.model.specs.Reads.{filterRead, orderRead, lastDeliveredRead, nextHandleRead, walkRead, holderInForce, lookupRight, wouldLeaveRead, leftRead, leftOut, statusRead, changesRead};
+ghost use Rattle.model.specs.Reads.{filterRead, orderRead, lastDeliveredRead, nextHandleRead, walkRead, holderInForce, lookupRight, wouldLeaveRead, leftRead, leftOut, statusRead, changesRead, tableRefusal, timeRefusal, listRefusal, leftRefusal, headAlone};
+ghost use Rattle.read_answers.specs.Cases.{decisionAnswer, handleAnswer, timeAnswer, listingAnswer, statusAnswer, changesAnswer};
 ghost use Rattle.instance_reads.specs.HolderPlaces.{holderPlace, bytesAt};
 ghost use Rattle.dcps.specs.Fresh.{freshHead, freshOf};
 
@@ -136,7 +137,8 @@ pub fn should_deliver_under_time_based_filter(
     sample_ts: Time,
     min_separation: u64,
 ) -> Decision
-    ensures { λ r. ⌜ r ≡ filterRead 128 (now (pens .entry)) key «sample_ts» «min_separation» ⌝ }
+    ensures case { λ r. ⌜ r ≡ filterRead 128 (now (pens .entry)) key «sample_ts» «min_separation» ⌝ }
+    ensures number { λ r. ⌜ decisionAnswer r .number ≡ timeRefusal 128 (now (pens .entry)) «sample_ts» ⌝ }
 {
     instance_reads::should_deliver_under_time_based_filter(pens, key, sample_ts, min_separation)
 }
@@ -148,28 +150,32 @@ pub fn should_deliver_under_destination_order(
     source_ts: Time,
     by_source: bool,
 ) -> Decision
-    ensures { λ r. ⌜ r ≡ orderRead 128 (now (pens .entry)) key «source_ts» «by_source» ⌝ }
+    ensures case { λ r. ⌜ r ≡ orderRead 128 (now (pens .entry)) key «source_ts» «by_source» ⌝ }
+    ensures number { λ r. ⌜ decisionAnswer r .number ≡ timeRefusal 128 (now (pens .entry)) «source_ts» ⌝ }
 {
     instance_reads::should_deliver_under_destination_order(pens, key, source_ts, by_source)
 }
 
 // When a sample of the instance was delivered last.
 pub fn last_delivered_ts(pens: &[u8], key: Guid) -> FoundTime
-    ensures { λ r. ⌜ r ≡ lastDeliveredRead 128 (now (pens .entry)) key ⌝ }
+    ensures case { λ r. ⌜ r ≡ lastDeliveredRead 128 (now (pens .entry)) key ⌝ }
+    ensures number { λ r. ⌜ timeAnswer r .number ≡ tableRefusal 128 (now (pens .entry)) ⌝ }
 {
     instance_reads::last_delivered_ts(pens, key)
 }
 
 // The handle that follows another in the order of the keys; the first one behind nil.
 pub fn next_handle_after(pens: &[u8], previous: InstanceHandle) -> FoundHandle
-    ensures { λ r. ⌜ r ≡ nextHandleRead 128 (now (pens .entry)) previous ⌝ }
+    ensures case { λ r. ⌜ r ≡ nextHandleRead 128 (now (pens .entry)) previous ⌝ }
+    ensures number { λ r. ⌜ handleAnswer r .number ≡ tableRefusal 128 (now (pens .entry)) ⌝ }
 {
     instance_reads::next_handle_after(pens, previous)
 }
 
 // The handle of the instance at a position.
 pub fn handle_at_position(pens: &[u8], position: usize) -> FoundHandle
-    ensures { λ r. ⌜ r ≡ walkRead 128 (now (pens .entry)) position ⌝ }
+    ensures case { λ r. ⌜ r ≡ walkRead 128 (now (pens .entry)) position ⌝ }
+    ensures number { λ r. ⌜ handleAnswer r .number ≡ tableRefusal 128 (now (pens .entry)) ⌝ }
 {
     instance_reads::handle_at_position(pens, position)
 }
@@ -191,14 +197,16 @@ pub fn holder_in_force<'a>(pens: &'a [u8], key: Guid, offered: &'a [u8]) -> &'a 
 
 // An alive instance that the writer writes.
 pub fn writer_lookup(pens: &[u8], guid: Guid) -> FoundHandle
-    ensures { λ r. ⌜ lookupRight 128 (now (pens .entry)) guid r ≡ true ⌝ }
+    ensures right { λ r. ⌜ lookupRight 128 (now (pens .entry)) guid r ≡ true ⌝ }
+    ensures number { λ r. ⌜ handleAnswer r .number ≡ tableRefusal 128 (now (pens .entry)) ⌝ }
 {
     instance_reads::writer_lookup(pens, guid)
 }
 
 // Whether the loss of the writers of a list would leave an instance without writers.
 pub fn would_leave_writerless(pens: &[u8], gone: &[u8], view_states: u32) -> Decision
-    ensures { λ r. ⌜ r ≡ wouldLeaveRead 128 (now (pens .entry)) (now (gone .entry)) «view_states» ⌝ }
+    ensures case { λ r. ⌜ r ≡ wouldLeaveRead 128 (now (pens .entry)) (now (gone .entry)) «view_states» ⌝ }
+    ensures number { λ r. ⌜ decisionAnswer r .number ≡ listRefusal 128 (now (pens .entry)) (now (gone .entry)) ⌝ }
 {
     instance_reads::would_leave_writerless(pens, gone, view_states)
 }
@@ -206,6 +214,7 @@ pub fn would_leave_writerless(pens: &[u8], gone: &[u8], view_states: u32) -> Dec
 // The handles of the instances that it would leave so, to the front of Out.
 pub fn left_writerless(pens: &[u8], gone: &[u8], view_states: u32, out: &mut [u8]) -> Listing
     ensures answer { λ r. ⌜ r ≡ leftRead 128 (now (pens .entry)) (now (gone .entry)) «view_states» (now (out .entry)) ⌝ }
+    ensures number { λ r. ⌜ listingAnswer r .number ≡ leftRefusal 128 (now (pens .entry)) (now (gone .entry)) (now (out .entry)) ⌝ }
     ensures list { λ _. ⌜ now (out .exit) ≡ leftOut 128 (now (pens .entry)) (now (gone .entry)) «view_states» (now (out .entry)) ⌝ }
 {
     instance_reads::left_writerless(pens, gone, view_states, out)
@@ -213,14 +222,16 @@ pub fn left_writerless(pens: &[u8], gone: &[u8], view_states: u32, out: &mut [u8
 
 // The liveliness status (DDS 1.4, 2.2.4.1) that the head holds, which it leaves as it is.
 pub fn status(head: Head) -> StatusRead
-    ensures { λ r. ⌜ r ≡ statusRead 128 head ⌝ }
+    ensures case { λ r. ⌜ r ≡ statusRead 128 head ⌝ }
+    ensures number { λ r. ⌜ statusAnswer r .number ≡ cond (headAlone 128 head) 0 3 ⌝ }
 {
     writer_validity::status(head)
 }
 
 // How many changes of class the head has counted.
 pub fn changes(head: Head) -> ChangesRead
-    ensures { λ r. ⌜ r ≡ changesRead 128 head ⌝ }
+    ensures case { λ r. ⌜ r ≡ changesRead 128 head ⌝ }
+    ensures number { λ r. ⌜ changesAnswer r .number ≡ cond (headAlone 128 head) 0 3 ⌝ }
 {
     writer_validity::changes(head)
 }

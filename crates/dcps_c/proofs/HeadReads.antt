@@ -17,10 +17,11 @@ use Rattle.model.specs.Answers.{refusedWith}
 use Rattle.model.specs.Reads.{headAlone, statusRead, changesRead}
 use Rattle.model.specs.WellFormed.{headOk}
 use Rattle.boundary.specs.Layouts.{headIn, headLaid, answerBytes}
-use Rattle.boundary_reads.specs.declared.ReadAnswer.{ReadAnswer}
-use Rattle.boundary_reads.specs.ReadAnswers.{refusedAnswer, changesAnswer, toldOf}
+use Rattle.read_answers.specs.declared.ReadAnswer.{ReadAnswer}
+use Rattle.read_answers.specs.Cases.{refusedAnswer, changesAnswer, statusAnswer}
+use Rattle.boundary_reads.specs.ReadAnswers.{toldOf}
 use Rattle.dcps_c.specs.Boundary.{noHead, headOr}
-use Rattle.dcps_c.specs.Reads.{statusAnswer, statusOf, boundaryStatus, changesOf}
+use Rattle.dcps_c.specs.Reads.{statusOf, boundaryStatus, changesOf}
 
 -- no head is refused as 3
 no-status : statusAnswer (statusRead 128 noHead) ≡ refusedWith 3

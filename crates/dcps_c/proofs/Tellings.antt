@@ -12,8 +12,9 @@ use Rattle.model.specs.declared.FoundHandle.{FoundHandle}
 use Rattle.model.specs.declared.FoundTime.{FoundTime}
 use Rattle.model.specs.declared.Listing.{Listing}
 use Rattle.model.specs.Reads.{leftRead, leftOut}
-use Rattle.boundary_reads.specs.declared.ReadAnswer.{ReadAnswer}
-use Rattle.boundary_reads.specs.ReadAnswers.{toldOf, told, decisionAnswer, handleAnswer, timeAnswer, listingAnswer, holderAnswer}
+use Rattle.read_answers.specs.declared.ReadAnswer.{ReadAnswer}
+use Rattle.read_answers.specs.Cases.{decisionAnswer, handleAnswer, timeAnswer, listingAnswer, holderAnswer}
+use Rattle.boundary_reads.specs.ReadAnswers.{toldOf, told}
 use Rattle.instance_reads.specs.declared.HolderPlace.{HolderPlace}
 use Rattle.dcps_c.specs.Reads.{placeAnswer, toldList, boundaryLeft}
 

@@ -9,15 +9,14 @@ use lib.ListN.{length}
 use Rattle.model.specs.declared.Answer.{Answer}
 use Rattle.model.specs.declared.FoundHandle.{FoundHandle}
 use Rattle.model.specs.declared.Guid.{Guid}
-use Rattle.model.specs.declared.StatusRead.{StatusRead}
-use Rattle.model.specs.declared.StatusRead.the-variants.{Is, Refused}
 use Rattle.model.specs.declared.Time.{Time}
-use Rattle.model.specs.Answers.{refusedWith, reporting}
+use Rattle.model.specs.Answers.{refusedWith}
 use Rattle.model.specs.Reads.{statusRead, changesRead, leftRead, leftOut, lookupRight}
 use Rattle.model.specs.State.{instancePlaces}
 use Rattle.boundary.specs.Layouts.{headIn, headLaid, answerBytes}
-use Rattle.boundary_reads.specs.declared.ReadAnswer.{ReadAnswer}
-use Rattle.boundary_reads.specs.ReadAnswers.{AnswerTold, toldOf, told, refusedAnswer, changesAnswer, handleAnswer, listingAnswer, holderAnswer}
+use Rattle.boundary_reads.specs.ReadAnswers.{AnswerTold, toldOf, told}
+use Rattle.read_answers.specs.declared.ReadAnswer.{ReadAnswer}
+use Rattle.read_answers.specs.Cases.{refusedAnswer, changesAnswer, statusAnswer, handleAnswer, listingAnswer, holderAnswer}
 use Rattle.instance_reads.specs.declared.HolderPlace.{HolderPlace}
 use Rattle.dcps_c.specs.Boundary.{headSize, answerSize}
 
@@ -28,11 +27,6 @@ abbrev pub timeAt : ℤ → ℕ → Time
 timeAt sec nanosec = record { sec = sec; nanosec = nanosec }
 
 -- ---- of the head alone: its length belongs to 1; bytes that are no head's are refused as 3
-
--- the status goes into the answer of a call
-abbrev pub statusAnswer : StatusRead → Answer
-statusAnswer (Refused n) = refusedWith n
-statusAnswer (Is s) = reporting s
 
 unfoldable pub statusOf : List ℕ → Answer
 statusOf head =

@@ -1,6 +1,5 @@
 // The C boundary: every entry of dcps on bytes alone, numbers most significant byte first (include/dcps.h). None has a
 // `requires`: any bytes are answered, or refused with a number of the scope document and nothing written but the answer.
-use boundary_reads::ReadAnswer;
 use model::Answer;
 use model::Called;
 use model::Guid;
@@ -9,19 +8,32 @@ use model::InstanceHandle;
 use model::LastWriter;
 use model::StatusRead;
 use model::Time;
+use read_answers::ReadAnswer;
 ghost use mathlib.Core.Bool.{not};
 ghost use mathlib.Core.List.{[]};
 ghost use mathlib.Core.Path.{_≡_};
 ghost use lib.Dec.{eqb};
 ghost use lib.ListN.{length};
 ghost use Rattle.boundary.specs.Layouts.{answerBytes};
-ghost use Rattle.boundary_reads.specs.ReadAnswers.{toldOf, told, decisionAnswer, timeAnswer, handleAnswer};
+ghost use Rattle.boundary_reads.specs.ReadAnswers.{toldOf, told};
+ghost use Rattle.read_answers.specs.Cases.{decisionAnswer, timeAnswer, handleAnswer, statusAnswer};
 ghost use Rattle.model.specs.Answers.{refusedWith};
 ghost use Rattle.model.specs.Handles.{handle};
 ghost use Rattle.model.specs.Reads.{filterRead, orderRead, lastDeliveredRead, nextHandleRead, walkRead, wouldLeaveRead};
 ghost use Rattle.instance_reads.specs.HolderPlaces.{holderPlace};
 ghost use Rattle.dcps_c.specs.Boundary.{crossedOf, headOr, noHead, calledHead, boundaryCall, boundaryFresh};
-ghost use Rattle.dcps_c.specs.Reads.{guidOf, timeAt, statusAnswer, statusOf, boundaryStatus, changesOf, toldList, boundaryLeft, placeAnswer, LookedUp};
+ghost use Rattle.dcps_c.specs.Reads.{guidOf, timeAt, statusOf, boundaryStatus, changesOf, toldList, boundaryLeft, placeAnswer, LookedUp};
+ghost use Rattle.dcps_c.specs.Version.{versionNumber};
+
+// ---- the version
+
+// The version of the library, 0.2.0, as one number.
+#[no_mangle]
+pub extern "C" fn dcps_version() -> u32
+    ensures { λ r. ⌜ r ≡ versionNumber ⌝ }
+{
+    512
+}
 
 // ---- the head and the answer
 

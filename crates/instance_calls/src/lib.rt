@@ -1,4 +1,4 @@
-// Codes 1 to 21 on head and buffers, past refusals 1 to 3: what the sheet decides, then the call on the instances.
+// The calls on instances, on head and buffers, past refusals 1 to 3: what the sheet decides, then the call itself.
 //
 // Derives from instance_tracker.rs of ZeroDDS.
 // Copyright 2026 ZeroDDS Contributors. SPDX-License-Identifier: Apache-2.0. Changed: written anew in Rattle, with the state

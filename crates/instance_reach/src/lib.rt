@@ -1,6 +1,6 @@
-// The calls that reach one instance, over the lent table: by key codes 1, 2, 8 and 9, which start an absent one, and 10, 11,
-// 14, 16 and 20; by handle codes 3 to 6, 12, 13 and 15. Refused are 9, a new instance where every place is taken; 13, one
-// where the next handle is 2^63; and 10, a new writer where an instance has 16. Nothing is then written.
+// The calls that reach one instance, over the lent table: by key, where some start an absent one, or by handle, as the call's
+// row says. Refused are 9, a new instance where every place is taken; 13, one where the next handle is 2^63; and 10, a new
+// writer where an instance has 16. Nothing is then written.
 //
 // Derives from instance_tracker.rs of ZeroDDS.
 // Copyright 2026 ZeroDDS Contributors. SPDX-License-Identifier: Apache-2.0. Changed: written anew in Rattle, with the

@@ -1,6 +1,11 @@
 //! The functions of include/dcps.h over slices, whose lengths are the ones
 //! lent. Where the library was not at hand none of them can be called.
 
+#[cfg(dcps_library)]
+#[allow(dead_code)]
+#[path = "../../../bindings/rust/src/c.rs"]
+mod c;
+
 /// Whether the library was at hand when this was built.
 pub const PRESENT: bool = cfg!(dcps_library);
 
@@ -22,15 +27,6 @@ pub struct Lent<'a> {
 /// what is written.
 macro_rules! boundary {
     ($($name:ident = $symbol:ident($($lent:ident),*; $($value:ident: $type:ty),*; $($written:ident),*);)*) => {
-        #[cfg(dcps_library)]
-        mod c {
-            unsafe extern "C" {
-                $(pub fn $symbol(
-                    $($lent: *const u8, _: usize,)* $($value: $type,)* $($written: *mut u8, _: usize),*
-                ) -> u32;)*
-            }
-        }
-
         $(
             #[allow(clippy::too_many_arguments)]
             pub fn $name($($lent: &[u8],)* $($value: $type,)* $($written: &mut [u8]),*) -> u32 {
@@ -74,28 +70,10 @@ fn absent<T>(_: T) -> u32 {
 
 #[cfg(dcps_library)]
 pub fn call(lent: Lent<'_>) -> u32 {
-    unsafe extern "C" {
-        fn dcps_call(
-            head: *mut u8,
-            head_len: usize,
-            sheet: *const u8,
-            sheet_len: usize,
-            pens: *mut u8,
-            pens_len: usize,
-            writers: *mut u8,
-            writers_len: usize,
-            lost: *mut u8,
-            lost_len: usize,
-            out: *mut u8,
-            out_len: usize,
-            answer: *mut u8,
-            answer_len: usize,
-        ) -> u32;
-    }
     let Lent { head, sheet, pens, writers, lost, out, answer } = lent;
     // SAFETY: as for the reads.
     unsafe {
-        dcps_call(
+        c::dcps_call(
             head.as_mut_ptr(),
             head.len(),
             sheet.as_ptr(),

@@ -22,7 +22,7 @@ changes-answer-requires c κs = search needs
 returns-2 : tie.Need-returns-2
 returns-2 c =
     let h = c .before .before in
-    changes-made (h .before .before .before .args .head .now) (h .before .if1 .left) (h .lent-head .ensures) (c .before .changes .ensures)
+    changes-made (h .before .before .before .args .head .now) (h .before .if1 .left) (h .lent-head .ensures) (c .before .changes .ensures .0)
     (c .changes-answer .ensures)
 
 pub changes-of-spec : {M : Type 1} → statement M

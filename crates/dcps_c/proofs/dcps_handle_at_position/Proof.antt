@@ -19,7 +19,7 @@ same-length c = search needs
 returns : tie.Need-returns
 returns c =
     let t = c .before .before in
-    handled _ _ (t .tell .ensures) (t .before .handle-answer .ensures) (t .before .before .before .handle-at-position .ensures)
+    handled _ _ (t .tell .ensures) (t .before .handle-answer .ensures) (t .before .before .before .handle-at-position .ensures .0)
 
 pub dcps-handle-at-position-spec : {M : Type 1} → statement M
 dcps-handle-at-position-spec =

@@ -17,7 +17,7 @@ same-length : tie.Need-same-length
 same-length c = search needs
 
 returns : tie.Need-returns
-returns c = let t = c .before .before in timed _ _ (t .tell .ensures) (t .before .time-answer .ensures) (t .before .before .before .last-delivered-ts .ensures)
+returns c = let t = c .before .before in timed _ _ (t .tell .ensures) (t .before .time-answer .ensures) (t .before .before .before .last-delivered-ts .ensures .0)
 
 pub dcps-last-delivered-ts-spec : {M : Type 1} → statement M
 dcps-last-delivered-ts-spec =

@@ -27,7 +27,7 @@ returns-2 c =
     let t = c .before .before in
     let l = t .before .before .before .before .before in
     left-told _ _ _ _ _ _ _ _ _ _ (l .before .before .if1 .left) (t .tell .ensures) (t .before .listing-answer .ensures)
-    (l .left-writerless .ensures .0) (l .left-writerless .ensures .1)
+    (l .left-writerless .ensures .0) (l .left-writerless .ensures .1 .1)
 
 pub dcps-left-writerless-spec : {M : Type 1} → statement M
 dcps-left-writerless-spec =

@@ -19,7 +19,7 @@ same-length c = search needs
 returns : tie.Need-returns
 returns c =
     let t = c .before .before in
-    handled _ _ (t .tell .ensures) (t .before .handle-answer .ensures) (t .before .before .before .next-handle-after .ensures)
+    handled _ _ (t .tell .ensures) (t .before .handle-answer .ensures) (t .before .before .before .next-handle-after .ensures .0)
 
 pub dcps-next-handle-after-spec : {M : Type 1} → statement M
 dcps-next-handle-after-spec =

@@ -32,7 +32,7 @@ returns c =
     let a = c .before .before .before .before .before .before .before .before .args in
     let fits : SFits w32 (a .sec) = search needs in
     decided _ _ (t .tell .ensures) (t .before .decision-answer .ensures)
-    (t .before .before .before .should-deliver-under-destination-order .ensures
+    (t .before .before .before .should-deliver-under-destination-order .ensures .0
     ∙ ap (λ (z : ℤ). orderRead 128 (a .pens .now) (guidOf (a .high) (a .low)) (timeAt z (a .nanosec)) (not (eqb (a .by-source) 0))) (toZ-ofZ fits))
 
 pub dcps-should-deliver-under-destination-order-spec : {M : Type 1} → statement M

@@ -30,7 +30,7 @@ returns c =
     let a = c .before .before .before .before .before .before .before .before .args in
     let fits : SFits w32 (a .sec) = search needs in
     decided _ _ (t .tell .ensures) (t .before .decision-answer .ensures)
-    (t .before .before .before .should-deliver-under-time-based-filter .ensures
+    (t .before .before .before .should-deliver-under-time-based-filter .ensures .0
     ∙ ap (λ (z : ℤ). filterRead 128 (a .pens .now) (guidOf (a .high) (a .low)) (timeAt z (a .nanosec)) (a .min-separation)) (toZ-ofZ fits))
 
 pub dcps-should-deliver-under-time-based-filter-spec : {M : Type 1} → statement M

@@ -19,7 +19,7 @@ same-length c = search needs
 returns : tie.Need-returns
 returns c =
     let t = c .before .before in
-    decided _ _ (t .tell .ensures) (t .before .decision-answer .ensures) (t .before .before .before .would-leave-writerless .ensures)
+    decided _ _ (t .tell .ensures) (t .before .decision-answer .ensures) (t .before .before .before .would-leave-writerless .ensures .0)
 
 pub dcps-would-leave-writerless-spec : {M : Type 1} → statement M
 dcps-would-leave-writerless-spec =

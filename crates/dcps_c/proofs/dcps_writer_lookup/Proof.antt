@@ -20,7 +20,7 @@ returns : tie.Need-returns
 returns c =
     let t = c .before .before in
     let f = t .before .before .before in
-    record { answer = f .writer-lookup .result; right = f .writer-lookup .ensures; leaves = retold _ _ (t .tell .ensures) (t .before .handle-answer .ensures) }
+    record { answer = f .writer-lookup .result; right = f .writer-lookup .ensures .0; leaves = retold _ _ (t .tell .ensures) (t .before .handle-answer .ensures) }
 
 pub dcps-writer-lookup-spec : {M : Type 1} → statement M
 dcps-writer-lookup-spec =

@@ -22,7 +22,7 @@ status-answer-requires c κs = search needs
 returns-2 : tie.Need-returns-2
 returns-2 c =
     let h = c .before .before in
-    status-made (h .before .before .before .args .head .now) (h .before .if1 .left) (h .lent-head .ensures) (c .before .status .ensures) (c .status-answer .ensures)
+    status-made (h .before .before .before .args .head .now) (h .before .if1 .left) (h .lent-head .ensures) (c .before .status .ensures .0) (c .status-answer .ensures)
 
 pub status-of-spec : {M : Type 1} → statement M
 status-of-spec =

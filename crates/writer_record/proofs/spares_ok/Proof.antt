@@ -1,4 +1,6 @@
 -- `writer_record::spares_ok` meets its contract. Assumes nothing.
+use mathlib.Core.Logic.{_≢_}
+use Prim.Native.Nat.{_%_}
 use borrow.Author.Needs.{needs}
 use borrow.Author.Tests.{le-ltb, lt-ltb, ne-eqb, eq-eqb}
 use Rattle.writer_record.proofs.spares_ok.Statement.{statement}
@@ -11,7 +13,9 @@ returns : tie.Need-returns
 returns c = rw (← (c .before .get-u8 .ensures), le-ltb _ _ (c .if1 .taken))
 
 returns-2 : tie.Need-returns-2
-returns-2 c = rw (← (c .before .before .get-u8 .ensures), lt-ltb _ _ (c .before .if1 .left), ne-eqb _ _ (c .if2 .taken))
+returns-2 c =
+    let spare : c .before .before .get-u8 .result % 8 ≢ 0 = c .if2 .taken in
+    rw (← (c .before .before .get-u8 .ensures), lt-ltb _ _ (c .before .if1 .left), ne-eqb _ _ spare)
 
 get-requires : tie.Need-get-requires
 get-requires c κs = search needs

@@ -1,0 +1,190 @@
+//! Sets and gets the state of a tracker, as `src/append` of the oracle does of ZeroDDS's: through the bytes of `State`, laid
+//! out by the oracle's reading.
+
+use dcps::{Refusal, SharedState, State};
+use lists::Image;
+use reading::{Head, State as Records};
+use std::cell::RefCell;
+
+/// The state of records; they come from one that is well formed.
+fn laid_out(mut records: Records) -> State {
+    records.head.instances = records.instances.len() as u32;
+    records.head.writer_records = records.writers.len() as u32;
+    records.head.lost = records.lost.len() as u32;
+    let image = Image::of_state(&records);
+    let head: [u8; 64] = image.head.bytes();
+    State::from_parts(
+        &head,
+        image.pens.first_chunk().expect("as long"),
+        image.writers.first_chunk().expect("as long"),
+        image.lost.first_chunk().expect("as long"),
+    )
+    .expect("well formed")
+}
+
+thread_local! {
+    /// The states that were set last: of the instances, of the writers.
+    static SET: RefCell<[SharedState; 2]> = RefCell::default();
+}
+
+/// Why the latest call on the trackers set last was refused. The driver has no place for it, as ZeroDDS refuses nothing.
+pub fn take_refusal() -> Option<Refusal> {
+    SET.with_borrow(|set| set.iter().find_map(SharedState::take_refusal))
+}
+
+pub mod instances {
+    use super::{Records, SET, laid_out};
+    use dcps::instance_tracker::{InstanceState, InstanceTracker, KeyHash};
+    use dcps::{InstanceStateKind, Time};
+    use reading::layout::{self, Instance, Kind};
+
+    pub fn set(tracker: &InstanceTracker, instances: Vec<(KeyHash, InstanceState)>) {
+        let mut records = Records::fresh();
+        let next = instances.iter().map(|(_, s)| s.handle.as_raw() + 1).max();
+        records.head.next_handle = next.unwrap_or(1);
+        records.instances = instances.into_iter().map(|(key, s)| record(key, s)).collect();
+        *tracker.state().lock() = laid_out(records);
+        SET.with_borrow_mut(|set| set[0] = tracker.state().clone());
+    }
+
+    pub fn each(tracker: &InstanceTracker, mut see: impl FnMut(&KeyHash, &InstanceState)) {
+        let state = tracker.state().lock();
+        state.instances().for_each(|i| see(&i.keyhash, &i.into()));
+    }
+
+    /// There is one table.
+    pub fn maps_agree(_: &InstanceTracker) -> bool {
+        true
+    }
+
+    fn time(time: Time) -> layout::Time {
+        layout::Time { seconds: time.sec, nanoseconds: time.nanosec }
+    }
+
+    fn record(key: KeyHash, s: InstanceState) -> Instance {
+        Instance {
+            key,
+            handle: s.handle.as_raw(),
+            kind: match s.kind {
+                InstanceStateKind::Alive => Kind::Alive,
+                InstanceStateKind::NotAliveDisposed => Kind::Disposed,
+                InstanceStateKind::NotAliveNoWriters => Kind::NoWriters,
+            },
+            view_new: s.reader_view_new,
+            disposed_generations: s.disposed_generation_count,
+            no_writers_generations: s.no_writers_generation_count,
+            writer_count: s.writer_count,
+            samples: s.samples_in_cache,
+            last_sample: s.last_sample_timestamp.map(time),
+            last_delivered: s.last_delivered_ts.map(time),
+            last_filter: s.last_filter_ts.map(time),
+            disposed_at: s.disposed_at.map(time),
+            no_writers_at: s.no_writers_at.map(time),
+            owner: s.current_owner,
+            owner_at: s.owner_at.map(time),
+            holder: s.key_holder,
+            writers: s.writers.into_iter().collect(),
+        }
+    }
+}
+
+pub mod liveliness {
+    use super::{Head, Records, SET, laid_out};
+    use dcps::liveliness_tracker::LivelinessTracker;
+    use dcps::{LivelinessKind, SharedState, WriterLiveliness, WriterState};
+    use reading::layout::{self, WriterKind};
+    use std::time::Duration;
+
+    /// Where a writer stands.
+    pub use dcps::WriterLiveliness as Standing;
+
+    /// A writer as the tracker holds it.
+    #[derive(Debug, Clone, Copy)]
+    pub struct Writer {
+        pub guid: [u8; 16],
+        pub kind: LivelinessKind,
+        pub standing: WriterLiveliness,
+        pub lease: Option<Duration>,
+        pub last_assert: Duration,
+    }
+
+    /// All that a tracker holds; the writers rise by GUID.
+    #[derive(Debug, Clone)]
+    pub struct Held {
+        pub writers: Vec<Writer>,
+        pub alive: i32,
+        pub not_alive: i32,
+        pub alive_change: i32,
+        pub not_alive_change: i32,
+        pub last_writer: Option<[u8; 16]>,
+        pub changes: u64,
+        pub lost: Vec<[u8; 16]>,
+    }
+
+    pub fn set(held: &Held) -> LivelinessTracker {
+        let mut records = Records::fresh();
+        records.head = Head {
+            alive: held.alive as u32,
+            not_alive: held.not_alive as u32,
+            alive_change: held.alive_change,
+            not_alive_change: held.not_alive_change,
+            last_writer: held.last_writer,
+            changes: held.changes,
+            ..records.head
+        };
+        records.writers = held.writers.iter().map(record).collect();
+        records.lost.clone_from(&held.lost);
+        let shared = SharedState::from(laid_out(records));
+        SET.with_borrow_mut(|set| set[1] = shared.clone());
+        shared.liveliness()
+    }
+
+    pub fn get(tracker: &LivelinessTracker) -> Held {
+        let state = tracker.state().lock();
+        let head = state.head();
+        Held {
+            writers: state.writers().map(seen).collect(),
+            alive: head.alive as i32,
+            not_alive: head.not_alive as i32,
+            alive_change: head.alive_change,
+            not_alive_change: head.not_alive_change,
+            last_writer: head.last_writer,
+            changes: head.changes,
+            lost: state.lost(),
+        }
+    }
+
+    /// The writers lost and not yet taken.
+    pub fn lost(tracker: &LivelinessTracker) -> Vec<[u8; 16]> {
+        tracker.state().lock().lost()
+    }
+
+    fn seen(w: WriterState) -> Writer {
+        Writer {
+            guid: w.guid,
+            kind: w.kind,
+            standing: w.state,
+            lease: w.lease,
+            last_assert: w.last_assert,
+        }
+    }
+
+    fn record(w: &Writer) -> layout::Writer {
+        layout::Writer {
+            guid: w.guid,
+            kind: match w.kind {
+                LivelinessKind::Automatic => WriterKind::Automatic,
+                LivelinessKind::ManualByParticipant => WriterKind::ByParticipant,
+                LivelinessKind::ManualByTopic => WriterKind::ByTopic,
+            },
+            standing: match w.standing {
+                WriterLiveliness::Unasserted => layout::Standing::Unasserted,
+                WriterLiveliness::Alive => layout::Standing::Alive,
+                WriterLiveliness::NotAlive => layout::Standing::NotAlive,
+                WriterLiveliness::Departed => layout::Standing::Departed,
+            },
+            lease: w.lease.map(|lease| lease.as_nanos() as u64),
+            last_assertion: w.last_assert.as_nanos() as u64,
+        }
+    }
+}

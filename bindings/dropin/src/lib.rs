@@ -1,0 +1,51 @@
+//! The oracle's driver calls ZeroDDS's trackers by their own names. Here it is built a second time, the same file, and
+//! the names are those of crate `dcps`: what changes for a console's transport is this `use`.
+
+pub use dcps::{LivelinessKind, sample_info, status, time};
+
+#[path = "../../../oracle/original/src/driver.rs"]
+mod driver;
+pub use driver::{Original, Turn, handle_of, two_handles};
+
+mod access;
+pub use access::take_refusal;
+
+/// The handles, with the counter's access that the driver asks for.
+pub mod instance_handle {
+    pub use dcps::instance_handle::*;
+
+    pub mod access {
+        use super::InstanceHandleAllocator;
+
+        pub fn starting_at(next: u64) -> InstanceHandleAllocator {
+            InstanceHandleAllocator::starting_at(next)
+        }
+
+        pub fn next(allocator: &InstanceHandleAllocator) -> u64 {
+            allocator.next()
+        }
+    }
+}
+
+/// The instances, with the access to their state.
+pub mod instance_tracker {
+    pub use crate::access::instances as access;
+    pub use dcps::instance_tracker::*;
+}
+
+/// The writers, with the access to their state.
+pub mod liveliness_tracker {
+    pub use crate::access::liveliness as access;
+    pub use dcps::liveliness_tracker::*;
+}
+
+/// A GUID is its 16 bytes.
+pub mod wire_types {
+    pub struct Guid;
+
+    impl Guid {
+        pub fn from_bytes(bytes: [u8; 16]) -> [u8; 16] {
+            bytes
+        }
+    }
+}

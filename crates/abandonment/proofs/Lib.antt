@@ -1,0 +1,12 @@
+-- The proofs.
+pub mod SetLaws
+pub mod KindLaws
+pub mod OnInstance
+pub mod Answered
+pub mod Steps
+pub mod Abandonment
+pub mod Lapse
+pub mod CauseLaws
+pub mod CausesExact
+pub mod Lists
+pub mod Claims

@@ -1,0 +1,2 @@
+// When an instance is shown as abandoned, above the accounts: definitions, and theorems about every list of calls. No
+// function stands here.

@@ -1,0 +1,2 @@
+// What the reads refuse as 3, exactly: of the instance table alone, and of the head alone. The definitions are model's
+// (specs/Reads.antt); the laws stand in proofs/. No function stands here.

@@ -1,0 +1,238 @@
+//! What looks wrong in a day and does not stop it.
+
+use crate::forms::Verb;
+use crate::marks::Gaps;
+#[cfg(test)]
+use crate::names::Names;
+use crate::nearest::nearest;
+use crate::play::{Step, Watch};
+use crate::words::{moment_of_clock, show_guid, show_moment, spoken, Moment};
+use dcps::{KeyHash, WriterLiveliness};
+use std::collections::{BTreeSet, HashMap, HashSet};
+
+const KEPT: usize = 20;
+
+#[derive(Default)]
+pub struct Warnings {
+    /// The first ones, each with its line.
+    pub first: Vec<(usize, String)>,
+    pub all: usize,
+    latest: Option<Moment>,
+    backwards: bool,
+    keys: HashSet<KeyHash>,
+    /// Keys that were warned of.
+    unknown: HashSet<KeyHash>,
+    writers: HashMap<[u8; 16], Signs>,
+}
+
+/// What a writer was heard of, and what was warned of.
+#[derive(Default)]
+struct Signs {
+    gaps: Gaps,
+    matched: bool,
+    warned: bool,
+    unasserted: bool,
+}
+
+impl Watch for Warnings {
+    fn see(&mut self, step: &Step<'_>) {
+        self.key(step);
+        self.writer(step);
+        if step.said.is_err() {
+            return;
+        }
+        self.time(step);
+        for change in &step.changes.writers {
+            let signs = self.writers.entry(change.guid).or_default();
+            signs.matched |= change.after.is_some();
+            let asserted = change.after.map(|w| w.last_assert);
+            if asserted != change.before.map(|w| w.last_assert) {
+                if let Some(at) = asserted.filter(|at| !at.is_zero()) {
+                    self.sign(step, change.guid, moment_of_clock(at));
+                }
+            }
+        }
+        if step.call.verb == Verb::Admit {
+            self.unasserted(step);
+            if let Some(at) = step.call.moment() {
+                self.sign(step, step.call.words.writer, at);
+            }
+        }
+    }
+}
+
+impl Warnings {
+    fn warn(&mut self, line: usize, what: impl FnOnce(&Self) -> String) {
+        self.all += 1;
+        if self.first.len() < KEPT {
+            self.first.push((line, what(self)));
+        }
+    }
+
+    /// A time before that of the call above. Only the first of a row is warned of.
+    fn time(&mut self, step: &Step<'_>) {
+        let Some(at) = step.call.moment() else {
+            return;
+        };
+        let latest = self.latest.unwrap_or(at);
+        if at < latest && !self.backwards {
+            self.warn(step.call.line, |_| {
+                format!(
+                    "the time goes back from {} to {}: put the lines in the order of their times, and dates in all of them or in none",
+                    show_moment(latest),
+                    show_moment(at)
+                )
+            });
+        }
+        self.backwards = at < latest;
+        self.latest = Some(latest.max(at));
+    }
+
+    /// A key that only calls name that start no instance.
+    fn key(&mut self, step: &Step<'_>) {
+        let words = &step.call.words;
+        if !words.names_key || self.keys.contains(&words.key) || self.unknown.contains(&words.key) {
+            return;
+        }
+        let starts = matches!(
+            step.call.verb,
+            Verb::Admit | Verb::ObserveAdmitted | Verb::EnsureRegisteredLimited
+        );
+        if step.mirror.instance(&words.key).is_some() {
+            self.keys.insert(words.key);
+        } else if step.said.is_ok() && !starts {
+            if self.unknown.len() < KEPT {
+                self.unknown.insert(words.key);
+            }
+            self.warn(step.call.line, |warnings| {
+                let key = step.names.show(&words.key);
+                let meant = meant(&key, warnings.keys.iter().map(|key| step.names.show(key)));
+                format!("nobody has named {key} before, so the call changes nothing{meant}")
+            });
+        }
+    }
+
+    /// A writer that was never matched: its lease is not known, so it never lapses.
+    fn writer(&mut self, step: &Step<'_>) {
+        let words = &step.call.words;
+        if !words.names_writer || step.call.verb == Verb::Match {
+            return;
+        }
+        let signs = self.writers.entry(words.writer).or_default();
+        if signs.matched || signs.warned {
+            return;
+        }
+        signs.warned = true;
+        self.warn(step.call.line, |warnings| {
+            let known = warnings.writers.iter().filter(|(_, signs)| signs.matched);
+            let guid = show_guid(&words.writer);
+            let meant = meant(&guid, known.map(|(guid, _)| show_guid(guid)));
+            format!("nobody has matched {guid} before, so it has no lease that could run out: match it first{meant}")
+        });
+    }
+
+    /// A sample or assertion; where it comes after the lease, the first time is warned of.
+    fn sign(&mut self, step: &Step<'_>, guid: [u8; 16], at: Moment) {
+        let signs = self.writers.entry(guid).or_default();
+        let Some(gap) = signs.gaps.add(at) else {
+            return;
+        };
+        let lease = step.mirror.writer(&guid).and_then(|w| w.lease).map(moment_of_clock);
+        let Some(lease) = lease.filter(|lease| *lease < gap && !signs.warned) else {
+            return;
+        };
+        signs.warned = true;
+        self.warn(step.call.line, |_| {
+            format!(
+                "the lease of {} is {}, and {} passed until it was heard of again: offer a longer lease, or assert it in between",
+                show_guid(&guid),
+                spoken(lease),
+                spoken(gap)
+            )
+        });
+    }
+
+    /// A sample of a writer that is not alive: it asserts nothing, so no later lapse takes the writer out.
+    fn unasserted(&mut self, step: &Step<'_>) {
+        let guid = step.call.words.writer;
+        let alive = step.mirror.writer(&guid).map(|w| w.state);
+        let signs = self.writers.entry(guid).or_default();
+        if alive != Some(WriterLiveliness::NotAlive) || signs.unasserted {
+            return;
+        }
+        signs.unasserted = true;
+        self.warn(step.call.line, |_| {
+            let guid = show_guid(&guid);
+            format!("{guid} draws and its lease has run out; a sample asserts nothing, so no later lapse takes it out: assert {guid} with its samples")
+        });
+    }
+
+    /// Each warning in a line.
+    pub fn text(&self, name: &str) -> String {
+        let lines =
+            self.first.iter().map(|(line, what)| format!("{name}:{line}: warning: {what}\n"));
+        let mut text: String = lines.collect();
+        if self.all > self.first.len() {
+            text += &format!("{name}: … and {} more warnings\n", self.all - self.first.len());
+        }
+        text
+    }
+}
+
+fn meant(word: &str, known: impl Iterator<Item = String>) -> String {
+    let known: BTreeSet<String> = known.collect();
+    match nearest(word, known.iter().map(String::as_str)) {
+        Some(name) => format!(" (did you mean {name}?)"),
+        None => String::new(),
+    }
+}
+
+/// The warnings of a day.
+#[cfg(test)]
+fn warned(day: &str) -> Vec<(usize, String)> {
+    let mut warnings = Warnings::default();
+    crate::play::play_text(day, &mut Names::default(), &mut [&mut warnings]);
+    warnings.first
+}
+
+#[cfg(test)]
+mod tests {
+    use super::*;
+
+    fn one(day: &str, line: usize, what: &str) {
+        let warnings = warned(day);
+        assert_eq!(warnings.len(), 1, "{warnings:?}");
+        assert_eq!(warnings[0].0, line);
+        assert!(warnings[0].1.contains(what), "{warnings:?}");
+    }
+
+    const MATCH: &str = "match a/b kind automatic lease 5m at 08:00\n";
+
+    #[test]
+    fn what_looks_wrong_is_said_once() {
+        let day = |rest: &str| MATCH.to_owned() + rest;
+        one(&day("expire at 07:59\nexpire at 07:58"), 2, "goes back from 08:00:00 to 07:59:00");
+        one(&day("admit pen-01 from a/b at 08:01\ndispose pen-02"), 3, "did you mean pen-01?");
+        one("admit p from c/d at 1s\nadmit p from c/d at 2s", 1, "nobody has matched c/d before");
+        one(&day("admit p from a/c at 08:01"), 2, "nobody has matched a/c");
+        one(
+            &day("admit p from a/b at 08:09\nadmit p from a/b at 08:18"),
+            2,
+            "the lease of a/b is 5 min, and 9 min passed",
+        );
+    }
+
+    #[test]
+    fn a_sample_does_not_assert() {
+        let day = "assert a/b at 08:01\nadmit p from a/b at 08:05\nlapse at 08:07\n\
+                   admit p from a/b at 08:08\nadmit p from a/b at 08:09";
+        one(&(MATCH.to_owned() + day), 5, "a sample asserts nothing");
+    }
+
+    #[test]
+    fn a_good_day_has_none() {
+        let day = "assert a/b at 08:04\nadmit p from a/b at 08:04\nassert a/b at 08:08\n\
+                   admit p from a/b at 08:12\nexpire at 1281024h\nlapse at 08:13\nassert a/* at 08:14";
+        assert_eq!(warned(&(MATCH.to_owned() + day)), []);
+    }
+}

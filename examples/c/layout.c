@@ -1,0 +1,262 @@
+/* Every builder and every accessor of dcps_inline.h at work, as text that the test of the Rust bindings
+ * (bindings/rust/tests/inline.rs) compares with its own:
+ *
+ *     layout sheets           a line for each builder, its sheet in hexadecimal
+ *     layout state FILE       head, records, lost and out of a state's bytes
+ *     layout answers FILE     answers of 72 bytes
+ *     layout reads FILE       answers of reads, 24 bytes each */
+#include <inttypes.h>
+#include <stdio.h>
+#include <stdlib.h>
+
+#include "dcps_inline.h"
+
+static uint8_t sheet[DCPS_SHEET_BYTES];
+
+static void print_hex(const uint8_t *bytes, size_t length)
+{
+    size_t i;
+    for (i = 0; i < length; i++)
+        printf("%02x", bytes[i]);
+}
+
+static void line(const char *name)
+{
+    printf("%s ", name);
+    print_hex(sheet, sizeof sheet);
+    printf("\n");
+}
+
+/* ---- builders */
+
+static void instance_sheets(const uint8_t *key, const uint8_t *guid)
+{
+    const uint8_t *holder = (const uint8_t *)"holder";
+    const uint64_t handle = 0x0102030405060708u, deadline = 9;
+    const struct dcps_time first = dcps_time_of(-5, 7), second = dcps_time_of(6, 999999999);
+    dcps_sheet_register(sheet, key, holder, 6, &first), line("register");
+    dcps_sheet_register(sheet, key, NULL, 0, NULL), line("register");
+    dcps_sheet_register(sheet, key, holder, 70000, NULL), line("register");
+    dcps_sheet_ensure_registered_limited(sheet, key, -3), line("ensure_registered_limited");
+    dcps_sheet_dispose(sheet, handle, &first), line("dispose");
+    dcps_sheet_unregister(sheet, handle, NULL), line("unregister");
+    dcps_sheet_unregister_writer(sheet, handle, guid, &second), line("unregister_writer");
+    dcps_sheet_note_writer(sheet, handle, guid), line("note_writer");
+    dcps_sheet_drop_writer(sheet, guid, &first), line("drop_writer");
+    dcps_sheet_observe_lifecycle(sheet, key, holder, 6, NULL), line("observe_lifecycle");
+    dcps_sheet_observe_lifecycle(sheet, key, NULL, 0, &first), line("observe_lifecycle");
+    dcps_sheet_observe_admitted(sheet, key, holder, 145, first, -3), line("observe_admitted");
+    dcps_sheet_note_admitted(sheet, key, first, second, guid), line("note_admitted");
+    dcps_sheet_record_delivery(sheet, key, first), line("record_delivery");
+    dcps_sheet_note_taken(sheet, handle, 0xfffffffeu), line("note_taken");
+    dcps_sheet_mark_view_seen(sheet, handle), line("mark_view_seen");
+    dcps_sheet_mark_view_new(sheet, key), line("mark_view_new");
+    dcps_sheet_drain_samples(sheet, handle, 0xfffffffeu), line("drain_samples");
+    dcps_sheet_accept_under_exclusive_ownership(sheet, key, guid, -4, second, &deadline), line("accept_under_exclusive_ownership");
+    dcps_sheet_accept_under_exclusive_ownership(sheet, key, guid, 4, first, NULL), line("accept_under_exclusive_ownership");
+    dcps_sheet_update_owner_strength(sheet, guid, -4), line("update_owner_strength");
+    dcps_sheet_clear_owner_for_writer(sheet, guid), line("clear_owner_for_writer");
+    dcps_sheet_clear_owner_for_writer_prefix(sheet, guid), line("clear_owner_for_writer_prefix");
+    dcps_sheet_release_owner_of(sheet, key, guid), line("release_owner_of");
+    dcps_sheet_autopurge(sheet, second, 8, DCPS_NEVER), line("autopurge");
+}
+
+static void writer_sheets(const uint8_t *guid)
+{
+    const uint64_t lease = 0x1122334455u, clock = 0x66778899aau;
+    dcps_sheet_matched(sheet, guid, DCPS_AUTOMATIC, NULL, clock), line("matched");
+    dcps_sheet_matched(sheet, guid, DCPS_BY_PARTICIPANT, &lease, clock), line("matched");
+    dcps_sheet_matched(sheet, guid, DCPS_BY_TOPIC, &lease, clock), line("matched");
+    dcps_sheet_unmatched(sheet, guid), line("unmatched");
+    dcps_sheet_lost_with_participant(sheet, guid), line("lost_with_participant");
+    dcps_sheet_writer_asserted(sheet, guid, clock), line("writer_asserted");
+    dcps_sheet_participant_asserted(sheet, guid, 0, clock), line("participant_asserted");
+    dcps_sheet_participant_asserted(sheet, guid, 1, clock), line("participant_asserted");
+    dcps_sheet_expire(sheet, clock), line("expire");
+    dcps_sheet_take_lost(sheet), line("take_lost");
+    dcps_sheet_take_status(sheet), line("take_status");
+    dcps_sheet_acknowledge(sheet, -1, 2), line("acknowledge");
+}
+
+static void joined_sheets(const uint8_t *key, const uint8_t *guid)
+{
+    const uint64_t clock = 0x66778899aau, deadline = 9;
+    const struct dcps_time first = dcps_time_of(-5, 7), second = dcps_time_of(6, 999999999);
+    struct dcps_sample sample = dcps_sample_of(key, guid, first);
+    dcps_sheet_admit(sheet, &sample), line("admit");
+    sample.holder = (const uint8_t *)"holder";
+    sample.holder_length = 6;
+    sample.filter = second;
+    sample.by_source = 1;
+    sample.separation = 8;
+    sample.deadline = &deadline;
+    sample.limit = 3;
+    sample.strength = -4;
+    dcps_sheet_admit(sheet, &sample), line("admit");
+    dcps_sheet_lapse(sheet, clock, &first), line("lapse");
+    dcps_sheet_part(sheet, guid, &second), line("part");
+    dcps_sheet_depart(sheet, guid, NULL), line("depart");
+}
+
+static void print_sheets(void)
+{
+    uint8_t key[DCPS_KEY_BYTES], guid[DCPS_GUID_BYTES];
+    uint32_t i;
+    for (i = 0; i < 16; i++) {
+        key[i] = (uint8_t)(0x10 + i);
+        guid[i] = (uint8_t)(0x20 + i);
+    }
+    instance_sheets(key, guid);
+    writer_sheets(guid);
+    joined_sheets(key, guid);
+    for (i = 0; i <= 14; i++)
+        printf("refusal %" PRIu32 " %s\n", i, dcps_refusal_text(i));
+    printf("guid %" PRIx64 " %" PRIx64 " %" PRIu64 "\n", dcps_high(guid), dcps_low(guid), dcps_handle_of_guid(guid));
+}
+
+/* ---- accessors */
+
+static void print_time(int present, struct dcps_time time)
+{
+    if (present)
+        printf(" %" PRId32 ".%" PRIu32, time.sec, time.nanosec);
+    else
+        printf(" -");
+}
+
+static void print_bytes(const uint8_t *bytes, size_t length)
+{
+    printf(" %s", bytes ? "=" : "-");
+    if (bytes)
+        print_hex(bytes, length);
+}
+
+static void print_instance(const uint8_t *r)
+{
+    static int (*const times[])(const uint8_t *, struct dcps_time *) = {
+        dcps_instance_last_sample, dcps_instance_last_delivered, dcps_instance_last_filter,
+        dcps_instance_disposed_at, dcps_instance_no_writers_at,  dcps_instance_owner_at};
+    struct dcps_time time;
+    size_t i, length;
+    const uint8_t *holder = dcps_instance_holder(r, &length);
+    printf("instance");
+    print_bytes(dcps_instance_key(r), DCPS_KEY_BYTES);
+    printf(" %" PRIu64 " %u %d %" PRIu32 " %" PRIu32 " %" PRIu32 " %" PRIu32, dcps_instance_handle(r), dcps_instance_kind(r),
+           dcps_instance_view_new(r), dcps_instance_disposed_generations(r), dcps_instance_no_writers_generations(r),
+           dcps_instance_writer_count(r), dcps_instance_samples(r));
+    for (i = 0; i < 6; i++) {
+        int present = times[i](r, &time);
+        print_time(present, time);
+    }
+    print_bytes(dcps_instance_owner(r), DCPS_GUID_BYTES);
+    printf(" %" PRId32, dcps_instance_strength(r));
+    print_bytes(holder, length);
+    for (i = 0; i < dcps_instance_set_size(r); i++)
+        print_bytes(dcps_instance_set_guid(r, i), DCPS_GUID_BYTES);
+    printf("\n");
+}
+
+static void print_writer(const uint8_t *r)
+{
+    uint64_t lease;
+    printf("writer");
+    print_bytes(dcps_writer_guid(r), DCPS_GUID_BYTES);
+    printf(" %u %u", dcps_writer_kind(r), dcps_writer_standing(r));
+    if (dcps_writer_lease(r, &lease))
+        printf(" %" PRIu64, lease);
+    else
+        printf(" -");
+    printf(" %" PRIu64 "\n", dcps_writer_last_assertion(r));
+}
+
+static void print_state(const struct dcps_state *s)
+{
+    const uint8_t *h = s->head;
+    printf("head %" PRIu32 " %" PRIu32 " %" PRIu32 " %" PRIu32 " %" PRIu32 " %" PRId32 " %" PRId32 " %" PRIu64 " %" PRIu64,
+           dcps_head_instances(h), dcps_head_writers(h), dcps_head_lost(h), dcps_head_alive(h), dcps_head_not_alive(h),
+           dcps_head_alive_change(h), dcps_head_not_alive_change(h), dcps_head_next_handle(h), dcps_head_changes(h));
+    print_bytes(dcps_head_last_writer(h), DCPS_GUID_BYTES);
+    printf("\n");
+    DCPS_EACH_INSTANCE(r, h, s->pens) {
+        print_instance(r);
+        if (dcps_instance_by_key(h, s->pens, dcps_instance_key(r)) != r ||
+            dcps_instance_by_handle(h, s->pens, dcps_instance_handle(r)) != r)
+            printf("not found\n");
+    }
+    DCPS_EACH_WRITER(r, h, s->writers) {
+        print_writer(r);
+        if (dcps_writer_by_guid(h, s->writers, dcps_writer_guid(r)) != r)
+            printf("not found\n");
+    }
+    DCPS_EACH_GUID(guid, s->lost, dcps_head_lost(h)) {
+        printf("lost");
+        print_bytes(guid, DCPS_GUID_BYTES);
+        printf("\n");
+    }
+    DCPS_EACH_HANDLE(handle, s->out, 3)
+        printf("out %" PRIu64 "\n", handle);
+}
+
+static void print_answer(const uint8_t *a)
+{
+    printf("answer %u %u %u %u %u %u %u %" PRIu64 " %" PRIu32 " %" PRIu32 " %" PRIu32 " %" PRIu32 " %" PRIu32 " %" PRIu32
+           " %" PRIu32 " %" PRId32 " %" PRId32 " %" PRIu64 " %" PRIu64 "\n",
+           dcps_answer_number(a), dcps_answer_outcome(a), dcps_answer_yes(a), dcps_answer_present(a), dcps_answer_view_new(a),
+           dcps_answer_kind(a), dcps_answer_next_due_present(a), dcps_answer_handle(a), dcps_answer_samples(a),
+           dcps_answer_disposed_generations(a), dcps_answer_no_writers_generations(a), dcps_answer_count(a),
+           dcps_answer_listed(a), dcps_answer_alive(a), dcps_answer_not_alive(a), dcps_answer_alive_change(a),
+           dcps_answer_not_alive_change(a), dcps_answer_next_due(a), dcps_answer_last_publication(a));
+}
+
+static void print_read(const uint8_t *a)
+{
+    struct dcps_time time = dcps_read_time(a);
+    printf("read %u %u %u %u %" PRIu32 " %" PRIu32 " %" PRIu64 " %" PRIu64 " %" PRIu64, dcps_read_number(a), dcps_read_yes(a),
+           dcps_read_present(a), dcps_read_stored(a), dcps_read_listed(a), dcps_read_length(a), dcps_read_handle(a),
+           dcps_read_changes(a), dcps_read_offset(a));
+    print_time(1, time);
+    printf("\n");
+}
+
+/* A kind that is none is refused, and a body may use the answer again from which the number of turns came. */
+static int traps(void)
+{
+    const uint8_t guid[DCPS_GUID_BYTES] = {0}, out[2 * DCPS_HANDLE_BYTES] = {0};
+    uint8_t sheet[DCPS_SHEET_BYTES], answer[DCPS_ANSWER_BYTES] = {0};
+    unsigned turns = 0;
+    dcps_sheet_matched(sheet, guid, (enum dcps_liveliness)4, NULL, 0);
+    dcps_put_u32(answer + DCPS_ANSWER_LISTED, 2);
+    DCPS_EACH_HANDLE(handle, out, dcps_answer_listed(answer)) {
+        dcps_put_u32(answer + DCPS_ANSWER_LISTED, (uint32_t)handle);
+        turns++;
+    }
+    return (sheet[DCPS_SHEET_BITS] & DCPS_BITS_KIND) != 3 || turns != 2;
+}
+
+int main(int count, char **words)
+{
+    static struct dcps_state state;
+    uint8_t answer[DCPS_ANSWER_BYTES];
+    FILE *file;
+    if (count == 2 && strcmp(words[1], "sheets") == 0) {
+        print_sheets();
+        return traps();
+    }
+    file = count == 3 ? fopen(words[2], "rb") : NULL;
+    if (!file) {
+        fprintf(stderr, "layout sheets | state FILE | answers FILE | reads FILE\n");
+        return 2;
+    }
+    if (strcmp(words[1], "state") == 0) {
+        if (fread(&state, sizeof state, 1, file) == 1)
+            print_state(&state);
+    } else if (strcmp(words[1], "answers") == 0) {
+        while (fread(answer, DCPS_ANSWER_BYTES, 1, file) == 1)
+            print_answer(answer);
+    } else {
+        while (fread(answer, DCPS_READ_BYTES, 1, file) == 1)
+            print_read(answer);
+    }
+    fclose(file);
+    return 0;
+}

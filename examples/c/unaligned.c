@@ -1,0 +1,73 @@
+/* The same calls with every buffer at each address modulo 16, and in threads of their own: the same states and answers. */
+#define _POSIX_C_SOURCE 200809L
+#include <pthread.h>
+#include <stdio.h>
+#include <stdlib.h>
+
+#include "dcps_inline.h"
+
+#define CALLS 200
+
+struct run {
+    uint8_t bytes[sizeof(struct dcps_state) + DCPS_SHEET_BYTES + DCPS_ANSWER_BYTES + 16];
+    uint8_t answers[CALLS][DCPS_ANSWER_BYTES];
+    size_t shift;
+};
+
+static struct run runs[17];
+
+/* A sheet that depends on its number alone, of any code. */
+static void fill(uint8_t *sheet, unsigned number)
+{
+    static const uint8_t codes[] = {48, 48, 32, 1, 5, 7, 9, 10, 16, 35, 37, 49, 38, 50, 51, 21};
+    memset(sheet, 0, DCPS_SHEET_BYTES);
+    sheet[DCPS_SHEET_KEY] = (uint8_t)(number % 11);
+    sheet[DCPS_SHEET_GUID] = (uint8_t)(number % 7);
+    dcps_put_u64(sheet + DCPS_SHEET_HANDLE, 1 + number % 5);
+    dcps_put_i32(sheet + DCPS_SHEET_TIME_1, (int32_t)number);
+    dcps_put_i32(sheet + DCPS_SHEET_TIME_2, (int32_t)number);
+    dcps_put_u64(sheet + DCPS_SHEET_A, number);
+    dcps_put_u64(sheet + DCPS_SHEET_B, 30);
+    dcps_put_i32(sheet + DCPS_SHEET_LIMIT, -1);
+    sheet[DCPS_SHEET_BITS] = (uint8_t)(DCPS_BIT_TIME_1 | DCPS_BIT_LEASE);
+    sheet[DCPS_SHEET_CODE] = codes[number * 7 % sizeof codes];
+    dcps_put_u16(sheet + DCPS_SHEET_HOLDER_LENGTH, (uint16_t)(number % 145));
+}
+
+static void *make(void *pointer)
+{
+    struct run *run = (struct run *)pointer;
+    struct dcps_state *state = (struct dcps_state *)(void *)(run->bytes + run->shift); /* of bytes alone: no alignment */
+    uint8_t *sheet = run->bytes + run->shift + sizeof *state, *answer = sheet + DCPS_SHEET_BYTES;
+    unsigned number;
+    dcps_state_fresh(state);
+    for (number = 0; number < CALLS; number++) {
+        fill(sheet, number);
+        dcps_state_call(state, sheet, answer);
+        memcpy(run->answers[number], answer, DCPS_ANSWER_BYTES);
+    }
+    return NULL;
+}
+
+int main(void)
+{
+    pthread_t threads[17];
+    size_t i, accepted = 0;
+    for (i = 0; i < 17; i++) {
+        runs[i].shift = i % 16;
+        if (pthread_create(&threads[i], NULL, make, &runs[i]) != 0)
+            abort();
+    }
+    for (i = 0; i < 17; i++)
+        pthread_join(threads[i], NULL);
+    for (i = 0; i < CALLS; i++)
+        accepted += runs[0].answers[i][DCPS_ANSWER_NUMBER] == DCPS_ACCEPTED;
+    for (i = 1; i < 17; i++)
+        if (memcmp(runs[i].answers, runs[0].answers, sizeof runs[i].answers) != 0 ||
+            memcmp(runs[i].bytes + runs[i].shift, runs[0].bytes, sizeof(struct dcps_state)) != 0) {
+            fprintf(stderr, "unaligned: another result at %zu\n", i);
+            return 1;
+        }
+    printf("unaligned: %zu of %d calls accepted, the same at each address modulo 16, in 17 threads\n", accepted, CALLS);
+    return accepted < CALLS / 2;
+}
