@@ -265,8 +265,9 @@ enum dcps_code {
 
     /* accept_under_exclusive_ownership: yes, and the writer owns the instance at its strength from time 2 on, where there is
      * no owner, it is the owner, its strength is greater, it is equal and its GUID lower, or the owner's last accepted
-     * sample is a deadline or more before time 2. Else no. An unknown key is yes, and nothing is stored. A deadline of 0 is
-     * missed always, unless time 2 is earlier than that sample: so every writer takes over, as a SHARED topic wants it.
+     * sample is a deadline or more before time 2. Else no. An unknown key is yes, and nothing is stored: only admit gives a
+     * new instance an owner. A deadline of 0 is missed always, unless time 2 is earlier than that sample: so every writer
+     * takes over, as a SHARED topic wants it.
      * Uses: key, guid, strength, time 2 (now), [B: deadline]. Answers: yes. Refused: 4. */
     DCPS_CODE_ACCEPT_UNDER_EXCLUSIVE_OWNERSHIP = 16,
 
@@ -337,7 +338,8 @@ enum dcps_code {
      * of the filter, or A or more later (outcome 2; seconds below 0 are taken as 0 in both); the limit (outcome 3); 9 and 13,
      * of a new instance, and 10, of a known one; accept_under_exclusive_ownership (outcome 4), on every topic: a SHARED one
      * has the deadline present with B = 0; then observe_admitted, so that an empty holder is stored too and stays, and
-     * note_admitted. No last time is always in order. A new instance has no owner yet after its first sample.
+     * note_admitted. No last time is always in order. The writer of a sample that starts its instance owns it, at its
+     * strength, from time 2 on; an instance that code 1, 2, 8 or 9 starts has no owner yet.
      * Uses: key, guid, holder, time 1, time 2, A (separation), [B: deadline], limit, strength, by source.
      * Answers: outcome; where that is 0 present (1), handle, samples, view new, kind, disposed generations, no-writers
      * generations. Refused: 4, 6, 9, 13, 10. */

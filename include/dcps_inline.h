@@ -415,8 +415,9 @@ static inline void dcps_sheet_acknowledge(uint8_t *sheet, int32_t alive_change, 
 }
 
 /* A received sample, with what the reader asks of it. dcps_sample_of fills in a reader without order, filter, limit and
- * deadline, at strength 0. Ownership is exclusive all the same: of two writers the one with the higher GUID is turned away
- * once the other owns the instance. On a SHARED topic let `deadline` point to 0, and `filter` never go back. */
+ * deadline, at strength 0. Ownership is exclusive all the same, and begins with the sample that starts an instance: of two
+ * writers the one with the higher GUID is turned away once the other owns the instance. On a SHARED topic let `deadline`
+ * point to 0, and `filter` never go back. */
 struct dcps_sample {
     uint8_t key[DCPS_KEY_BYTES];
     uint8_t writer[DCPS_GUID_BYTES];

@@ -226,10 +226,7 @@ impl Teller<'_> {
 
     fn mend(&self) -> String {
         match (self.group.verdict, self.group.cause) {
-            (Verdict::TurnedAway, _) => format!(
-                "call note_writer (code 6) for {} after such an answer: then it stands for the instance when the other is lost.",
-                guids(&self.group.turned)
-            ),
+            (Verdict::TurnedAway, _) => self.mend_turned_away(),
             (Verdict::CameBack, Cause::LeaseRanOut) => self.mend_lease(),
             (Verdict::CameBack, Cause::Disposed) => {
                 "dispose an instance only when no writer draws it any more.".to_owned()
@@ -245,6 +242,22 @@ impl Teller<'_> {
                 "nothing. As far as this day goes, the order is right.".to_owned()
             }
         }
+    }
+
+    /// Codes 5 and 7 take a writer out and let it own what it owned.
+    fn mend_turned_away(&self) -> String {
+        let mut mend = format!(
+            "call note_writer (code 6) for {} after such an answer: then it stands for the instance when the other is lost.",
+            guids(&self.group.turned)
+        );
+        let [.., ownership] = self.group.away;
+        if ownership > 0 && matches!(self.group.cause, Cause::Unregistered | Cause::Dropped) {
+            mend += &format!(
+                " Call release_owner_of (code 20) for {} when it leaves, or it goes on owning the instance.",
+                self.lost()
+            );
+        }
+        mend
     }
 
     fn mend_lease(&self) -> String {

@@ -59,6 +59,10 @@ fn the_remedies_work() {
     let why = why_of(&mended, "");
     assert!(why.contains("shown abandoned once, which makes 1 order line."), "{why}");
     assert!(why.contains("1 of 1 order line: the writer is gone"), "{why}");
+    let kept = "admit pen from a/b at 08:00\nunregister pen from a/b at 08:01\nadmit pen from c/d at 08:03\n";
+    let told = "Call release_owner_of (code 20) for a/b when it leaves";
+    let folded = |text: String| text.split_whitespace().collect::<Vec<_>>().join(" ");
+    assert!(folded(why_of(kept, "")).contains(told));
 }
 
 /// Tags that open and close one another, attributes in quotes: what an XML reader would take.
@@ -138,7 +142,10 @@ fn verdicts() {
     let back = row("depart a/b at 08:01\nadmit pen from a/b at 08:03\n");
     assert!(back.starts_with("pen,08:01:00,08:03:00,120.000,no writers,departed,51,"), "{back}");
     assert!(back.contains(",came back,yes,a/b,,0,0"), "{back}");
-    let over = row("unregister pen from a/b at 08:01\nadmit pen from c/d at 08:03\n");
+    let (left, next) = ("unregister pen from a/b at 08:01\n", "admit pen from c/d at 08:03\n");
+    let owned = row(&[left, next].concat());
+    assert!(owned.contains(",unregistered,5,") && owned.contains(",turned away,yes,,c/d,1,0"));
+    let over = row(&[left, "release_owner_of pen from a/b\n", next].concat());
     assert!(over.contains(",unregistered,5,") && over.contains(",taken over,no,c/d,"), "{over}");
     let disposed = row("dispose pen at 08:01\nadmit pen from a/b at 08:03\n");
     assert!(disposed.contains(",disposed,disposed,3,") && disposed.contains(",came back,yes,"));

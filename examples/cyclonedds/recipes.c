@@ -36,7 +36,7 @@ static void begin(int exclusive, unsigned without)
 static int shared_admits_all(unsigned without)
 {
     begin(0, without);
-    return sample(&strong, 2) == DCPS_ADMITTED && sample(&strong, 3) == DCPS_ADMITTED && sample(&weak, 4) == DCPS_ADMITTED;
+    return sample(&strong, 2) == DCPS_ADMITTED && sample(&weak, 3) == DCPS_ADMITTED;
 }
 
 /* The strong writer is lost, the weak one still writes: the instance is not abandoned. */
@@ -44,10 +44,9 @@ static int turned_away_still_writes(unsigned without)
 {
     begin(1, without);
     sample(&strong, 2);
-    sample(&strong, 3);
-    if (sample(&weak, 4) != DCPS_NOT_OWNER)
+    if (sample(&weak, 3) != DCPS_NOT_OWNER)
         return 0;
-    feed_unmatched(&f, &strong, 1, at(5));
+    feed_unmatched(&f, &strong, 1, at(4));
     return is(DCPS_ALIVE);
 }
 
@@ -56,8 +55,7 @@ static int owner_alone_disposes(unsigned without)
 {
     begin(1, without);
     sample(&strong, 2);
-    sample(&strong, 3);
-    feed_disposed(&f, &weak, key, at(4), at(4));
+    feed_disposed(&f, &weak, key, at(3), at(3));
     return is(DCPS_ALIVE);
 }
 
@@ -66,9 +64,8 @@ static int unregistered_owner_yields(unsigned without)
 {
     begin(1, without);
     sample(&strong, 2);
-    sample(&strong, 3);
-    feed_unregistered(&f, strong.guid, key, at(4));
-    return sample(&weak, 5) == DCPS_ADMITTED;
+    feed_unregistered(&f, strong.guid, key, at(3));
+    return sample(&weak, 4) == DCPS_ADMITTED;
 }
 
 /* An unregister of a key that nobody has written starts no instance. */

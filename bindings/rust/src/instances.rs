@@ -313,7 +313,8 @@ impl<B: Buffers> State<B> {
     }
 
     /// Whether a sample is accepted under exclusive ownership (DDS 1.4, 2.2.3.9.2); if so, its writer owns
-    /// the instance from now on. An unknown instance accepts, and stores nothing.
+    /// the instance from now on. An unknown instance accepts, and stores nothing: only [`State::admit`]
+    /// gives a new instance an owner.
     ///
     /// Refused as 4.
     ///

@@ -133,7 +133,8 @@ pub struct Parting {
 /// Calls on instances and writers together.
 impl<B: Buffers> State<B> {
     /// A sample came in: destination order, filter, limit and ownership are asked in this order, and then
-    /// it is counted in its instance, with its writer.
+    /// it is counted in its instance, with its writer. The writer of a sample that starts its instance owns
+    /// it, at its strength, from `filter_ts` on.
     ///
     /// Refused as 4, 6, 9, 10 or 13.
     ///
@@ -146,6 +147,14 @@ impl<B: Buffers> State<B> {
     /// assert!(state.admit(&sample)?.is_admitted());
     /// sample.filter_ts = Time { sec: 5, nanosec: 999_999_999 };
     /// assert_eq!(state.admit(&sample)?, Admission::TimeBasedFilter);
+    ///
+    /// // The first writer owns a new instance, and turns a weaker one away.
+    /// let at = |sec| Time { sec, nanosec: 0 };
+    /// let first = Sample { strength: 5, ..Sample::new([2; 16], [9; 16], at(5)) };
+    /// let weaker = Sample { strength: 1, ..Sample::new([2; 16], [8; 16], at(6)) };
+    /// assert!(state.admit(&first)?.is_admitted());
+    /// assert_eq!(state.owner_of(&[2; 16]), Some([9; 16]));
+    /// assert_eq!(state.admit(&weaker)?, Admission::ExclusiveOwnership);
     /// # Ok::<(), dcps::Refusal>(())
     /// ```
     pub fn admit(&mut self, sample: &Sample<'_>) -> Result<Admission, Refusal> {

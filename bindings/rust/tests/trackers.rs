@@ -127,8 +127,6 @@ fn every_field_of_an_instance() -> Result<(), Refusal> {
     };
     let admission = state.admit(&sample)?;
     assert!(matches!(admission, Admission::Admitted { samples_in_cache: 1, view_new: true, .. }));
-    // A new instance has no owner from its first sample; the second one's writer is.
-    state.admit(&sample)?;
     let handle = state.lookup(&id(1)).expect("it is admitted");
     state.unregister_writer(handle, id(9), Some(at(4)))?;
     state.register(id(1), vec![6], Some(at(5)))?;
@@ -138,7 +136,7 @@ fn every_field_of_an_instance() -> Result<(), Refusal> {
     assert_eq!(instance.handle, handle);
     assert_eq!(instance.kind, InstanceStateKind::NotAliveDisposed);
     assert_eq!((instance.disposed_generation_count, instance.no_writers_generation_count), (0, 1));
-    assert_eq!((instance.writer_count, instance.samples_in_cache), (1, 2));
+    assert_eq!((instance.writer_count, instance.samples_in_cache), (1, 1));
     assert_eq!(instance.last_sample_timestamp, Some(at(6)));
     assert_eq!(instance.last_delivered_ts, Some(at(1)));
     assert_eq!(instance.last_filter_ts, Some(sample.filter_ts));

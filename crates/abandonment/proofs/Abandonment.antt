@@ -15,14 +15,14 @@ use Rattle.model.specs.Calls.{Call}
 use Rattle.model.specs.Guids.{num}
 use Rattle.model.specs.Instances.{isAlive}
 use Rattle.model.specs.Sets.{has, isEmpty}
-use Rattle.model.specs.State.{Lent, State, stateOf, layOut, fresh, instanceKey}
+use Rattle.model.specs.State.{Lent, State, stateOf, fresh, instanceKey}
 use Rattle.model.proofs.StateLaws.{read-back}
 use Rattle.model.proofs.Tests.{split}
-use Rattle.accounts.specs.Accounts.{Accounts, absent, accepted, advance, accountsFrom, accountsOf, Lending, withOut, eventOf, next, final, history, SheetBytes}
+use Rattle.accounts.specs.Accounts.{Accounts, absent, accepted, advance, accountsFrom, accountsOf, Lending, eventOf, next, final, history, SheetBytes}
 use Rattle.accounts.specs.InstanceAccounts.{Event}
 use Rattle.accounts.specs.WriterAccounts.{WriterAccounts}
 use Rattle.accounts.proofs.Basics.{never}
-use Rattle.accounts.proofs.Demand3.{After, out-replaced, after-list, after-fresh}
+use Rattle.accounts.proofs.Demand3.{After, after-list, after-fresh}
 use Rattle.accounts.proofs.InStep.{held-fits}
 use Rattle.accounts.proofs.Sound.{SoundState}
 use Rattle.accounts.proofs.TurnLaws.{lookup, lookup-all}
@@ -33,7 +33,7 @@ use Rattle.abandonment.specs.Claims.{penOf, Written, Someone, NoOne, NoF
 use Rattle.abandonment.proofs.SetLaws.{none-in, SomeIn, some-in}
 use Rattle.abandonment.proofs.KindLaws.{shown}
 use Rattle.abandonment.proofs.OnInstance.{Stands, Agrees, same-shown}
-use Rattle.abandonment.proofs.Answered.{Real, real}
+use Rattle.accounts.proofs.Answered.{real-next}
 use Rattle.abandonment.proofs.Steps.{step, unheard}
 
 -- ---- one call
@@ -41,15 +41,6 @@ use Rattle.abandonment.proofs.Steps.{step, unheard}
 module _ (places : ℕ) (i : Lending) (l : Lent) (acc : Accounts) (bytes : SheetBytes i) (at : After places l acc) where
   abbrev e : Event
   e = eventOf (i .sheet) (next (callIn places) i l .answer)
-
-  lent : withOut (i .out) l ≡ layOut places (at .state) (i .out)
-  lent = ap (withOut (i .out)) (at .laid) ∙ out-replaced places (at .state) (l .out) (i .out)
-
-  pub told : (c : Call) → accepted e ≡ some c → Real c e acc
-  told c is =
-      subst (λ (m : Lent). accepted (eventOf (i .sheet) (callIn places (i .sheet) m .answer)) ≡ some c →
-      Real c (eventOf (i .sheet) (callIn places (i .sheet) m .answer)) acc) (sym lent)
-      (real places (i .sheet) (at .state) (i .out) acc c bytes (at .held)) is
 
   pub sound-at : (k : ℕ) (x : Instance) → acc .instances .at k ≡ some x → SoundState (x .state)
   sound-at k x q =
@@ -68,7 +59,7 @@ module _ (places : ℕ) (i : Lending) (l : Lent) (acc : Accounts) (bytes : Sheet
             unfold advance in
             rw (unheard e (acc .writers .at) (heard e (acc .writers) .at) k (stands k) is, is) (m k)
         go (some c) is =
-            let s = step e acc stands m sound-at (acc .writers .at) (heard e (acc .writers) .at) c is (told c is) fits k in
+            let s = step e acc stands m sound-at (acc .writers .at) (heard e (acc .writers) .at) c is (real-next places i l acc bytes at c is) fits k in
             unfold advance in
             rw is (rw is at s)
 

@@ -2,7 +2,6 @@
 pub mod SetLaws
 pub mod KindLaws
 pub mod OnInstance
-pub mod Answered
 pub mod Steps
 pub mod Abandonment
 pub mod Lapse

@@ -15,7 +15,7 @@ use Rattle.model.specs.Guids.{num}
 use Rattle.model.specs.Handles.{allocated}
 use Rattle.model.specs.InstanceCalls.{handleBytes, instanceTurn, instanceCall, instancesAfter, begun, nextAfter, lateRefusal}
 use Rattle.model.specs.Instances.{revived, revivedNew, admittedObserved, admittedNoted, writerNoted, ownershipTried, takesOver, outbids, ownerCleared, leftBy, writerDropped, startedState, started}
-use Rattle.model.specs.Joined.{admitted, admitWith, afterLoss, lossCall, leftWithoutAll, leftByOne, clearings, clearingsIn}
+use Rattle.model.specs.Joined.{sampled, firstOwned, admitted, admitWith, afterLoss, lossCall, leftWithoutAll, leftByOne, clearings, clearingsIn}
 use Rattle.model.specs.Sets.{setOf, has, insert, remove}
 use Rattle.model.specs.State.{freshState}
 use Rattle.model.specs.Tables.{find, pick, any, put, sift}
@@ -32,7 +32,7 @@ use Rattle.abandonment.specs.Lists.{events, ending, Holds, turnedAway, n
 use Rattle.abandonment.proofs.OnInstance.{turned-away}
 
 pub all-rows : All Holds rows
-unfolding calls amongst callOfCode num allocated handleBytes instanceTurn instanceCall instancesAfter begun nextAfter lateRefusal revived revivedNew admittedObserved admittedNoted writerNoted ownershipTried takesOver outbids ownerCleared leftBy writerDropped startedState started admitted admitWith afterLoss lossCall leftWithoutAll leftByOne clearings clearingsIn setOf has insert remove find pick any put sift nanosOf signedNanosOf filterAdmits orderAdmits deadlineMissed W.covers W.renews W.asserted W.expires W.expired W.unmatchedFrom W.writersAfter W.movers W.lastAfter W.nextDue W.trackerState W.trackerTurn W.trackerCall asserts lapses writersAfter standAfter standFrom events ending
+unfolding calls amongst callOfCode num allocated handleBytes instanceTurn instanceCall instancesAfter begun nextAfter lateRefusal revived revivedNew admittedObserved admittedNoted writerNoted ownershipTried takesOver outbids ownerCleared leftBy writerDropped startedState started sampled firstOwned admitted admitWith afterLoss lossCall leftWithoutAll leftByOne clearings clearingsIn setOf has insert remove find pick any put sift nanosOf signedNanosOf filterAdmits orderAdmits deadlineMissed W.covers W.renews W.asserted W.expires W.expired W.unmatchedFrom W.writersAfter W.movers W.lastAfter W.nextDue W.trackerState W.trackerTurn W.trackerCall asserts lapses writersAfter standAfter standFrom events ending
 all-rows = (refl, (refl, (refl, (refl, (refl, (refl, (refl, (refl, (refl, (refl, (refl, tt)))))))))))
 
 -- an admit with another outcome than 0 leaves who stands, whatever the list before it
@@ -61,27 +61,23 @@ absent-still e acc k d n = go (accepted e)
     go none = n
     go (some c) = rw (n, d)
 
-never-there : {B : Type 0} (a b c e : Event) (k : ℕ) (x : Instance) →
-    advance e (advance c (advance b (advance a absent))) .instances .at k ≡ some x → isKeyed (a .sheet) k ≡ false →
-    isKeyed (b .sheet) k ≡ false → isKeyed (c .sheet) k ≡ false → isKeyed (e .sheet) k ≡ false → B
-never-there a b c e k x q f g h i =
+never-there : {B : Type 0} (a b c : Event) (k : ℕ) (x : Instance) →
+    advance c (advance b (advance a absent)) .instances .at k ≡ some x → isKeyed (a .sheet) k ≡ false →
+    isKeyed (b .sheet) k ≡ false → isKeyed (c .sheet) k ≡ false → B
+never-there a b c k x q f g h =
     missing
-    (sym (absent-still e (advance c (advance b (advance a absent))) k i
-    (absent-still c (advance b (advance a absent)) k h (absent-still b (advance a absent) k g (absent-still a absent k f refl))))
+    (sym (absent-still c (advance b (advance a absent)) k h (absent-still b (advance a absent) k g (absent-still a absent k f refl)))
     ∙ q)
 
 pub noted-keeps : Keeps (events (notedAfter .calls) freshState)
-unfolding calls amongst callOfCode num allocated handleBytes instanceTurn instanceCall instancesAfter begun nextAfter lateRefusal revived revivedNew admittedObserved admittedNoted writerNoted ownershipTried takesOver outbids ownerCleared leftBy writerDropped startedState started admitted admitWith afterLoss lossCall leftWithoutAll leftByOne clearings clearingsIn setOf has insert remove find pick any put sift nanosOf signedNanosOf filterAdmits orderAdmits deadlineMissed W.covers W.renews W.asserted W.expires W.expired W.unmatchedFrom W.writersAfter W.movers W.lastAfter W.nextDue W.trackerState W.trackerTurn W.trackerCall asserts lapses writersAfter standAfter standFrom events ending KeepsFrom
+unfolding calls amongst callOfCode num allocated handleBytes instanceTurn instanceCall instancesAfter begun nextAfter lateRefusal revived revivedNew admittedObserved admittedNoted writerNoted ownershipTried takesOver outbids ownerCleared leftBy writerDropped startedState started sampled firstOwned admitted admitWith afterLoss lossCall leftWithoutAll leftByOne clearings clearingsIn setOf has insert remove find pick any put sift nanosOf signedNanosOf filterAdmits orderAdmits deadlineMissed W.covers W.renews W.asserted W.expires W.expired W.unmatchedFrom W.writersAfter W.movers W.lastAfter W.nextDue W.trackerState W.trackerTurn W.trackerCall asserts lapses writersAfter standAfter standFrom events ending KeepsFrom
 noted-keeps = (
   free refl,
   (
     free refl,
     (
       free refl,
-      (
-        free refl,
-        (noting refl (λ k x q h. split (eqb k 7) (λ d. rw d) (λ d. never-there _ _ _ _ k x q d d d d)), (free refl, tt)),
-      ),
+      (noting refl (λ k x q h. split (eqb k 7) (λ d. rw d) (λ d. never-there _ _ _ k x q d d d)), (free refl, tt)),
     ),
   ),
 )

@@ -22,7 +22,7 @@ use Rattle.model.specs.declared.JoinedCall.{JoinedCall}
 use Rattle.model.specs.declared.JoinedCall.the-variants.{Admit as admit, Lapse as lapse, Part as part, Depart as depart}
 use Rattle.model.specs.Calls.{Call, instances, tracker, joined}
 use Rattle.model.specs.Guids.{num, same}
-use Rattle.model.specs.Instances.{effect, purgedAs, purged, writerNoted, writersIn, started, startedState, ownershipTried, admittedObserved, admittedNoted}
+use Rattle.model.specs.Instances.{effect, purgedAs, purged, writerNoted, writersIn, started, startedState, ownedFrom, ownershipTried, admittedObserved, admittedNoted}
 use Rattle.model.specs.Sets.{members, has, insert, isEmpty}
 use Rattle.model.specs.Times.{ifPresent}
 use Rattle.model.proofs.Keeps.{tried-writers}
@@ -218,7 +218,7 @@ admit-on e gone k none x t f h m =
     new : Agrees (onStarted (joined admit) s (started (s .key) (e .handle))) record { handle = e .handle; writers = s .guid ∷ x .writers }
     new =
         unfold started in
-        more-stands (started (s .key) (e .handle)) (admittedNoted s (admittedObserved s startedState)) x (e .handle)
+        more-stands (started (s .key) (e .handle)) (ownedFrom s (admittedNoted s (admittedObserved s startedState))) x (e .handle)
         (s .guid) refl (admitted-alive s startedState) (admitted-set s startedState)
         (λ j. empty-started j ∙ sym (m j))
 admit-on e gone k (some i) x t f h m =

@@ -33,7 +33,7 @@ use Rattle.abandonment.specs.Standing.{Stand, someone, standAfter}
 use Rattle.abandonment.specs.Console.{among, AtStanding, Fits, skipped, free, noting, keyed}
 use Rattle.abandonment.proofs.KindLaws.{Quiet, quiet-delivery, quiet-taken, quiet-seen, quiet-new, quiet-drained, quiet-tried, quiet-strength, quiet-cleared, quiet-prefix, quiet-released, alive-registered, alive-ensured, alive-lifecycle, alive-observed}
 use Rattle.abandonment.proofs.OnInstance.{Agrees, quiet-on, keyed-on, note-on, purge-on, tracker-on, stopped-on, admit-on, lapse-on, part-on, depart-on}
-use Rattle.abandonment.proofs.Answered.{Real}
+use Rattle.accounts.proofs.Answered.{Real}
 
 -- ---- each code and its call
 

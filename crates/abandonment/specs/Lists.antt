@@ -154,12 +154,12 @@ shownAbandoned refusals outcomes =
     record { refusals = refusals; outcomes = outcomes; alive = false; set = []; standing = [] }
 
 -- the weak writer's sample is turned away (outcome 4), the strong one's lease runs out: abandoned, though the weak one
--- still writes. The strong one owns from its second sample on: the first, which starts the instance, stores no owner
+-- still writes. The strong one owns from its first sample on, which starts the instance
 abbrev pub turnedAway : Row
 turnedAway =
     record {
-      calls = matched 1 ∷ admits 1 2 ∷ admits 1 2 ∷ admits 2 1 ∷ lapses 2 ∷ [];
-      end = shownAbandoned (0 ∷ 0 ∷ 0 ∷ 0 ∷ 0 ∷ []) (0 ∷ 0 ∷ 0 ∷ 4 ∷ 0 ∷ []);
+      calls = matched 1 ∷ admits 1 2 ∷ admits 2 1 ∷ lapses 2 ∷ [];
+      end = shownAbandoned (0 ∷ 0 ∷ 0 ∷ 0 ∷ []) (0 ∷ 0 ∷ 4 ∷ 0 ∷ []);
     }
 
 -- the same with a sample that the filter turns away (outcome 2)
@@ -174,8 +174,8 @@ filteredOut =
 abbrev pub notedAfter : Row
 notedAfter =
     record {
-      calls = matched 1 ∷ admits 1 2 ∷ admits 1 2 ∷ admits 2 1 ∷ notes 2 ∷ lapses 2 ∷ [];
-      end = shownAlive (0 ∷ 0 ∷ 0 ∷ 0 ∷ 0 ∷ 0 ∷ []) (0 ∷ 0 ∷ 0 ∷ 4 ∷ 0 ∷ 0 ∷ []) (2 ∷ []);
+      calls = matched 1 ∷ admits 1 2 ∷ admits 2 1 ∷ notes 2 ∷ lapses 2 ∷ [];
+      end = shownAlive (0 ∷ 0 ∷ 0 ∷ 0 ∷ 0 ∷ []) (0 ∷ 0 ∷ 4 ∷ 0 ∷ 0 ∷ []) (2 ∷ []);
     }
 
 -- the writers that no lapse takes out, each with a last lapse at clock 9

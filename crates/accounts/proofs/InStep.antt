@@ -41,6 +41,7 @@ use Rattle.accounts.specs.Ranges.{bound, upFrom}
 use Rattle.model.proofs.Tests.{split}
 use Rattle.accounts.proofs.Basics.{never, contrary, all-from, all-weaken}
 use Rattle.accounts.proofs.EffectLaws.{two-times}
+use Rattle.accounts.proofs.InstanceTurns.{admitted-is}
 use Rattle.accounts.proofs.InstanceSound.{SoundInstance, Handled, Other, Distinct, SoundInstances, instance-sound, losses-sound, stays-sound, admit-sound}
 use Rattle.accounts.proofs.RangeLaws.{sum-zero}
 use Rattle.accounts.proofs.SheetLaws.{SheetFits, used-time}
@@ -164,7 +165,7 @@ admit-parts : (places : ℕ) (s : Sheet) (st : State) → SheetFits s → Accept
     FormedParts places (admitWith places s st (find (hasKey (s .key)) (st .instances)) .state)
 admit-parts places s st f a w ok m =
     admit-cases (λ (t : Turned). eqb (t .answer .number) 0 ≡ true → FormedParts places (t .state)) places s st x
-    (λ n e q. m) (λ n e q. never (sym q ∙ e)) (λ e4 e5 e6 q. taken e4 e5 e6) ok
+    (λ n e q. m) (λ n e q. never (sym q ∙ e)) (λ e4 e5 e6 e7 q. taken e4 e5 e6) ok
   where
     x : Option Instance
     x = find (hasKey (s .key)) (st .instances)
@@ -175,9 +176,8 @@ admit-parts places s st f a w ok m =
     taken : (not (known s st) && full places st) ≡ false → (not (known s st) && spent st) ≡ false → crowds s x ≡ false →
         FormedParts places (admitted s st .state)
     taken e4 e5 e6 =
-        unfold admitted in
         record {
-          writers = turn-unmoved _ s _ (turn-unmoved _ s _ (turn-unmoved _ s st (m .writers)));
+          writers = rw (admitted-is s st) (turn-unmoved _ s _ (turn-unmoved _ s _ (turn-unmoved _ s _ (turn-unmoved _ s st (m .writers)))));
           instances = admit-sound places s st
               record {
                 fits = f;

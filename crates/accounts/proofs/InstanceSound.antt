@@ -46,7 +46,7 @@ use Rattle.accounts.specs.Ranges.{bound}
 use Rattle.accounts.proofs.Basics.{missing, either, never, all-weaken}
 use Rattle.model.proofs.Tests.{split}
 use Rattle.accounts.proofs.EffectLaws.{Room, SoundAfter, effect-sound, lost-sound, started-sound}
-use Rattle.accounts.proofs.InstanceTurns.{acts-stay, begins-absent, next-is, not-nil, answered, turned-at, turned-rises, eventBy, tried, observed, tried-next, tried-none, tried-silent}
+use Rattle.accounts.proofs.InstanceTurns.{acts-stay, begins-absent, next-is, not-nil, answered, turned-at, turned-rises, eventBy, tried, observed, noted, tried-next, tried-none, tried-silent, admitted-is}
 use Rattle.accounts.proofs.SheetLaws.{SheetFits}
 use Rattle.accounts.proofs.Sound.{SoundTime, SoundState}
 use Rattle.accounts.proofs.TurnLaws.{lookup, Within, keyed, all-sift, length-put}
@@ -406,6 +406,20 @@ two-times : (t u : MaybeTime) → nanosecondsOk t ≡ true → nanosecondsOk u �
 unfolding all
 two-times t u e d = rw (e, d)
 
+-- code 16
+trying-sound : (places : ℕ) (s : Sheet) (st : State) → SheetFits s → nanosecondsOk (s .«time_2») ≡ true →
+    Within instanceKey 0 bound (st .instances) → SoundInstances places st → SoundInstances places (tried s st)
+trying-sound places s st f t w m =
+    instance-sound places acceptUnderExclusiveOwnership s st
+    record {
+      fits = f;
+      place = λ e. never (sym e);
+      handle = λ e. never (sym e);
+      crowd = λ e. never (sym e);
+      times = one-time (s .«time_2») t;
+      holder = λ e. never (sym e);
+    } w m
+
 module _ (places : ℕ) (s : Sheet) (st : State) (ad : Admission places s st) (w : Within instanceKey 0 bound (st .instances))
     (m : SoundInstances places st) where
   tried-rises : Within instanceKey 0 bound (tried s st .instances)
@@ -414,16 +428,7 @@ module _ (places : ℕ) (s : Sheet) (st : State) (ad : Admission places s st) (w
       (turned-rises acceptUnderExclusiveOwnership s st (ad .fits .key) w (m .low))
 
   tried-sound : SoundInstances places (tried s st)
-  tried-sound =
-      instance-sound places acceptUnderExclusiveOwnership s st
-      record {
-        fits = ad .fits;
-        place = λ e. never (sym e);
-        handle = λ e. never (sym e);
-        crowd = λ e. never (sym e);
-        times = one-time (s .«time_2») (ad .time2);
-        holder = λ e. never (sym e);
-      } w m
+  tried-sound = trying-sound places s st (ad .fits) (ad .time2) w m
 
   tried-at : lookup instanceKey (num (s .key)) (tried s st .instances)
       ≡ onInstance (instances acceptUnderExclusiveOwnership)
@@ -469,9 +474,8 @@ module _ (places : ℕ) (s : Sheet) (st : State) (ad : Admission places s st) (w
       ∙ tried-crowds s (num (s .key)) _ (lookup instanceKey (num (s .key)) (st .instances)) answered-zero
       ∙ ad .crowd)
 
-  pub admit-sound : SoundInstances places (admitted s st .state)
-  unfolding admitted
-  admit-sound =
+  noted-sound : SoundInstances places (noted s st)
+  noted-sound =
       instance-sound places noteAdmitted s (observed s st)
       record {
         fits = ad .fits;
@@ -481,3 +485,12 @@ module _ (places : ℕ) (s : Sheet) (st : State) (ad : Admission places s st) (w
         times = two-times (s .«time_1») (s .«time_2») (ad .time1) (ad .time2);
         holder = λ e. never (sym e);
       } observed-rises observed-sound
+
+  noted-rises : Within instanceKey 0 bound (noted s st .instances)
+  noted-rises =
+      rw (turned-instances noteAdmitted s (observed s st))
+      (turned-rises noteAdmitted s (observed s st) (ad .fits .key) observed-rises (observed-sound .low))
+
+  pub admit-sound : SoundInstances places (admitted s st .state)
+  admit-sound =
+      rw (admitted-is s st) (trying-sound places s (noted s st) (ad .fits) (ad .time2) noted-rises noted-sound)

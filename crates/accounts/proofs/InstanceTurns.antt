@@ -39,11 +39,12 @@ use Rattle.model.specs.Guids.{num}
 use Rattle.model.specs.Handles.{handle, notNil, allocated}
 use Rattle.model.specs.InstanceCalls.{known, begins, begun, nextAfter, kept, acts, instancesAfter, handleAnswer, samplesAnswer, infoAnswer, reached, answerOf, reported, told, instanceTurn}
 use Rattle.model.specs.InstanceRecord.{bit}
-use Rattle.model.specs.Instances.{effect, rule, hasKey, reachesBy, reaches, startsBy, limitedBy, isEvery, onEvery, started}
-use Rattle.model.specs.Joined.{admitted, leftWithoutAll, loses}
+use Rattle.model.specs.Instances.{effect, rule, hasKey, reachesBy, reaches, startsBy, limitedBy, isEvery, onEvery, started, ownedFrom, ownershipTried, admittedObserved, admittedNoted}
+use Rattle.model.specs.Joined.{sampled, admitted, leftWithoutAll, loses}
 use Rattle.model.specs.State.{State, instanceKey}
 use Rattle.model.specs.Tables.{isSome, find, sift}
 use Rattle.model.specs.Times.{ifPresent}
+use Rattle.model.proofs.AdmitLaws.{first-taken, tried-again, admitted-state}
 use Rattle.model.proofs.CallLaws.{told-one, told-every}
 use Rattle.model.proofs.Keeps.{lasting}
 use Rattle.model.proofs.Fits.{FitsGuid}
@@ -179,7 +180,7 @@ begins-absent c s st e =
 
 -- ---- the handle that a call answers
 
-abbrev handleIn : Option Instance → ℕ
+abbrev pub handleIn : Option Instance → ℕ
 handleIn none = 0
 handleIn (some x) = x .handle .0
 
@@ -187,7 +188,7 @@ handle-answer : (o : Option Instance) → handleAnswer o .handle .0 ≡ handleIn
 handle-answer none = refl
 handle-answer (some x) = refl
 
-samples-answer : (o : Option Instance) → samplesAnswer o .handle .0 ≡ handleIn o
+pub samples-answer : (o : Option Instance) → samplesAnswer o .handle .0 ≡ handleIn o
 samples-answer none = refl
 samples-answer (some x) = refl
 
@@ -525,22 +526,38 @@ instance-heard st acc c s gone outcome fits room m =
       next = more .1;
     }
 
--- ---- admit with outcome 0: codes 16, 9 and 10
+-- ---- admit with outcome 0: codes 16, 9 and 10, and a further 16
 
--- the three on one account are section 6's one, where 16 and 10 answer no handle
-admit-steps : (s : Sheet) (gone : List Guid) (j h before after : ℕ) (o : Option Instance) → before ≡ 0 → after ≡ 0 →
-    onInstance (instances noteAdmitted) (eventBy s after 0) [] j
+-- the further one takes an instance that was started
+started-taken : (s : Sheet) (k : Guid) (h : ℕ) →
+    ownershipTried s (admittedNoted s (admittedObserved s (started k h .state)))
+    ≡ ownedFrom s (admittedNoted s (admittedObserved s (started k h .state)))
+unfolding started
+started-taken s k h = first-taken s
+
+-- the four on one account are section 6's one, where 16 and 10 answer no handle
+admit-steps : (s : Sheet) (gone : List Guid) (j h before after last : ℕ) (o : Option Instance) → before ≡ 0 → after ≡ 0 →
+    last ≡ 0 →
+    onInstance (instances acceptUnderExclusiveOwnership) (eventBy s last 0) [] j
+    (onInstance (instances noteAdmitted) (eventBy s after 0) [] j
     (onInstance (instances observeAdmitted) (eventBy s h 0) [] j
-    (onInstance (instances acceptUnderExclusiveOwnership) (eventBy s before 0) [] j o))
+    (onInstance (instances acceptUnderExclusiveOwnership) (eventBy s before 0) [] j o)))
     ≡ onInstance (joined admit) (eventBy s h 0) gone j o
-admit-steps s gone j h before after none e d =
+admit-steps s gone j h before after last none e d f =
     split (isKeyed s j)
-    (λ k. rw (e, k) (split (eqb h 0) (λ z. rw (z, d, k) (quiet k)) (λ z. rw (z, k, k))))
-    (λ k. rw (e, k, k, k))
+    (λ k. rw (e, k) (split (eqb h 0) (λ z. rw (z, k, d, f) (still k)) (λ z. rw (z, k, k, k, started-taken s (s .key) h))))
+    (λ k. rw (e, k, k, k, k))
   where
-    quiet : isKeyed s j ≡ true → onAbsent (instances noteAdmitted) (eventBy s 0 0) j ≡ none
-    quiet k = rw k
-admit-steps s gone j h before after (some x) e d = split (isKeyed s j) (λ k. rw (k, k, k)) (λ k. rw (k, k, k))
+    quiet : (c : InstanceCall) → isKeyed s j ≡ true → onAbsent (instances c) (eventBy s 0 0) j ≡ none
+    quiet c k = rw k
+
+    still : isKeyed s j ≡ true →
+        onInstance (instances acceptUnderExclusiveOwnership) (eventBy s 0 0) [] j (onAbsent (instances noteAdmitted) (eventBy s 0 0) j) ≡ none
+    still k =
+        ap (onInstance (instances acceptUnderExclusiveOwnership) (eventBy s 0 0) [] j) (quiet noteAdmitted k)
+        ∙ quiet acceptUnderExclusiveOwnership k
+admit-steps s gone j h before after last (some x) e d f =
+    split (isKeyed s j) (λ k. rw (k, k, k, k, tried-again s (x .state))) (λ k. rw (k, k, k, k))
 
 -- code 16 neither starts nor purges
 pub tried-none : (s : Sheet) (j h : ℕ) (o : Option Instance) → h ≡ 0 →
@@ -593,20 +610,21 @@ noted-silent s st = info-answer (lookup instanceKey (num (s .key)) (instancesAft
 
 admitted-handle : (s : Sheet) (st : State) →
     admitted s st .answer .handle .0 ≡ instanceTurn observeAdmitted s (tried s st) .answer .handle .0
-unfolding admitted
+unfolding admitted sampled
 admitted-handle s st = refl
 
-admitted-state : (s : Sheet) (st : State) → admitted s st .state ≡ instanceTurn noteAdmitted s (observed s st) .state
-unfolding admitted
-admitted-state s st = refl
+abbrev pub noted : Sheet → State → State
+noted s st = instanceTurn noteAdmitted s (observed s st) .state
+
+pub admitted-is : (s : Sheet) (st : State) → admitted s st .state ≡ tried s (noted s st)
+admitted-is s st = admitted-state s st ∙ ap (tried s) (unfold sampled in refl)
 
 pub admit-heard : (st : State) (acc : InstanceAccounts) (s : Sheet) (gone : List Guid) → FitsGuid (s .key) →
     (lookup instanceKey (num (s .key)) (st .instances) ≡ none → st .nextHandle < 2 ^ 63) → InstanceSim st acc →
     InstanceSim (admitted s st .state)
     (S.reach (some (joined admit)) (eventBy s (admitted s st .answer .handle .0) 0) gone acc)
 admit-heard st acc s gone fits room m =
-    rw (admitted-state s st, admitted-handle s st)
-    (same-accounts (instanceTurn noteAdmitted s (observed s st) .state) acc3 _ points starts m3)
+    rw (admitted-is s st, admitted-handle s st) (same-accounts (tried s (noted s st)) acc4 _ points starts m4)
   where
     h1 : ℕ
     h1 = instanceTurn acceptUnderExclusiveOwnership s st .answer .handle .0
@@ -623,8 +641,14 @@ admit-heard st acc s gone fits room m =
     acc2 : InstanceAccounts
     acc2 = S.reach (some (instances observeAdmitted)) (eventBy s h2 0) [] acc1
 
+    h4 : ℕ
+    h4 = instanceTurn acceptUnderExclusiveOwnership s (noted s st) .answer .handle .0
+
     acc3 : InstanceAccounts
     acc3 = S.reach (some (instances noteAdmitted)) (eventBy s h3 0) [] acc2
+
+    acc4 : InstanceAccounts
+    acc4 = S.reach (some (instances acceptUnderExclusiveOwnership)) (eventBy s h4 0) [] acc3
 
     m1 : InstanceSim (tried s st) acc1
     m1 = instance-heard st acc acceptUnderExclusiveOwnership s [] 0 fits (λ e. never (sym e)) m
@@ -639,15 +663,21 @@ admit-heard st acc s gone fits room m =
     m2 : InstanceSim (observed s st) acc2
     m2 = instance-heard (tried s st) acc1 observeAdmitted s [] 0 fits room1 m1
 
-    m3 : InstanceSim (instanceTurn noteAdmitted s (observed s st) .state) acc3
+    m3 : InstanceSim (noted s st) acc3
     m3 = instance-heard (observed s st) acc2 noteAdmitted s [] 0 fits (λ e. never (sym e)) m2
 
-    points : (j : ℕ) → acc3 .at j ≡ onInstance (joined admit) (eventBy s h2 0) gone j (acc .at j)
-    points j = admit-steps s gone j h2 h1 h3 (acc .at j) (tried-silent s st) (noted-silent s (observed s st))
+    m4 : InstanceSim (tried s (noted s st)) acc4
+    m4 = instance-heard (noted s st) acc3 acceptUnderExclusiveOwnership s [] 0 fits (λ e. never (sym e)) m3
 
-    starts : acc3 .handles ≡ acc .handles ++ startsAt (eventBy s h2 0) (acc .at (num (s .key)))
+    points : (j : ℕ) → acc4 .at j ≡ onInstance (joined admit) (eventBy s h2 0) gone j (acc .at j)
+    points j =
+        admit-steps s gone j h2 h1 h3 h4 (acc .at j) (tried-silent s st) (noted-silent s (observed s st)) (tried-silent s (noted s st))
+
+    starts : acc4 .handles ≡ acc .handles ++ startsAt (eventBy s h2 0) (acc .at (num (s .key)))
     starts =
         rw (
+          silent-starts s h4 (acc3 .at (num (s .key))) (tried-silent s (noted s st)),
+          append-nil (acc3 .handles),
           silent-starts s h3 (acc2 .at (num (s .key))) (noted-silent s (observed s st)),
           append-nil (acc2 .handles),
           silent-starts s h1 (acc .at (num (s .key))) (tried-silent s st),

@@ -13,3 +13,5 @@ pub mod InstanceSound
 pub mod InStep
 pub mod Demand3
 pub mod Refusals
+pub mod Answered
+pub mod FirstOwner

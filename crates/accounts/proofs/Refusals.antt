@@ -38,7 +38,7 @@ use Rattle.model.specs.Guids.{num, guidBytes}
 use Rattle.model.specs.InstanceCalls.{Turned, known, begins, full, spent, crowds, accepted, atLimit, reached, lateRefusal, instanceTurn, instanceCall}
 use Rattle.model.specs.InstanceRecord.{instanceBytes}
 use Rattle.model.specs.Instances.{rule, limitedBy, hasKey}
-use Rattle.model.specs.Joined.{inOrder, passesFilter, admitted, admitWith, afterLoss, lossCall}
+use Rattle.model.specs.Joined.{inOrder, passesFilter, sampled, admitted, admitWith, afterLoss, lossCall}
 use Rattle.model.specs.Refusals.{lengthsOk, timesUsed, clocksUsed, holderFits, kindOk, acknowledgeOk, nanosecondsOk, sheetRefusal}
 use Rattle.model.specs.Sheets.{sheetOf}
 use Rattle.model.specs.State.{Lent, State, fresh, instanceKey, layOut}
@@ -114,7 +114,7 @@ admit-number places s st x =
     (λ e7. rw (e1, e2, e3, e4, e5, e6, e7) taken)))))))
   where
     taken : admitted s st .answer .number ≡ 0
-    taken = unfold admitted in refl
+    taken = unfold admitted sampled in refl
 
 -- what is left once a sheet has passed 4 to 7
 passing : (s : Sheet) (st : State) (c : Call) → Ordered c s → sheetRefusal c s st ≡ cond (not (acknowledgeOk c s st)) 8 0

@@ -27,7 +27,7 @@ use Rattle.model.specs.Calls.{Call, instances, tracker, joined}
 use Rattle.model.specs.Guids.{num}
 use Rattle.model.specs.InstanceCalls.{Turned, refused, unchanged, withInstances, known, begins, full, spent, crowds, accepted, atLimit, reached, lateRefusal, instanceTurn, instanceCall, instancesAfter, nextAfter}
 use Rattle.model.specs.Instances.{rule, limitedBy, hasKey}
-use Rattle.model.specs.Joined.{inOrder, passesFilter, admitted, admitWith, afterLoss, lossCall}
+use Rattle.model.specs.Joined.{inOrder, passesFilter, sampled, admitted, admitWith, afterLoss, lossCall}
 use Rattle.model.specs.State.{State, instanceKey}
 use Rattle.model.specs.Tables.{isSome, find}
 use Rattle.model.specs.Writers.{movers, trackerLate, trackerState, trackerTurn, trackerCall}
@@ -38,7 +38,7 @@ use Rattle.accounts.specs.Accounts.{seenAs, goneBy, Accounts, advanceBy}
 use Rattle.accounts.specs.InstanceAccounts.{Event, onPresent, losing, reach}
 use Rattle.accounts.specs.WriterAccounts.{WriterAccounts, hear, heardBy, writersAfter, expiredIn}
 use Rattle.accounts.proofs.Basics.{never, either}
-use Rattle.accounts.proofs.InstanceTurns.{InstanceSim, tracker-heard, limit-heard, stopped-heard, instance-heard, admit-heard, loss-heard}
+use Rattle.accounts.proofs.InstanceTurns.{InstanceSim, tracker-heard, limit-heard, stopped-heard, instance-heard, admitted-is, admit-heard, loss-heard}
 use Rattle.accounts.proofs.TurnLaws.{lookup, any-lookup}
 use Rattle.accounts.proofs.WriterTurns.{WriterSim, Plain, expired-are, writer-heard}
 
@@ -144,11 +144,11 @@ tracker-turned c s st acc g f m ok =
 
 -- ---- joined calls
 
--- the chain of admit: an outcome, a refusal, or the three calls where no refusal was met
+-- the chain of admit: an outcome, a refusal, or what is admitted, where nothing stops it
 pub admit-cases : (P : Turned → Type 0) (places : ℕ) (s : Sheet) (st : State) (x : Option Instance) →
     ((n : ℕ) → eqb n 0 ≡ false → P (unchanged (stopping n) st)) → ((n : ℕ) → eqb n 0 ≡ false → P (refused n st)) →
     ((not (known s st) && full places st) ≡ false → (not (known s st) && spent st) ≡ false → crowds s x ≡ false →
-    P (admitted s st)) →
+    not (accepted s x) ≡ false → P (admitted s st)) →
     P (admitWith places s st x)
 unfolding admitWith
 admit-cases P places s st x stopped barred taken =
@@ -158,7 +158,14 @@ admit-cases P places s st x stopped barred taken =
     (λ e3. either P (not (known s st) && full places st) _ _ (λ e. barred 9 refl)
     (λ e4. either P (not (known s st) && spent st) _ _ (λ e. barred 13 refl)
     (λ e5. either P (crowds s x) _ _ (λ e. barred 10 refl)
-    (λ e6. either P (not (accepted s x)) _ _ (λ e. stopped 4 refl) (λ e7. taken e4 e5 e6)))))))
+    (λ e6. either P (not (accepted s x)) _ _ (λ e. stopped 4 refl) (λ e7. taken e4 e5 e6 e7)))))))
+
+-- a new key that refusal 13 does not stop has a handle to come
+pub handle-free : (s : Sheet) (st : State) → (not (known s st) && spent st) ≡ false →
+    lookup instanceKey (num (s .key)) (st .instances) ≡ none → st .nextHandle < 2 ^ 63
+handle-free s st e n =
+    let k : known s st ≡ false = any-lookup instanceKey (num (s .key)) (st .instances) ∙ ap isSome n in
+    leb-false (2 ^ 63) (st .nextHandle) (rw k at e)
 
 admit-turned : (places : ℕ) (s : Sheet) (st : State) (acc : Accounts) (x : Option Instance) → FitsGuid (s .key) →
     Sim st acc →
@@ -170,23 +177,18 @@ admit-turned places s st acc x f m =
     (advanced (joined admit) s (t .answer) acc)) places s st x
     (λ n e ok. record { writers = m .writers; instances = stopped-heard st (acc .instances) s n [] e (m .instances) })
     (λ n e ok. never (sym ok ∙ e))
-    (λ e4 e5 e6 ok. taken e5)
+    (λ e4 e5 e6 e7 ok. taken e5)
   where
-    room : (not (known s st) && spent st) ≡ false → lookup instanceKey (num (s .key)) (st .instances) ≡ none →
-        st .nextHandle < 2 ^ 63
-    room e n =
-        let k : known s st ≡ false = any-lookup instanceKey (num (s .key)) (st .instances) ∙ ap isSome n in
-        leb-false (2 ^ 63) (st .nextHandle) (rw k at e)
-
     taken : (not (known s st) && spent st) ≡ false →
         Sim (admitted s st .state) (advanced (joined admit) s (admitted s st .answer) acc)
     taken e =
-        unfold admitted in
         record {
           writers =
-              instance-writers _ s _ (acc .writers)
-              (instance-writers _ s _ (acc .writers) (instance-writers _ s st (acc .writers) (m .writers)));
-          instances = admit-heard st (acc .instances) s [] f (room e) (m .instances);
+              rw (admitted-is s st)
+              (instance-writers _ s _ (acc .writers)
+              (instance-writers _ s _ (acc .writers)
+              (instance-writers _ s _ (acc .writers) (instance-writers _ s st (acc .writers) (m .writers)))));
+          instances = unfold admitted sampled in admit-heard st (acc .instances) s [] f (handle-free s st e) (m .instances);
         }
 
 -- a tracker call, then codes 7 and 18 for each writer gone

@@ -13,7 +13,7 @@ use Rattle.model.specs.declared.InstanceCall.the-variants.{Register as register
 use Rattle.model.specs.declared.JoinedCall.the-variants.{Admit as admit, Lapse as lapse, Part as part, Depart as depart}
 use Rattle.model.specs.Calls.{Call, instances, tracker, joined}
 use Rattle.model.specs.Guids.{num}
-use Rattle.model.specs.Instances.{effect, started, ownershipTried, admittedObserved, admittedNoted}
+use Rattle.model.specs.Instances.{effect, started, ownershipTried, ownedFrom, admittedObserved, admittedNoted}
 use Rattle.model.specs.Joined.{leftWithoutAll}
 use Rattle.model.specs.Times.{ifPresent}
 
@@ -93,13 +93,14 @@ onPresent (joined part) e gone k x = losing gone (e .sheet) x
 onPresent (joined depart) e gone k x = losing gone (e .sheet) x
 
 -- ---- a call that answers a handle starts an absent instance with it before it acts (code 48: after its code 16); no
--- other call alters an absent one
+-- other call alters an absent one. Document 02, request 1: one that code 48 starts has writer and strength of the sheet as
+-- owner, and time 2 as owner_at
 
 -- what the call does to the instance that it started
 abbrev pub onStarted : Call → Sheet → Instance → Option Instance
 onStarted (instances c) s x = leaving x (effect c s (x .state))
 onStarted (tracker c) s x = some x
-onStarted (joined admit) s x = leaving x (some (admittedNoted s (admittedObserved s (x .state))))
+onStarted (joined admit) s x = leaving x (some (ownedFrom s (admittedNoted s (admittedObserved s (x .state)))))
 onStarted (joined lapse) s x = some x
 onStarted (joined part) s x = some x
 onStarted (joined depart) s x = some x

@@ -4,3 +4,4 @@ pub mod WriterAccounts
 pub mod InstanceAccounts
 pub mod Accounts
 pub mod Busy
+pub mod FirstOwner

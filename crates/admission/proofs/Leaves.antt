@@ -18,7 +18,6 @@ use Rattle.octets.specs.Bounds.{Bytes}
 use Rattle.model.specs.declared.Answer.{Answer}
 use Rattle.model.specs.declared.Instance.{Instance}
 use Rattle.model.specs.declared.InstanceHandle.{InstanceHandle}
-use Rattle.model.specs.declared.InstanceState.{InstanceState}
 use Rattle.model.specs.declared.Sheet.{Sheet}
 use Rattle.model.specs.Answers.{refusedWith, stopping}
 use Rattle.model.specs.Guids.{num}
@@ -29,6 +28,7 @@ use Rattle.model.specs.Instances.{hasKey, takesOver, ownershipTried, admittedOb
 use Rattle.model.specs.Joined.{admitCall, inOrder, passesFilter}
 use Rattle.model.specs.State.{State, instanceKey, instancesIn}
 use Rattle.model.specs.Tables.{find}
+use Rattle.model.proofs.AdmitLaws.{tried-owned, noted-owned}
 use Rattle.tables.specs.declared.Found.the-variants.{Missing}
 use Rattle.tables.specs.Found.{foundIn}
 use Rattle.tables.specs.Places.{Only}
@@ -39,7 +39,7 @@ use Rattle.instance_table.specs.Laid.{Laid}
 use Rattle.instance_table.specs.TableCalls.{TableFormed, stateWith}
 use Rattle.instance_reach.specs.Turned.{LeavesTable, startRefusal, blank, withState}
 use Rattle.instance_reach.proofs.Table.{start-cases, ready-length, ready-rises, ready-few, ready-laid, ready-place, ready-read, ready-usable, ready-room}
-use Rattle.admission.specs.Admits.{Admits, Known, Timely, Noted, limited}
+use Rattle.admission.specs.Admits.{Admits, Known, Timely, Sampled, limited}
 use Rattle.admission.proofs.Admitted.{leaving, answersOf, admitted-known, admitted-new}
 use Rattle.admission.proofs.Tests.{out-of-order, filtered, crowded-out, weaker, admits-known, new-limited, new-full, new-spent, admits-new}
 
@@ -102,12 +102,12 @@ module _ {places count next : ℕ} {t : List ℕ} (r : TableFormed places count 
           pub weaker-left : takesOver s (x .state) ≡ false → b ≡ stopping 4 → Admits places s xs next (record { answer = b; count = count; «next_handle» = h }) t
           weaker-left w e = same-left (stopping 4) b h (weaker places s st x found timely c w) e same
 
-          pub admitted-left : (z : InstanceState) (y : Instance) (u : List ℕ) → takesOver s (x .state) ≡ true → z ≡ ownershipTried s (x .state) → Noted s x z y →
+          pub admitted-left : (y : Instance) (u : List ℕ) → takesOver s (x .state) ≡ true → Sampled s x y →
               b ≡ answersOf y → ((places : ℕ) (xs : List Instance) → Laid places xs t → i < length xs → Laid places (set xs i y) u) →
               Admits places s xs next (record { answer = b; count = count; «next_handle» = h }) u
-          admitted-left z y u w o n e l =
+          admitted-left y u w n e l =
               let q : y ≡ withState x (admittedNoted s (admittedObserved s (ownershipTried s (x .state)))) =
-              n .left ∙ ap (λ (v : InstanceState). withState x (admittedNoted s (admittedObserved s v))) o in
+              rw (tried-owned s (x .state) w, noted-owned s (x .state)) (n .left) in
               done-left (admits-known places s st x found timely c w ∙ admitted-known s blank st i x (k .only) (sym (k .is))
               ∙ ap (λ (v : Instance). leaving (answersOf v) (set xs i v) next st) (sym q)) b count h e
               (sym (length-set xs i y ∙ ready-length r)) same (l places xs (ready-laid r bytes) (k .only .within))
@@ -139,7 +139,7 @@ module _ {places count next : ℕ} {t : List ℕ} (r : TableFormed places count 
               (new-spent places s st nobody (counted ∙ l) (lt-leb places (length xs) free) (le-leb (2 ^ 63) next p)) e same
 
           pub first-left : (x y : Instance) (n : ℕ) (u : List ℕ) → next < 9223372036854775808 → x ≡ started (s .key) (allocated next .handle .0) →
-              Noted s x (x .state) y → b ≡ answersOf y → n ≡ count + 1 → h .0 ≡ allocated next .counter →
+              Sampled s x y → b ≡ answersOf y → n ≡ count + 1 → h .0 ≡ allocated next .counter →
               ((places : ℕ) (xs : List Instance) → Laid places xs t → length xs ≡ count → count < places → Laid places (take i xs ++ y ∷ drop i xs) u) →
               Admits places s xs next (record { answer = b; count = n; «next_handle» = h }) u
           first-left x y n u p new a e grown k laid =

@@ -1,7 +1,7 @@
 -- What code 48 asks of the lent table on its way, and what it leaves.
 --     Admits            what comes back and what the table then holds is what model's admit leaves
 --     Known, Timely     the instance of the key stands at a place; its sample passes order and filter
---     Noted             what codes 9 and 10 leave of an instance
+--     Sampled           what an admitted sample leaves of an instance
 --     limited           the limit of instances, for a new key
 use Prim.Native.Nat.{ℕ, _<_}
 use mathlib.Core.Bool.{Bool, true, not, _&&_}
@@ -11,9 +11,8 @@ use mathlib.Core.Path.{_≡_}
 use lib.Dec.{leb}
 use lib.ListN.{getD}
 use Rattle.model.specs.declared.Instance.{Instance}
-use Rattle.model.specs.declared.InstanceState.{InstanceState}
 use Rattle.model.specs.declared.Sheet.{Sheet}
-use Rattle.model.specs.Instances.{hasKey, admittedObserved, admittedNoted}
+use Rattle.model.specs.Instances.{hasKey, ownedFrom, admittedObserved, admittedNoted}
 use Rattle.model.specs.Joined.{admitCall, inOrder, passesFilter}
 use Rattle.model.specs.Times.{negative}
 use Rattle.tables.specs.Places.{Only}
@@ -35,9 +34,9 @@ pub record Timely (s : Sheet) (x : Instance) : Type 0 where
   pub order : inOrder s (some x) ≡ true
   pub filter : passesFilter s (some x) ≡ true
 
--- y is x with what codes 9 and 10 leave of the state z
-pub record Noted (s : Sheet) (x : Instance) (z : InstanceState) (y : Instance) : Type 0 where
-  pub left : y ≡ withState x (admittedNoted s (admittedObserved s z))
+-- y is x after codes 9 and 10, owned by the sample's writer
+pub record Sampled (s : Sheet) (x y : Instance) : Type 0 where
+  pub left : y ≡ withState x (ownedFrom s (admittedNoted s (admittedObserved s (x .state))))
   pub few : y .state .writers .len < 32
 
 -- outcome 3 for a key that is not known

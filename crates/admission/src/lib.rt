@@ -10,7 +10,6 @@ use instance_table::TableCall;
 use model::Answer;
 use model::Instance;
 use model::InstanceHandle;
-use model::InstanceState;
 use model::Sheet;
 use tables::Found;
 ghost use mathlib.Core.Bool.{true, false};
@@ -30,7 +29,7 @@ ghost use Rattle.tables.specs.Places.{Only};
 ghost use Rattle.instance_fields.specs.Usable.{Usable, Room};
 ghost use Rattle.instance_table.specs.TableCalls.{TableFormed, stateWith};
 ghost use Rattle.instance_reach.specs.Turned.{LeavesTable, blank};
-ghost use Rattle.admission.specs.Admits.{Admits, Known, Timely, Noted, limited};
+ghost use Rattle.admission.specs.Admits.{Admits, Known, Timely, Sampled, limited};
 
 // ---- the answers
 
@@ -87,23 +86,26 @@ fn passes_filter(s: Sheet, x: Instance) -> bool
 
 // ---- the sample is admitted
 
-// Codes 9 and 10 on an instance whose state is z: its key and its handle stay.
-fn noted(s: Sheet, x: Instance, z: InstanceState) -> Instance
-    requires { ⌜ Usable z × Room (s .guid) z ⌝ }
-    ensures { λ r. ⌜ Noted s x z r ⌝ }
+// Codes 9 and 10 on the instance, and the sample's writer owns it: key and handle stay. A first writer is an owner as any
+// other: ownership is exclusive from the first sample on (DDS 1.4, 2.2.3.9.2).
+fn sampled(s: Sheet, x: Instance) -> Instance
+    requires { ⌜ Usable (x .state) × Room (s .guid) (x .state) ⌝ }
+    ensures { λ r. ⌜ Sampled s x r ⌝ }
 {
     let key = x.key;
     let handle = x.handle;
-    let observed = instance_samples::admitted_observed(s, z);
-    let y = instance_samples::admitted_noted(s, observed);
+    let before = x.state;
+    let observed = instance_samples::admitted_observed(s, before);
+    let noted = instance_samples::admitted_noted(s, observed);
+    let owned = instance_ownership::owned_from(s, noted);
     Instance {
         key: key,
         handle: handle,
-        state: y,
+        state: owned,
     }
 }
 
-// The instance x, at place i, takes the sample, whose writer takes over: ownership, then codes 9 and 10.
+// The instance x, at place i, takes the sample, whose writer takes over.
 fn admit_at(
     s: Sheet,
     pens: &mut [u8],
@@ -117,9 +119,7 @@ fn admit_at(
         × (takesOver s (x .state) ≡ true) ⌝ }
     ensures { λ r. ⌜ Admits places s (instancesIn count (now (pens .entry))) (next .0) r (now (pens .exit)) ⌝ }
 {
-    let before = x.state;
-    let owned = instance_ownership::owned_from(s, before);
-    let y = noted(s, x, owned);
+    let y = sampled(s, x);
     instance_table::replace(pens, i, y);
     TableCall {
         answer: admitted_answer(y),
@@ -145,8 +145,7 @@ fn admit_first(
     let a = instance_handle::allocate_step(next.0);
     let h = a.handle;
     let x = instance_effects::started(key, h.0);
-    let z = x.state;
-    let y = noted(s, x, z);
+    let y = sampled(s, x);
     instance_table::insert(pens, count as usize, i, y);
     TableCall {
         answer: admitted_answer(y),

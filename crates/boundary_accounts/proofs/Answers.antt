@@ -40,7 +40,7 @@ use Rattle.model.specs.Handles.{allocated, notNil}
 use Rattle.model.specs.InstanceCalls.{Turned, refused, known, atLimit, full, spent, crowds, accepted, begins, begun, kept, acts, instancesAfter, answerOf, reported, told, handleAnswer, samplesAnswer, infoAnswer, reached, nextAfter, lateRefusal, instanceTurn, instanceCall}
 use Rattle.model.specs.InstanceRecord.{bit, kindNumber}
 use Rattle.model.specs.Instances.{effect, rule, reaches, limitedBy, onEvery, hasKey, started}
-use Rattle.model.specs.Joined.{inOrder, passesFilter, admitted, admitWith, afterLoss, lossCall, joinedCall}
+use Rattle.model.specs.Joined.{inOrder, passesFilter, sampled, admitted, admitWith, afterLoss, lossCall, joinedCall}
 use Rattle.model.specs.Refusals.{lengthsOk, sheetRefusal}
 use Rattle.model.specs.Sheets.{sheetOf}
 use Rattle.model.specs.State.{Lent, State, layOut, instanceKey}
@@ -186,7 +186,7 @@ unfolding instanceTurn instancesAfter begun nextAfter
 tried-handles s st h = record { next = h .next; each = acting acceptUnderExclusiveOwnership s (st .instances) (h .each) }
 
 admitted-fits : (s : Sheet) (st : State) → Handles st → Fits (admitted s st)
-unfolding admitted
+unfolding admitted sampled
 admitted-fits s st h =
     let o = turn-fits observeAdmitted s (instanceTurn acceptUnderExclusiveOwnership s st .state) (tried-handles s st h) in
     record { outcome = omega arith; handle = o .handle }

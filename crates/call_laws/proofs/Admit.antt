@@ -1,15 +1,13 @@
--- Code 48 as three calls one after the other: where its tests let it through, codes 16, 9 and 10 are each accepted, and what
--- they leave is what code 48 leaves.
---     admit-calls     the three calls
+-- Code 48 as calls one after the other: where its tests let it through, codes 16, 9 and 10 are each accepted, and what they
+-- leave is what code 48 leaves; for a key that was not known, after a further code 16 on the instance now there.
+--     admit-calls     the calls
+--     admit-again     a further code 16 with the same sheet changes nothing
 -- Assumes nothing.
-use Prim.Native.Nat.{ℕ, suc}
-use mathlib.Core.Bool.{Bool, true, false, not, _&&_, _||_, cond}
+use Prim.Native.Nat.{ℕ}
+use mathlib.Core.Bool.{Bool, true, false, not, _&&_, cond}
+use mathlib.Core.List.{[]}
 use mathlib.Core.Option.{Option, none, some}
 use mathlib.Core.Path.{_≡_, refl, ap, _∙_}
-use mathlib.Core.List.{List, [], _∷_}
-use native.Mathlib.Omega.{arith}
-use borrow.Author.Tests.{eq-eqb}
-use lib.Dec.{ltb}
 use lib.ListN.{length}
 use Rattle.model.specs.declared.Guid.{Guid}
 use Rattle.model.specs.declared.Instance.{Instance}
@@ -17,85 +15,16 @@ use Rattle.model.specs.declared.InstanceCall.the-variants.{ObserveAdmitted, Not
 use Rattle.model.specs.declared.InstanceState.{InstanceState}
 use Rattle.model.specs.declared.Sheet.{Sheet}
 use Rattle.model.specs.Answers.{both}
-use Rattle.model.specs.Guids.{num}
 use Rattle.model.specs.Handles.{allocated}
 use Rattle.model.specs.InstanceCalls.{Turned, known, atLimit, full, spent, crowds, begun, nextAfter, instancesAfter, lateRefusal, instanceTurn, instanceCall}
 use Rattle.model.specs.Instances.{hasKey, started, startedState, admittedObserved, ownershipTried}
-use Rattle.model.specs.Joined.{admitted}
+use Rattle.model.specs.Joined.{sampled, admitted}
 use Rattle.model.specs.Sets.{has}
 use Rattle.model.specs.State.{State, instanceKey}
-use Rattle.model.specs.Tables.{find, any, put, sift}
+use Rattle.model.specs.Tables.{find, put}
+use Rattle.model.proofs.AdmitLaws.{touchedFound, length-acting, any-acting, find-acting, found-started, admitted-state, accepted-again}
 use Rattle.model.proofs.Keeps.{tried-writers, observed-writers}
-
--- ---- a sift that keeps every record and its key
-
--- x with another state
-abbrev with : Instance → InstanceState → Instance
-with x y = record { key = x .key; handle = x .handle; state = y }
-
--- g acts on the state of the record of one key
-abbrev touched : (InstanceState → InstanceState) → Guid → Instance → Instance
-touched g k x = cond (hasKey k x) (with x (g (x .state))) x
-
-abbrev touchedFound : (InstanceState → InstanceState) → Option Instance → Option Instance
-touchedFound g none = none
-touchedFound g (some x) = some (with x (g (x .state)))
-
-module _ (g : InstanceState → InstanceState) (k : Guid) where
-  abbrev acting : Instance → Option Instance
-  acting x = cond (hasKey k x) (some (with x (g (x .state)))) (some x)
-
-  acting-some : (x : Instance) → acting x ≡ some (touched g k x)
-  acting-some x = each (hasKey k x)
-    where
-      each : (b : Bool) → cond b (some (with x (g (x .state)))) (some x) ≡ some (cond b (with x (g (x .state))) x)
-      each true = refl
-      each false = refl
-
-  touched-key : (x : Instance) → touched g k x .key ≡ x .key
-  touched-key x = each (hasKey k x)
-    where
-      each : (b : Bool) → cond b (with x (g (x .state))) x .key ≡ x .key
-      each true = refl
-      each false = refl
-
-  length-acting : (xs : List Instance) → length (sift acting xs) ≡ length xs
-  unfolding sift
-  length-acting [] = refl
-  length-acting (x ∷ xs) = rw (acting-some x) (ap suc (length-acting xs))
-
-  any-acting : (xs : List Instance) → any (hasKey k) (sift acting xs) ≡ any (hasKey k) xs
-  unfolding sift any
-  any-acting [] = refl
-  any-acting (x ∷ xs) = rw (acting-some x, touched-key x, any-acting xs)
-
-  find-acting : (xs : List Instance) → find (hasKey k) (sift acting xs) ≡ touchedFound g (find (hasKey k) xs)
-  unfolding sift find
-  find-acting [] = refl
-  find-acting (x ∷ xs) = each (hasKey k x) refl (find-acting xs)
-    where
-      each : (b : Bool) → hasKey k x ≡ b → find (hasKey k) (sift acting xs) ≡ touchedFound g (find (hasKey k) xs) →
-          find (hasKey k) (sift acting (x ∷ xs)) ≡ touchedFound g (find (hasKey k) (x ∷ xs))
-      each true e r = rw (e, e)
-      each false e r = rw (e, e) r
-
--- a record put in that no other has the key of is the one found
-find-put : (y : Instance) (xs : List Instance) → hasKey (y .key) y ≡ true → any (hasKey (y .key)) xs ≡ false → find (hasKey (y .key)) (put instanceKey y xs) ≡ some y
-unfolding put find any
-find-put y [] h n = rw h
-find-put y (x ∷ xs) h n = each (ltb (instanceKey x) (instanceKey y)) (hasKey (y .key) x) refl n (find-put y xs h)
-  where
-    each : (a b : Bool) → hasKey (y .key) x ≡ b → (b || any (hasKey (y .key)) xs) ≡ false →
-        (any (hasKey (y .key)) xs ≡ false → find (hasKey (y .key)) (put instanceKey y xs) ≡ some y) →
-        find (hasKey (y .key)) (cond a (x ∷ put instanceKey y xs) (cond b (y ∷ xs) (y ∷ x ∷ xs))) ≡ some y
-    each true true e m r = let z : _≡_ {A = ℕ} 0 1 = cc in absurd (omega arith)
-    each true false e m r = rw e (r m)
-    each false true e m r = rw h
-    each false false e m r = rw h
-
-found-started : (k : Guid) (h : ℕ) (xs : List Instance) → any (hasKey k) xs ≡ false → find (hasKey k) (put instanceKey (started k h) xs) ≡ some (started k h)
-unfolding started
-found-started k h xs n = find-put (started k h) xs (eq-eqb (num k) (num k) refl) n
+use Rattle.model.proofs.Tests.{split}
 
 -- ---- refusal 10 asks for the writers alone, which codes 16 and 9 leave
 
@@ -109,7 +38,7 @@ module _ (s : Sheet) where
   unfolding started startedState has
   crowds-started k h = refl
 
--- ---- the three calls
+-- ---- the calls
 
 abbrev three : ℕ → Sheet → State → Turned
 three places s st =
@@ -119,6 +48,13 @@ three places s st =
       state = instanceCall places NoteAdmitted s (instanceCall places ObserveAdmitted s (instanceCall places AcceptUnderExclusiveOwnership s st .state) .state) .state;
       list = [];
     }
+
+-- a call's answer and list, and its state after a further code 16
+abbrev then16 : ℕ → Sheet → Turned → Turned
+then16 places s t = record { answer = t .answer; state = instanceCall places AcceptUnderExclusiveOwnership s (t .state) .state; list = t .list }
+
+abbrev four : ℕ → Sheet → State → Turned
+four places s st = then16 places s (three places s st)
 
 module _ (places : ℕ) (s : Sheet) (st : State) (room : atLimit s st ≡ false) (place : (not (known s st) && full places st) ≡ false)
     (next : (not (known s st) && spent st) ≡ false) (writers : crowds s (find (hasKey (s .key)) (st .instances)) ≡ false) where
@@ -175,6 +111,27 @@ module _ (places : ℕ) (s : Sheet) (st : State) (room : atLimit s st ≡ false)
       ap (crowds s) found-second ∙ crowds-kept s (admittedObserved s) (observed-writers s) (find (hasKey (s .key)) (begun ObserveAdmitted s st1)) ∙ begun-writers in
       rw w
 
-  pub admit-calls : admitted s st ≡ three places s st
-  unfolding admitted
-  admit-calls = rw (first-call, second-call, third-call)
+  sampled-calls : sampled s st ≡ three places s st
+  unfolding sampled
+  sampled-calls = rw (first-call, second-call, third-call)
+
+  pub admit-calls : admitted s st ≡ cond (known s st) (three places s st) (four places s st)
+  admit-calls =
+      split (known s st)
+      (λ e. rw e (whole e ∙ sampled-calls))
+      (λ e. rw e (started-whole ∙ ap (λ (t : Turned). then16 places s t) sampled-calls))
+    where
+      whole : known s st ≡ true → admitted s st ≡ sampled s st
+      whole e = unfold admitted sampled in rw e
+
+      started-whole : admitted s st ≡ then16 places s (sampled s st)
+      started-whole =
+          unfold instanceCall lateRefusal in
+          rw (← admitted-state s st) (unfold admitted sampled in refl)
+
+-- ---- the same call 16 once more
+
+pub admit-again : (places : ℕ) (s : Sheet) (st : State) →
+    instanceCall places AcceptUnderExclusiveOwnership s (admitted s st .state) .state ≡ admitted s st .state
+unfolding instanceCall lateRefusal
+admit-again places s st = accepted-again s st

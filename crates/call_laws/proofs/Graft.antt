@@ -5,6 +5,7 @@
 -- Assumes nothing.
 use Prim.Native.Nat.{ℕ}
 use mathlib.Core.Bool.{Bool, true, false, not, _&&_, cond}
+use mathlib.Core.List.{[]}
 use mathlib.Core.Option.{Option}
 use mathlib.Core.Path.{_≡_, refl}
 use lib.Dec.{eqb}
@@ -14,7 +15,7 @@ use Rattle.model.specs.declared.Sheet.{Sheet}
 use Rattle.model.specs.Answers.{silent, stopping}
 use Rattle.model.specs.InstanceCalls.{Turned, refused, unchanged, withInstances, atLimit, lateRefusal, instanceTurn, instanceCall, begun, nextAfter, instancesAfter, known, full, spent, crowds, accepted}
 use Rattle.model.specs.Instances.{rule, limitedBy, hasKey}
-use Rattle.model.specs.Joined.{inOrder, passesFilter, admitted, admitWith, admitCall}
+use Rattle.model.specs.Joined.{inOrder, passesFilter, sampled, firstOwned, admitted, admitWith, admitCall}
 use Rattle.model.specs.State.{State, freshState}
 use Rattle.model.specs.Tables.{find}
 
@@ -40,8 +41,15 @@ instance-graft places c s st = each (limitedBy (rule c .reach) && atLimit s st) 
 -- ---- code 48
 
 pub admitted-graft : (s : Sheet) (st : State) → admitted s st ≡ graft st (admitted s (tableOf st))
-unfolding admitted instanceTurn begun nextAfter instancesAfter
-admitted-graft s st = refl
+unfolding admitted sampled firstOwned instanceTurn begun nextAfter instancesAfter
+admitted-graft s st = each (known s st)
+  where
+    each : (b : Bool) →
+        record { answer = sampled s st .answer; state = cond b (sampled s st .state) (firstOwned s (sampled s st .state)); list = [] }
+        ≡ graft st
+        record { answer = sampled s (tableOf st) .answer; state = cond b (sampled s (tableOf st) .state) (firstOwned s (sampled s (tableOf st) .state)); list = [] }
+    each true = refl
+    each false = refl
 
 pub admit-graft : (places : ℕ) (s : Sheet) (st : State) → admitCall places s st ≡ graft st (admitCall places s (tableOf st))
 unfolding admitWith

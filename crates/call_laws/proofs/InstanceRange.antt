@@ -22,7 +22,7 @@ use Rattle.model.specs.Calls.{Call}
 use Rattle.model.specs.Handles.{handle}
 use Rattle.model.specs.InstanceCalls.{Turned, refused, unchanged, withInstances, atLimit, lateRefusal, instanceTurn, instanceCall, known, full, spent, crowds, accepted}
 use Rattle.model.specs.Instances.{rule, limitedBy, hasKey}
-use Rattle.model.specs.Joined.{inOrder, passesFilter, admitted, admitWith, admitCall}
+use Rattle.model.specs.Joined.{inOrder, passesFilter, sampled, admitted, admitWith, admitCall}
 use Rattle.model.specs.State.{Lent, State, stateOf, layOut, headOf, pensOf}
 use Rattle.model.specs.Refusals.{sheetRefusal}
 use Rattle.model.specs.Tables.{find}
@@ -55,7 +55,7 @@ instance-outcome places c s st = each (limitedBy (rule c .reach) && atLimit s st
     each false (suc n) = refuses n (unpicked n (instanceTurn c s st) (refused (suc n) st))
 
 pub admit-outcome : (places : ℕ) (s : Sheet) (st : State) → Outcome st (admitCall places s st)
-unfolding admitWith admitted
+unfolding admitWith admitted sampled
 admit-outcome places s st =
     each (not (inOrder s x)) (not (passesFilter s x)) (atLimit s st) (not (known s st) && full places st) (not (known s st) && spent st) (crowds s x)
     (not (accepted s x))

@@ -88,14 +88,14 @@ pub fn owned_from(s: Sheet, x: InstanceState) -> InstanceState
 {
     let g = s.guid;
     let t = x.times;
-    let now = s.time_2;
+    let since = s.time_2;
     let o = MaybeOwner {
         present: true,
         guid: g,
         strength: s.second,
     };
     let y = with_owner(o, x);
-    with_times(with_owner_at(always(now), t), y)
+    with_times(with_owner_at(always(since), t), y)
 }
 
 // A sample under exclusive ownership: its writer owns the instance where it takes over.

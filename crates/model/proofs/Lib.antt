@@ -14,4 +14,5 @@ pub mod WriterLaws
 pub mod StateLaws
 pub mod HandleLists
 pub mod CallLaws
+pub mod AdmitLaws
 pub mod TrackerLaws

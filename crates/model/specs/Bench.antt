@@ -1,6 +1,6 @@
--- Section 10: the lettered bench lines and the three traps, as rows under one claim: what the definitions give is what the
--- document says.
-use Prim.Native.Nat.{ℕ, _-_, _^_}
+-- Section 10: the lettered bench lines and the three traps, and lines on document 02, as rows under one claim: what
+-- the definitions give is what the documents say.
+use Prim.Native.Nat.{ℕ, _+_, _-_, _^_}
 use mathlib.Core.Bool.{Bool, true, false, _&&_}
 use mathlib.Core.List.{List, [], _∷_, _++_}
 use lib.Dec.{T, eqb}
@@ -9,16 +9,18 @@ use Rattle.model.specs.declared.Guid.{Guid}
 use Rattle.model.specs.declared.Instance.{Instance}
 use Rattle.model.specs.declared.InstanceState.{InstanceState}
 use Rattle.model.specs.declared.InstanceStateKind.the-variants.{NotAliveDisposed}
+use Rattle.model.specs.declared.MaybeOwner.{MaybeOwner}
 use Rattle.model.specs.declared.MaybeTime.{MaybeTime}
 use Rattle.model.specs.declared.Sheet.{Sheet}
 use Rattle.model.specs.declared.Writer.{Writer}
-use Rattle.model.specs.Calls.{InstanceCall, register, ensureRegisteredLimited, unregister, acceptUnderExclusiveOwnership, autopurge, TrackerCall, matched, lostWithParticipant, writerAsserted, expire}
+use Rattle.model.specs.Calls.{InstanceCall, register, ensureRegisteredLimited, unregister, observeLifecycle, observeAdmitted, acceptUnderExclusiveOwnership, autopurge, TrackerCall, matched, lostWithParticipant, writerAsserted, expire}
 use Rattle.model.specs.Guids.{num}
 use Rattle.model.specs.Handles.{handle, allocated}
 use Rattle.model.specs.InstanceCalls.{Turned, instanceCall, instanceTurn, instancesAfter, begun, nextAfter, lateRefusal, handleBytes}
 use Rattle.model.specs.InstanceRecord.{bit, kindNumber, holderPlaces}
-use Rattle.model.specs.Instances.{startedState, started, withLife, withTimes, withOwner, withSet, withKind, withView, withDisposedAt, withOwnerAt, registered, unregistered, ensured, revived, revivedNew, ownershipTried, takesOver, outbids, purged, leftBy}
-use Rattle.model.specs.Sets.{has, setOf}
+use Rattle.model.specs.Instances.{startedState, started, withLife, withTimes, withOwner, withSet, withKind, withView, withDisposedAt, withOwnerAt, registered, unregistered, ensured, revived, revivedNew, lifecycleObserved, admittedObserved, admittedNoted, writerNoted, ownershipTried, takesOver, outbids, purged, leftBy}
+use Rattle.model.specs.Joined.{sampled, firstOwned, admitted, admitWith, admitCall}
+use Rattle.model.specs.Sets.{has, insert, setOf}
 use Rattle.model.specs.State.{State, freshState, instancePlaces}
 use Rattle.model.specs.Tables.{find, pick, any, put, sift}
 use Rattle.model.specs.Times.{noTime, nanosOf, signedNanosOf, filterAdmits, orderAdmits, deadlineMissed, purgeDue}
@@ -210,14 +212,88 @@ unregisterTrap =
     ∷ row (kindNumber (after unregister (sheet 1 0 noTime 0 0 0 0 0) (withSet (guid 3 ∷ []) startedState) .life .kind)) 2
     ∷ []
 
+-- ---- document 02, request 1: the writer of the sample by which admit starts an instance owns it
+
+-- a sample for key 1: its writer and strength, time 1 at a second, and time 2 ten seconds later; no limit and no deadline
+abbrev sampleAt : ℕ → ℕ → ℕ → Sheet
+sampleAt writer strength second =
+    record {
+      key = guid 1;
+      guid = guid writer;
+      handle = handle 1;
+      «time_1» = time second 0;
+      «time_2» = time (second + 10) 0;
+      a = 0;
+      b = 0;
+      first = minus 1;
+      second = strength;
+      «deadline_present» = false;
+      «lease_present» = false;
+      manual = false;
+      «by_source» = true;
+      kind = 0;
+      code = 48;
+      holder = record { present = false; len = 0; bytes = replicate holderPlaces 0 };
+    }
+
+abbrev admits : ℕ → ℕ → ℕ → State → Turned
+admits writer strength second st = admitCall instancePlaces (sampleAt writer strength second) st
+
+-- the first sample, by writer 1 with a strength
+abbrev admittedFirst : ℕ → State
+admittedFirst strength = admits 1 strength 20 freshState .state
+
+abbrev ownerIn : State → MaybeOwner
+ownerIn st = only (st .instances) .owner
+
+abbrev firstOwnerLines : List Row
+firstOwnerLines =
+    row (num (ownerIn (admittedFirst 5) .guid)) 1
+    ∷ row (ownerIn (admittedFirst 5) .strength) 5
+    ∷ row (only (admittedFirst 5 .instances) .times .«owner_at» .sec) 30
+    ∷ row (admits 2 1 21 (admittedFirst 5) .answer .outcome) 4
+    ∷ row (admits 2 6 21 (admittedFirst 5) .answer .outcome) 0
+    ∷ row (admits 2 (minus 3) 21 (admittedFirst (minus 2)) .answer .outcome) 4
+    ∷ row (admits 2 (minus 1) 21 (admittedFirst (minus 2)) .answer .outcome) 0
+    ∷ []
+
+-- a call by itself on the fresh state, with the sheet of that first sample
+abbrev startedBy : InstanceCall → Turned
+startedBy c = instanceCall instancePlaces c (sampleAt 1 5 20) freshState
+
+-- code 16 answers yes and stores nothing; codes 1, 2, 8 and 9 start without an owner, so a weak writer's sample is taken
+abbrev unownedLines : List Row
+unownedLines =
+    test (startedBy acceptUnderExclusiveOwnership .answer .yes) true
+    ∷ row (length (startedBy acceptUnderExclusiveOwnership .state .instances)) 0
+    ∷ test (ownerIn (startedBy register .state) .present) false
+    ∷ test (ownerIn (startedBy ensureRegisteredLimited .state) .present) false
+    ∷ test (ownerIn (startedBy observeLifecycle .state) .present) false
+    ∷ test (ownerIn (startedBy observeAdmitted .state) .present) false
+    ∷ row (admits 2 1 21 (startedBy observeAdmitted .state) .answer .outcome) 0
+    ∷ []
+
+-- an instance owned by writer 1 with strength 9 is disposed of and purged: the key starts again, owned by its new first writer
+abbrev purgedState : State
+purgedState =
+    instanceCall instancePlaces autopurge (sheet 1 0 (time 0 15) 5 0 0 0 0)
+    (stateWith (instanceWith (withOwner record { present = true; guid = guid 1; strength = 9 } disposedState) ∷ [])) .state
+
+abbrev startsAgainLines : List Row
+startsAgainLines =
+    row (length (purgedState .instances)) 0
+    ∷ row (num (ownerIn (admits 2 1 20 purgedState .state) .guid)) 2
+    ∷ row (admits 3 0 21 (admits 2 1 20 purgedState .state) .answer .outcome) 4
+    ∷ []
+
 -- ---- the claim
 
 abbrev pub benchRows : List Row
 benchRows =
     filterLines
     ++ (orderLines ++ (deadlineLines ++ (limitLines ++ (leaseLines ++ (departedLines ++ (purgeLines
-    ++ (reviveTrap ++ (registerTrap ++ unregisterTrap))))))))
+    ++ (reviveTrap ++ (registerTrap ++ (unregisterTrap ++ (firstOwnerLines ++ (unownedLines ++ startsAgainLines)))))))))))
 
 pub bench-rows : T (agree benchRows)
-unfolding num allocated instanceCall instanceTurn instancesAfter begun nextAfter lateRefusal handleBytes startedState started registered unregistered ensured revived revivedNew ownershipTried takesOver outbids purged leftBy has setOf find pick any put sift nanosOf signedNanosOf filterAdmits orderAdmits deadlineMissed purgeDue trackerCall trackerTurn trackerState writersAfter movers lastAfter nextDue covers renews asserted expires expired
+unfolding num allocated instanceCall instanceTurn instancesAfter begun nextAfter lateRefusal handleBytes startedState started registered unregistered ensured revived revivedNew lifecycleObserved admittedObserved admittedNoted writerNoted ownershipTried takesOver outbids purged leftBy sampled firstOwned admitted admitWith has insert setOf find pick any put sift nanosOf signedNanosOf filterAdmits orderAdmits deadlineMissed purgeDue trackerCall trackerTurn trackerState writersAfter movers lastAfter nextDue covers renews asserted expires expired
 bench-rows = tt

@@ -1,4 +1,5 @@
--- Section 5: the joined calls 48 to 51, composed of the calls of sections 3 and 4.
+-- Section 5: the joined calls 48 to 51, composed of the calls of sections 3 and 4; and document 02, request 1: admit owns what
+-- it starts.
 use Prim.Native.Nat.{ℕ, _+_}
 use mathlib.Core.Bool.{Bool, false, not, _&&_, _||_, cond}
 use mathlib.Core.List.{List, [], _∷_}
@@ -14,7 +15,7 @@ use Rattle.model.specs.Answers.{stopping, both, withList}
 use Rattle.model.specs.Calls.{JoinedCall, admit, lapse, part, depart, TrackerCall, unmatched, lostWithParticipant, expire, acceptUnderExclusiveOwnership, observeAdmitted, noteAdmitted}
 use Rattle.model.specs.InstanceCalls.{Turned, refused, unchanged, withInstances, known, atLimit, full, spent, crowds, accepted, kept, handleBytes, instanceTurn}
 use Rattle.model.specs.InstanceRecord.{bit}
-use Rattle.model.specs.Instances.{hasKey, writerDropped, ownerCleared, leftBy, owns}
+use Rattle.model.specs.Instances.{hasKey, writerDropped, ownedFrom, ownerCleared, leftBy, owns}
 use Rattle.model.specs.State.{State}
 use Rattle.model.specs.Tables.{find, pick, sift}
 use Rattle.model.specs.Times.{noTime, ifPresent, filterAdmits, orderAdmits}
@@ -39,12 +40,28 @@ abbrev pub passesFilter : Sheet → Option Instance → Bool
 passesFilter s x = filterAdmits (lastFilter x) (s .«time_2») (s .a)
 
 -- code 16 with time 2 as now, then code 9, then code 10; outcome 0 carries the answers of 9 and 10
-unfoldable pub admitted : Sheet → State → Turned
-admitted s st =
+unfoldable pub sampled : Sheet → State → Turned
+sampled s st =
     record {
       answer = both (instanceTurn observeAdmitted s (instanceTurn acceptUnderExclusiveOwnership s st .state) .answer)
           (instanceTurn noteAdmitted s (instanceTurn observeAdmitted s (instanceTurn acceptUnderExclusiveOwnership s st .state) .state) .answer);
       state = instanceTurn noteAdmitted s (instanceTurn observeAdmitted s (instanceTurn acceptUnderExclusiveOwnership s st .state) .state) .state;
+      list = [];
+    }
+
+-- document 02, request 1: the instance of the key has writer and strength of the sheet as owner, and time 2 as owner_at
+abbrev pub owning : Sheet → Instance → Option Instance
+owning s x = cond (hasKey (s .key) x) (kept x (some (ownedFrom s (x .state)))) (some x)
+
+unfoldable pub firstOwned : Sheet → State → State
+firstOwned s st = withInstances (sift (owning s) (st .instances)) (st .nextHandle) st
+
+-- so has an instance that this call started
+unfoldable pub admitted : Sheet → State → Turned
+admitted s st =
+    record {
+      answer = sampled s st .answer;
+      state = cond (known s st) (sampled s st .state) (firstOwned s (sampled s st .state));
       list = [];
     }
 

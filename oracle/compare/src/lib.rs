@@ -1,5 +1,5 @@
-//! The static library beside the reading of 01 and the Rust: generated lists
-//! through all three, every answer and every byte compared.
+//! The static library beside the reading of 01 and 02 and the Rust: generated
+//! lists through all three, every answer and every byte compared.
 
 pub mod case;
 pub mod guarded;

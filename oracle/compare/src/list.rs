@@ -54,8 +54,9 @@ impl List {
             let fault = rng.one_in(FAULT_ONE_IN).then(|| Fault::any(&mut rng, &head));
             list.cases.push(Case { step, fault: fault.filter(|fault| fault.spoils(&head)) });
             let case = &list.cases[list.cases.len() - 1];
+            let next_handle = run.state.head.next_handle;
             let done = run.call(case).and_then(|answer| {
-                tally.call(case, &answer);
+                tally.call(case, &answer, next_handle);
                 match Sheet::of(&case.step.sheet) {
                     Some(sheet) if library.reads && rng.one_in(READS_ONE_IN) => {
                         reads::same_reads(run.image(), &run.state, sheet, &mut rng, tally)

@@ -2,6 +2,7 @@
 
 use std::fmt;
 
+use lists::FirstOwners;
 use lists::generate::CODES;
 use reading::{Answer, State, sheet};
 
@@ -25,6 +26,7 @@ pub struct Tally {
     /// Sheets too short to have a code.
     no_code: [u64; NUMBERS],
     outcomes: [u64; 5],
+    first_owners: FirstOwners,
 }
 
 impl Default for Tally {
@@ -41,6 +43,7 @@ impl Default for Tally {
             codes: vec![[0; NUMBERS]; 256],
             no_code: [0; NUMBERS],
             outcomes: [0; 5],
+            first_owners: FirstOwners::default(),
         }
     }
 }
@@ -49,9 +52,11 @@ impl Tally {
     pub fn list(&mut self, start: &State) {
         self.lists += 1;
         self.stored_starts += u64::from(*start != State::fresh());
+        self.first_owners.begin();
     }
 
-    pub fn call(&mut self, case: &Case, answer: &Answer) {
+    /// A call, with the next handle before it.
+    pub fn call(&mut self, case: &Case, answer: &Answer, next_handle: u64) {
         self.calls += 1;
         self.damaged += u64::from(case.step.damages());
         self.boundary_faults += u64::from(case.fault.is_some());
@@ -66,6 +71,7 @@ impl Tally {
         if case.step.code() == Some(48) && answer.number == 0 {
             self.outcomes[usize::from(answer.outcome)] += 1;
         }
+        self.first_owners.see(&case.step.sheet, answer, next_handle);
     }
 
     /// How often each number was answered.
@@ -109,7 +115,7 @@ impl fmt::Display for Tally {
         for (outcome, n) in self.outcomes.iter().enumerate() {
             write!(f, "  {outcome}: {n}")?;
         }
-        Ok(())
+        write!(f, "\n{}", self.first_owners)
     }
 }
 

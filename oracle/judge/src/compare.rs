@@ -3,7 +3,7 @@
 use lists::damage::Clause;
 use lists::record::Witness;
 use lists::rng::Rng;
-use lists::{Generator, Image, Step};
+use lists::{FirstOwners, Generator, Image, Step};
 use original::Original;
 use reading::accounts::{Accounts, Fed};
 use reading::layout::{LOST_BYTES, PENS_BYTES, WRITERS_BYTES};
@@ -15,7 +15,7 @@ use crate::reads::same_reads;
 const READS_ONE_IN: usize = 24;
 
 /// What was run.
-#[derive(Debug, Default, Clone, Copy)]
+#[derive(Debug, Default, Clone)]
 pub struct Tally {
     pub lists: u64,
     pub calls: u64,
@@ -27,6 +27,7 @@ pub struct Tally {
     pub read: u64,
     /// Lists from the fresh state, along which section 6's accounts were kept.
     pub from_fresh: u64,
+    pub first_owners: FirstOwners,
 }
 
 /// Where two readings part.
@@ -97,6 +98,7 @@ fn one_list(
     let mut run = Run::of(start, seed);
     tally.lists += 1;
     tally.from_fresh += u64::from(run.accounts.is_some());
+    tally.first_owners.begin();
     for call in 0..generator.length() {
         let step = generator.next(&run.state);
         run.call(&step, misreading, tally, scratch).map_err(|what| Disagreement {
@@ -141,6 +143,7 @@ impl Run {
             self.image.step(step, |head, sheet, lent| call_as(head, sheet, lent, misreading));
         tally.calls += 1;
         tally.accepted += u64::from(answer.number == 0);
+        tally.first_owners.see(&step.sheet, &answer, self.state.head.next_handle);
         if step.damages() && !matches!(answer.number, 1..=3) {
             return Err(format!("damage {:?} met {}", step.damage, answer.number));
         }

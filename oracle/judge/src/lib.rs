@@ -1,5 +1,5 @@
-//! The Rust as the judge: runs generated lists through the reading of 01 and
-//! through the Rust, and compares every answer and the whole state.
+//! The Rust as the judge: runs generated lists through the reading of 01 and 02
+//! and through the Rust, and compares every answer and the whole state.
 
 pub mod compare;
 pub mod reads;

@@ -112,6 +112,18 @@ fn joined_sheets() -> Vec<Filled> {
     }
     all.extend([
         f(48).key(KEYS[0]).guid(WRITERS[0]).limit(0),
+        f(48)
+            .key(KEYS[0])
+            .guid(WRITERS[1])
+            .limit(-1)
+            .strength(-1)
+            .time1(at(9))
+            .time2(at(9))
+            .b(7)
+            .bits(DEADLINE_PRESENT),
+        f(9).key(KEYS[0]).limit(-1),
+        f(20).key(KEYS[0]).guid(WRITERS[0]),
+        f(21).time2(at(9)),
         f(35).guid(WRITERS[0]).a(3),
         f(49).a(3),
         f(49).a(5).time1(at(8)).bits(TIME1_PRESENT),

@@ -1,5 +1,5 @@
-//! The lists of docs/DIFFERENCES.md: what 01 refuses and the Rust takes, and
-//! rules of the Rust that a reader might not expect.
+//! The lists of docs/DIFFERENCES.md: what 01 refuses and the Rust takes, what
+//! a request changes, and rules of the Rust that a reader might not expect.
 
 use judge::compare::{judged, same_state};
 use lists::fill::{Filled, LEASE_PRESENT, TIME1_PRESENT};
@@ -111,11 +111,15 @@ fn a_departed_writer_stays_counted_when_unmatched() {
     assert_eq!((status.alive, status.not_alive), (0, 1));
 }
 
+/// By request; the calls that an admit is made of leave no owner.
 #[test]
-fn the_first_sample_makes_no_owner() {
-    let strong = key(48).guid(guid(1)).strength(5);
-    let (answer, _) = run(State::fresh(), vec![strong, key(48).guid(guid(2)).strength(1)]);
-    assert_eq!((answer.number, answer.outcome), (0, 0));
+fn an_admit_owns_what_it_starts() {
+    let strong = |code| key(code).guid(guid(1)).strength(5);
+    let weak = |code| key(code).guid(guid(2)).strength(1);
+    let (answer, _) = run(State::fresh(), vec![strong(48), weak(48)]);
+    assert_eq!((answer.number, answer.outcome), (0, 4));
+    let (answer, _) = run(State::fresh(), vec![strong(16), strong(9), strong(10), weak(16)]);
+    assert!(answer.yes);
 }
 
 #[test]

@@ -5,6 +5,7 @@ use std::path::Path;
 use judge::RustBeside;
 use lists::format::{Record, records};
 use lists::{Coverage, replay, sample};
+use reading::{Misreading, call_as};
 
 const SEED: u64 = 1;
 
@@ -28,6 +29,16 @@ fn the_reading_agrees() {
     let (calls, differences) = replay::replay(&committed_records(), reading::call);
     assert!(calls > 3000);
     assert_eq!(differences, []);
+}
+
+#[test]
+fn no_misreading_agrees() {
+    for misreading in Misreading::ALL {
+        let (_, differences) = replay::replay(&committed_records(), |head, sheet, lent| {
+            call_as(head, sheet, lent, Some(misreading))
+        });
+        assert_ne!(differences, [], "{misreading:?}");
+    }
 }
 
 #[test]

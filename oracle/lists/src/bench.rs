@@ -1,26 +1,27 @@
-//! Section 10's lines and traps, each as a list of its own, and lists of what
-//! seldom comes about by chance.
+//! Section 10's lines and traps, each as a list of its own, the lists of 02's
+//! requests, and lists of what seldom comes about by chance.
 
 use reading::bytes::{Guid, Key};
 use reading::layout::{Instance, NANOSECONDS, Time};
 use reading::state::State;
 
 use crate::fill::{BY_SOURCE, DEADLINE_PRESENT, Filled, LEASE_PRESENT, TIME1_PRESENT};
+use crate::first_owner;
 
-const KEY: Key = [1; 16];
-const OTHER_KEY: Key = [2; 16];
-const WRITER: Guid = [3; 16];
-const RIVAL: Guid = [4; 16];
-const SECOND: u64 = NANOSECONDS as u64;
+pub(crate) const KEY: Key = [1; 16];
+pub(crate) const OTHER_KEY: Key = [2; 16];
+pub(crate) const WRITER: Guid = [3; 16];
+pub(crate) const RIVAL: Guid = [4; 16];
+pub(crate) const SECOND: u64 = NANOSECONDS as u64;
 const BY_TOPIC: u8 = 2;
 
-const fn at(seconds: i32, nanoseconds: u32) -> Time {
+pub(crate) const fn at(seconds: i32, nanoseconds: u32) -> Time {
     Time { seconds, nanoseconds }
 }
 
 /// The lists by name, each from the fresh state.
 pub fn lists() -> Vec<(&'static str, Vec<Filled>)> {
-    vec![
+    let mut lists = vec![
         (
             "bench a",
             vec![sample(), delivered(at(5, 0)), filter(at(5, 999_999_999)), filter(at(4, 0))],
@@ -41,7 +42,9 @@ pub fn lists() -> Vec<(&'static str, Vec<Filled>)> {
         ("lapses", lapses()),
         ("lapse order", lapse_order()),
         ("full set", full_set()),
-    ]
+    ];
+    lists.extend(first_owner::lists());
+    lists
 }
 
 fn key(code: u8) -> Filled {
@@ -158,8 +161,9 @@ fn trap_empties_set() -> Vec<Filled> {
     ]
 }
 
-/// Writers that match, take an instance over in two samples and lapse; one
-/// instance gets a second writer, which stays when the first lapses.
+/// Writers that match, own an instance by two samples and lapse; one instance
+/// gets a second writer, of equal strength and lower GUID, which stays when the
+/// first lapses.
 fn lapses() -> Vec<Filled> {
     let mut list = Vec::new();
     for round in 0..12u8 {
@@ -170,7 +174,8 @@ fn lapses() -> Vec<Filled> {
         list.push(of(35).a(clock + 1));
         list.push(sample(i32::from(round) * 10));
         if round % 3 == 2 {
-            list.push(sample(i32::from(round) * 10 + 1).guid(RIVAL).strength(-1));
+            let strength = if round == 2 { 0 } else { -1 };
+            list.push(sample(i32::from(round) * 10 + 1).guid(RIVAL).strength(strength));
         }
         list.push(sample(i32::from(round) * 10 + 2).strength(1));
         list.push(Filled::code(49).a(clock + 10));

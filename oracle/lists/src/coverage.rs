@@ -2,10 +2,11 @@
 
 use std::fmt;
 
-use reading::Answer;
+use reading::{Answer, Head};
 
 use crate::format::Record;
 use crate::generate::CODES;
+use crate::owners::FirstOwners;
 
 /// Each code is to be accepted so often,
 const ACCEPTED_LEAST: u32 = 50;
@@ -34,6 +35,7 @@ pub struct Coverage {
     codes: [Code; 256],
     refusals: [u32; 14],
     outcomes: [u32; 5],
+    first_owners: FirstOwners,
     pub lists: u32,
     pub calls: u32,
     /// Lists that do not start fresh.
@@ -47,6 +49,7 @@ impl Default for Coverage {
             codes: [Code::default(); 256],
             refusals: [0; 14],
             outcomes: [0; 5],
+            first_owners: FirstOwners::default(),
             lists: 0,
             calls: 0,
             stored_starts: 0,
@@ -59,19 +62,25 @@ impl Coverage {
     pub fn of(records: &[Record]) -> Self {
         let mut coverage = Self::default();
         let mut at_start = false;
+        let mut head = Head::fresh();
         for record in records {
             match record {
                 Record::List(_) => {
                     coverage.lists += 1;
+                    coverage.first_owners.begin();
                     at_start = true;
+                    head = Head::fresh();
                 }
-                Record::Head(_) if at_start => {
-                    coverage.stored_starts += 1;
+                Record::Head(given) => {
+                    coverage.stored_starts += u32::from(at_start);
                     at_start = false;
+                    head = *given;
                 }
                 Record::Call(call) => {
                     at_start = false;
                     coverage.call(call.sheet.get(81).copied(), &call.answer);
+                    coverage.first_owners.see(&call.sheet, &call.answer, head.next_handle);
+                    head = call.head;
                 }
                 Record::Expect(_) => coverage.full_records += 1,
                 _ => {}
@@ -153,6 +162,9 @@ impl Coverage {
         for (outcome, n) in self.outcomes.iter().enumerate() {
             least(format!("outcome {outcome}"), *n, MET_LEAST);
         }
+        for (what, n) in self.first_owners.counts() {
+            least(what.into(), n, MET_LEAST);
+        }
         missing
     }
 }
@@ -217,6 +229,6 @@ impl fmt::Display for Coverage {
         for (outcome, n) in self.outcomes.iter().enumerate() {
             write!(f, "  {outcome}: {n}")?;
         }
-        writeln!(f)
+        writeln!(f, "\n{}", self.first_owners)
     }
 }

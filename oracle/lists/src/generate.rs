@@ -36,8 +36,11 @@ const INSTANCE_CODES: [u8; 26] =
 const LIVELINESS_CODES: [u8; 18] =
     [32, 32, 32, 32, 33, 33, 34, 35, 35, 35, 36, 36, 37, 37, 38, 39, 40, 40];
 const JOINED_CODES: [u8; 6] = [48, 48, 49, 49, 50, 51];
-const AROUND_JOINED_CODES: [u8; 20] =
-    [48, 48, 48, 48, 48, 49, 49, 50, 51, 32, 32, 32, 32, 35, 35, 35, 36, 16, 38, 39];
+/// Owners set and cleared, and purges, stand between the admits.
+const AROUND_JOINED_CODES: [u8; 28] = [
+    48, 48, 48, 48, 48, 48, 48, 48, 49, 49, 50, 51, 32, 32, 32, 35, 35, 35, 36, 16, 17, 18, 19, 20,
+    21, 21, 38, 39,
+];
 /// The codes next to the known ones, and the ends.
 const UNKNOWN_CODES: [u8; 8] = [0, 22, 31, 41, 47, 52, 128, 255];
 
@@ -218,9 +221,15 @@ impl Generator {
     }
 
     /// A key that is there, or one of the pool; for ownership one with an
-    /// owner.
+    /// owner. An admit also starts instances, and meets the latest one.
     fn key(&mut self, state: &State, code: u8) -> [u8; 16] {
         let pressed = matches!(self.start, Start::FullInstances | Start::LastHandles);
+        if code == 48 && self.rng.one_in(2) {
+            let latest = state.instances.iter().max_by_key(|i| i.handle);
+            let met = latest.filter(|_| !self.rng.one_in(3)).map(|i| i.key);
+            let wide = self.rng.one_in(2);
+            return met.unwrap_or_else(|| self.pools.key(&mut self.rng, wide));
+        }
         if !self.rng.one_in(if pressed { 2 } else { 4 }) {
             let owned = matches!(code, 16 | 20 | 48) && self.rng.one_in(2);
             let fits = |i: &&Instance| !owned || i.owner.is_some();

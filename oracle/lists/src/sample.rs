@@ -1,5 +1,6 @@
-//! The sample that the repository keeps: section 10's lists, one list that
-//! breaks each clause of well-formedness, and generated lists of every sort.
+//! The sample that the repository keeps: section 10's lists and those of 02's
+//! requests, one list that breaks each clause of well-formedness, and generated
+//! lists of every sort.
 
 use reading::state::State;
 

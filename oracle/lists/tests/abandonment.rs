@@ -135,7 +135,7 @@ fn due_before(before: &State, clock: u64, expired: &[Id]) -> bool {
 fn made(step: Step, wrong: Wrong) -> Step {
     match Sheet::of(&step.sheet) {
         Some(sheet) if sheet.code() == 49 && wrong == Wrong::Eager => {
-            let clock = sheet.a() + 1;
+            let clock = sheet.a().saturating_add(1);
             Step { sheet: Filled(step.sheet.clone()).a(clock).0, ..step }
         }
         _ => step,
@@ -324,10 +324,10 @@ fn lapse(clock: u64) -> Filled {
 /// outcomes, and the writers of the instance, which is alive where there are.
 #[test]
 fn the_smallest_lists_end_as_stated() {
-    let strong = || vec![matched(1), admit(1, 2), admit(1, 2), admit(2, 1)];
+    let strong = || vec![matched(1), admit(1, 2), admit(2, 1)];
     let lists: [(Vec<Filled>, &[u8], &[u8]); 11] = [
-        ([strong(), vec![lapse(2)]].concat(), &[0, 0, 0, 4, 0], &[]),
-        ([strong(), vec![sheet(6, 2), lapse(2)]].concat(), &[0, 0, 0, 4, 0, 0], &[2]),
+        ([strong(), vec![lapse(2)]].concat(), &[0, 0, 4, 0], &[]),
+        ([strong(), vec![sheet(6, 2), lapse(2)]].concat(), &[0, 0, 4, 0, 0], &[2]),
         (vec![matched(1), admit(1, 2), admit(2, 1).a(1), lapse(2)], &[0, 0, 2, 0], &[]),
         (vec![admit(1, 2), lapse(9)], &[0, 0], &[1]),
         (vec![matched(1).bits(2), admit(1, 2), lapse(9)], &[0, 0, 0], &[1]),

@@ -1,16 +1,24 @@
-//! Section 10's lines and traps say what section 10 says.
+//! Section 10's lines and traps say what section 10 says, and the lists of
+//! request 1 what 02 says.
 
 use lists::bench;
 use lists::{Image, Step};
+use reading::layout::Time;
 use reading::{Answer, State};
 
 /// The answers of a list and the state after it.
 fn run(name: &str) -> (Vec<Answer>, State) {
+    run_to(name, usize::MAX)
+}
+
+/// The same of its first calls.
+fn run_to(name: &str, calls: usize) -> (Vec<Answer>, State) {
     let lists = bench::lists();
     let (_, sheets) = lists.into_iter().find(|(n, _)| *n == name).expect("a list of that name");
     let mut image = Image::fresh();
     let answers = sheets
         .into_iter()
+        .take(calls)
         .map(|sheet| image.step(&Step::of(sheet.0), reading::call).0)
         .inspect(|answer| assert_eq!(answer.number, 0))
         .collect();
@@ -85,4 +93,49 @@ fn lapses_and_their_order() {
     assert_eq!(answers.iter().filter(|a| a.next_due_present).count(), 12);
     assert!(state.lost.is_empty());
     assert_eq!(last("lapse order", |a| (a.yes, a.listed)), [(true, 2)]);
+}
+
+/// Of every call; 0 where it is no admit.
+fn outcomes(name: &str) -> Vec<u8> {
+    run(name).0.iter().map(|a| a.outcome).collect()
+}
+
+#[test]
+fn an_admit_owns_what_it_starts() {
+    assert_eq!(outcomes("first owner"), [0, 4, 4, 4, 0, 4, 0, 4, 0, 0, 4, 0]);
+    let (_, state) = run_to("first owner at", 1);
+    let first = &state.instances[0];
+    assert_eq!(first.owner, Some(([3; 16], 5)));
+    assert_eq!(first.owner_at, Some(Time { seconds: 100, nanoseconds: 0 }));
+}
+
+#[test]
+fn a_first_owner_counts_from_time_2() {
+    assert_eq!(outcomes("first owner at"), [0, 4, 4, 0, 0, 0, 0, 4, 0]);
+}
+
+#[test]
+fn a_known_instance_goes_by_code_16() {
+    let (revived, strengths) = ([0, 0, 4, 0, 0, 0], [0, 0, 4, 0, 0]);
+    let cleared = [[0, 4, 0, 0]; 5].concat();
+    assert_eq!(outcomes("first owner kept"), [&revived[..], &strengths, &cleared].concat());
+}
+
+#[test]
+fn a_purged_instance_starts_again() {
+    assert_eq!(outcomes("first owner anew"), [0, 0, 4, 0, 0, 4]);
+    let (answers, state) = run("first owner anew");
+    assert_eq!((answers[3].count, answers[4].handle), (1, 2));
+    assert_eq!(state.instances[0].owner, Some(([4; 16], 1)));
+}
+
+#[test]
+fn other_calls_start_without_an_owner() {
+    let (asked, state) = run_to("no first owner", 2);
+    assert_eq!((asked[0].yes, asked[1].present), (true, false));
+    assert_eq!(state, State::fresh());
+    let (singly, started) = ([0; 4], [[0, 0, 0, 4]; 4].concat());
+    assert_eq!(outcomes("no first owner"), [&[0, 0, 0, 4], &singly[..], &started].concat());
+    let released = run("no first owner").0.into_iter().skip(9).step_by(4).map(|a| a.yes);
+    assert_eq!(released.collect::<Vec<_>>(), [false; 4]);
 }

@@ -259,16 +259,21 @@ impl Original {
         }
     }
 
-    /// Code 48.
+    /// Code 48. The Rust's ownership stores nothing of a key that it does not
+    /// know, so it is asked again once the sample has started the instance.
     fn admit(&mut self, sheet: Sheet<'_>) -> Answer {
         if let Some(outcome) = self.turned_away(sheet) {
             return Answer::outcome(outcome);
         }
+        let unknown = self.instances.lookup(&sheet.key()).is_none();
         if !self.accept(sheet) {
             return Answer::outcome(4);
         }
         let observed = self.observe_admitted(sheet);
         let noted = self.note_admitted(sheet);
+        if unknown {
+            self.accept(sheet);
+        }
         Answer { handle: observed.handle, samples: observed.samples, ..noted }
     }
 

@@ -1,5 +1,6 @@
 //! Section 6: the account of one writer and of one instance, from a list's
-//! sheets and, of its answers, number, handle and outcome.
+//! sheets and, of its answers, number, handle and outcome; with the step that
+//! request 1 of 02 adds to an instance's.
 //!
 //! A reading apart from the calls: no account sees another but where section
 //! 6 says so, and what head and buffers hold is put together from them.
@@ -209,6 +210,15 @@ fn asserted(writer: Writer, sheet: Sheet<'_>, named: bool, manual: bool) -> Writ
     }
 }
 
+/// An absent instance as a call starts it; an admit's writer owns it.
+fn started(key: Key, sheet: Sheet<'_>, fed: Fed) -> Instance {
+    let mut i = Instance::fresh(key, fed.handle);
+    if sheet.code() == 48 {
+        effects::own(&mut i, sheet);
+    }
+    i
+}
+
 /// One instance's account after a call; none is absent.
 fn instance_step(
     key: Key,
@@ -225,7 +235,7 @@ fn instance_step(
             }
             i
         }
-        None if by_key && fed.handle != 0 => Instance::fresh(key, fed.handle),
+        None if by_key && fed.handle != 0 => started(key, sheet, fed),
         None => return None,
     };
     match sheet.code() {

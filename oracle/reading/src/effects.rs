@@ -153,10 +153,15 @@ pub fn drain_samples(i: &mut Instance, sheet: Sheet<'_>) {
 pub fn accept(i: &mut Instance, sheet: Sheet<'_>, tie_to_higher: bool) -> bool {
     let yes = takes_over(i, sheet, tie_to_higher);
     if yes {
-        i.owner = Some((sheet.guid(), sheet.strength()));
-        i.owner_at = Some(sheet.time2());
+        own(i, sheet);
     }
     yes
+}
+
+/// The writer owns the instance, from time 2 on.
+pub fn own(i: &mut Instance, sheet: Sheet<'_>) {
+    i.owner = Some((sheet.guid(), sheet.strength()));
+    i.owner_at = Some(sheet.time2());
 }
 
 fn takes_over(i: &Instance, sheet: Sheet<'_>, tie_to_higher: bool) -> bool {

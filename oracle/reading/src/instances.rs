@@ -163,8 +163,13 @@ pub fn observe_admitted(state: &mut State, sheet: Sheet<'_>) -> Result<Answer, u
     if at_limit(state, sheet) {
         return Ok(Answer::default());
     }
+    let unknown = state.place(&sheet.key()).is_err();
+    let wrongly_owned = unknown && state.misreads(Misreading::ObservedOwns);
     let instance = start(state, sheet.key())?;
     effects::observe_admitted(instance, sheet);
+    if wrongly_owned {
+        effects::own(instance, sheet);
+    }
     Ok(Answer { samples: instance.samples, ..Answer::handle(instance.handle) })
 }
 

@@ -1,13 +1,14 @@
-//! Codes 48 to 51: the joined calls of section 5.
+//! Codes 48 to 51: the joined calls of section 5, admit with request 1 of 02.
 
 use crate::Misreading;
 use crate::answer::Answer;
 use crate::bytes::Guid;
-use crate::effects::{filter_admits, order_admits, set_full};
+use crate::effects::{self, filter_admits, order_admits, set_full};
 use crate::instances::{
     Turn, accept, at_limit, clear_owner, drop_writer, listing, no_room, note_admitted,
     observe_admitted,
 };
+use crate::layout::Kind;
 use crate::liveliness::{expire, lost_with_participant, unmatched};
 use crate::sheet::Sheet;
 use crate::state::State;
@@ -50,16 +51,33 @@ fn admit(state: &mut State, sheet: Sheet<'_>) -> Turn {
     if let Some(number) = no_room(state, &sheet.key()) {
         return Err(number);
     }
-    if known.is_some_and(|i| set_full(&i, &sheet.guid())) {
+    if known.as_ref().is_some_and(|i| set_full(i, &sheet.guid())) {
         return Err(10);
     }
-    if !accept(state, sheet) {
+    let revives = known.as_ref().is_some_and(|i| i.kind != Kind::Alive);
+    let unasked = revives && state.misreads(Misreading::RevivedHandedOver);
+    if !unasked && !accept(state, sheet) {
         return outcome(4);
     }
     let observed = observe_admitted(state, sheet)?;
     let noted = note_admitted(state, sheet)?;
+    if known.is_none() || unasked {
+        own_started(state, sheet);
+    }
     let answer = Answer { handle: observed.handle, samples: observed.samples, ..noted };
     Ok((answer, Vec::new()))
+}
+
+/// The instance that an admit started gets its writer, strength and time 2 as
+/// owner and owner_at.
+fn own_started(state: &mut State, sheet: Sheet<'_>) {
+    let unowned = state.misreads(Misreading::FirstSampleUnowned);
+    let at_sample = state.misreads(Misreading::FirstOwnerAtSampleTime);
+    let Some(instance) = state.instance(&sheet.key()).filter(|_| !unowned) else { return };
+    effects::own(instance, sheet);
+    if at_sample {
+        instance.owner_at = Some(sheet.time1());
+    }
 }
 
 /// Codes 7 and 18 for each writer gone, with the writerless in key order.

@@ -1,4 +1,5 @@
-//! 01's calls over 01's byte layouts, as one reads them there.
+//! 01's calls over 01's byte layouts, as one reads them there, with what the
+//! requests of 02 change of them.
 //!
 //! The reading is plain on purpose: a call decodes head and buffers, acts on
 //! the decoded state and lays it out again. It derives its calls from
@@ -35,16 +36,28 @@ pub enum Misreading {
     TieToHigherGuid,
     PurgeOnlyAfterDelay,
     LapseDropsAllLost,
+    /// An admit leaves the instance that it starts without an owner.
+    FirstSampleUnowned,
+    /// The first owner's time is the sample's, time 1.
+    FirstOwnerAtSampleTime,
+    /// Code 9 by itself gives the instance that it starts an owner.
+    ObservedOwns,
+    /// An instance that a sample revives counts as started: nobody is asked.
+    RevivedHandedOver,
 }
 
 impl Misreading {
-    pub const ALL: [Self; 6] = [
+    pub const ALL: [Self; 10] = [
         Self::RevivesOnLastAssertion,
         Self::RegisterSetsViewNew,
         Self::UnregisterEmptiesWriters,
         Self::TieToHigherGuid,
         Self::PurgeOnlyAfterDelay,
         Self::LapseDropsAllLost,
+        Self::FirstSampleUnowned,
+        Self::FirstOwnerAtSampleTime,
+        Self::ObservedOwns,
+        Self::RevivedHandedOver,
     ];
 }
 

@@ -16,25 +16,25 @@ allocate-step-requires c κs = search needs
 started-requires : tie.Need-started-requires
 started-requires c κs = search needs
 
-noted-requires : tie.Need-noted-requires
-noted-requires c κs =
-    let a = c .before .before .before .before .before .before in
-    first-asked (a .args .s) (c .before .started .result) (c .before .before .before .allocate-step .result .handle .0) (c .before .started .ensures)
+sampled-requires : tie.Need-sampled-requires
+sampled-requires c κs =
+    let a = c .before .before .before .before .before in
+    first-asked (a .args .s) (c .started .result) (c .before .before .allocate-step .result .handle .0) (c .started .ensures)
 
 insert-requires : tie.Need-insert-requires
 insert-requires c κs =
-    let a = c .before .before .before .before .before .before .before .before in (
+    let a = c .before .before .before .before .before .before .before in (
       new-within (a .pre .0) (a .args .s) (a .args .i) (a .pre .1),
       ready-place (a .pre .0) (a .args .count) (a .pre .3),
-      c .before .noted .ensures .few,
+      c .before .sampled .ensures .few,
     )
 
 admitted-answer-requires : tie.Need-admitted-answer-requires
 admitted-answer-requires c κs = search needs
 
-add-t18 : tie.Need-add-t18
-add-t18 c =
-    let a = c .before .before .before .before .before .before .before .before .before .before .before .before in
+add-t17 : tie.Need-add-t17
+add-t17 c =
+    let a = c .before .before .before .before .before .before .before .before .before .before .before in
     omega (arith, a .pre .0 .few, a .pre .3)
 
 same-length : tie.Need-same-length
@@ -44,13 +44,13 @@ returns : tie.Need-returns
 returns c =
     let k = c .before .before .before in
     let l = k .before .before in
-    let m = l .before .before in
+    let m = l .before in
     let p = m .before .before in
     let q = p .before .before in
     let a = q .before in
     first-left (a .pre .0) (a .args .s) (λ n. omega (arith, q .slice-known .given n)) (a .args .i) (a .pre .1) (c .admitted-answer .result) _
-    (a .pre .2) (a .pre .3) (m .started .result) (l .noted .result) _ (k .insert .last .0) (a .pre .4)
-    (m .started .ensures ∙ ap (λ (z : Allocated). started (a .args .s .key) (z .handle .0)) (p .allocate-step .ensures)) (l .noted .ensures)
+    (a .pre .2) (a .pre .3) (m .started .result) (l .sampled .result) _ (k .insert .last .0) (a .pre .4)
+    (m .started .ensures ∙ ap (λ (z : Allocated). started (a .args .s .key) (z .handle .0)) (p .allocate-step .ensures)) (l .sampled .ensures)
     (c .admitted-answer .ensures) refl (ap (λ (z : Allocated). z .counter) (p .allocate-step .ensures)) (k .insert .ensures)
 
 pub admit-first-spec : {M : Type 1} → statement M
@@ -59,9 +59,9 @@ admit-first-spec =
     (tie.spec
     allocate-step-requires
     started-requires
-    noted-requires
+    sampled-requires
     insert-requires
     admitted-answer-requires
-    add-t18
+    add-t17
     same-length
     returns)

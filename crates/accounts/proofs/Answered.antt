@@ -1,6 +1,7 @@
 -- What a call of a list answers, in a state that is held.
 --     answered         an accepted call's answer is that of its turn
 --     Real, real       so a handle is answered only by a call that starts or admits, and then it is the instance's
+--     real-next        the same of the next call of a list
 -- Assumes nothing.
 use mathlib.Core.Bool.{Bool, true, false, not, _&&_, cond}
 use mathlib.Core.List.{List, [], _∷_}
@@ -8,7 +9,7 @@ use mathlib.Core.Option.{Option, none, some}
 use mathlib.Core.Path.{_≡_, refl, sym, ap, _∙_, subst}
 use Prim.Native.Nat.{ℕ, _+_, _^_, _<_}
 use native.Mathlib.Omega.{arith}
-use borrow.Author.Tests.{eqb-true, leb-false}
+use borrow.Author.Tests.{eqb-true, not-false}
 use lib.Dec.{eqb}
 use lib.ListN.{length, length-append}
 use Rattle.octets.specs.Bounds.{Bytes}
@@ -24,9 +25,9 @@ use Rattle.model.specs.declared.TrackerCall.the-variants.{Matched as matched, U
 use Rattle.model.specs.declared.JoinedCall.the-variants.{Admit as admit, Lapse as lapse, Part as part, Depart as depart}
 use Rattle.model.specs.Calls.{Call, instances, tracker, joined, callOfCode}
 use Rattle.model.specs.Guids.{num}
-use Rattle.model.specs.InstanceCalls.{Turned, known, begins, spent, atLimit, infoAnswer, samplesAnswer, reached, told, lateRefusal, instanceTurn, instanceCall, instancesAfter}
+use Rattle.model.specs.InstanceCalls.{Turned, accepted as accepts, known, begins, spent, atLimit, infoAnswer, reached, told, lateRefusal, instanceTurn, instanceCall, instancesAfter}
 use Rattle.model.specs.Instances.{rule, startsBy, limitedBy, hasKey}
-use Rattle.model.specs.Joined.{admitted, afterLoss, lossCall}
+use Rattle.model.specs.Joined.{sampled, admitted, afterLoss, lossCall}
 use Rattle.model.specs.Refusals.{lengthsOk, sheetRefusal}
 use Rattle.model.specs.Sheets.{sheetOf}
 use Rattle.model.specs.State.{Lent, State, layOut, instanceKey}
@@ -37,14 +38,15 @@ use Rattle.model.specs.InstanceRecord.{bit}
 use Rattle.model.proofs.Fits.{FitsGuid}
 use Rattle.model.proofs.Tests.{both, split}
 use Rattle.model.proofs.StateLaws.{read-back}
-use Rattle.accounts.specs.Accounts.{Accounts, accepted, eventOf}
+use Rattle.accounts.specs.Accounts.{Accounts, accepted, Lending, withOut, eventOf, next, SheetBytes}
 use Rattle.accounts.specs.InstanceAccounts.{Event, InstanceAccounts, onInstance, startsAt, reach}
 use Rattle.accounts.proofs.Basics.{either, never, missing}
+use Rattle.accounts.proofs.Demand3.{out-replaced, After}
 use Rattle.accounts.proofs.InStep.{InStep, held-fits}
-use Rattle.accounts.proofs.InstanceTurns.{InstanceSim, eventBy, tried, observed, tried-next, tried-silent, instance-heard, known-is, next-is, begins-absent, tried-none}
+use Rattle.accounts.proofs.InstanceTurns.{InstanceSim, handleIn, samples-answer, eventBy, tried, observed, tried-next, tried-silent, instance-heard, known-is, next-is, begins-absent, tried-none}
 use Rattle.accounts.proofs.SheetLaws.{SheetFits, sheet-fits}
-use Rattle.accounts.proofs.Steps.{admit-cases}
+use Rattle.accounts.proofs.Steps.{admit-cases, handle-free}
 use Rattle.accounts.proofs.TurnLaws.{lookup}
 
 -- ---- an accepted call's answer is that of its turn
 
@@ -182,19 +184,12 @@ turn-silent places (joined depart) s st e = loss-silent lostWithParticipant (s .
 
 -- ---- admit
 
--- with outcome 0 it answers the handle of the instance of its key, which it starts where there is none
-pub record Admits (a : Answer) (key : ℕ) (acc : Accounts) : Type 0 where
+-- with outcome 0 it answers the handle of the instance of its key, which it starts where there is none, and code 16 let it through
+pub record Admits (a : Answer) (s : Sheet) (acc : Accounts) : Type 0 where
   pub stopped : eqb (a .outcome) 0 ≡ false → a .handle .0 ≡ 0
-  pub present : eqb (a .outcome) 0 ≡ true → (x : Instance) → acc .instances .at key ≡ some x → x .handle .0 ≡ a .handle .0
-  pub absent : eqb (a .outcome) 0 ≡ true → acc .instances .at key ≡ none → eqb (a .handle .0) 0 ≡ false
-
-abbrev handleIn : Option Instance → ℕ
-handleIn none = 0
-handleIn (some x) = x .handle .0
-
-samples-handle : (o : Option Instance) → samplesAnswer o .handle .0 ≡ handleIn o
-samples-handle none = refl
-samples-handle (some x) = refl
+  pub present : eqb (a .outcome) 0 ≡ true → (x : Instance) → acc .instances .at (num (s .key)) ≡ some x → x .handle .0 ≡ a .handle .0
+  pub absent : eqb (a .outcome) 0 ≡ true → acc .instances .at (num (s .key)) ≡ none → eqb (a .handle .0) 0 ≡ false
+  pub takes : eqb (a .outcome) 0 ≡ true → accepts s (acc .instances .at (num (s .key))) ≡ true
 
 module _ (s : Sheet) (st : State) (acc : InstanceAccounts) (fits : FitsGuid (s .key)) (m : InstanceSim st acc)
     (room : lookup instanceKey (num (s .key)) (st .instances) ≡ none → st .nextHandle < 2 ^ 63) where
@@ -230,7 +225,7 @@ module _ (s : Sheet) (st : State) (acc : InstanceAccounts) (fits : FitsGuid (s .
   answered-found = found ∙ ap handleIn (m2 .agree k)
     where
       found : h2 ≡ handleIn (lookup instanceKey k (observed s st .instances))
-      found = unfold instanceTurn in samples-handle (lookup instanceKey k (instancesAfter observeAdmitted s (tried s st)))
+      found = unfold instanceTurn in samples-answer (lookup instanceKey k (instancesAfter observeAdmitted s (tried s st)))
 
   tried-there : (x : Instance) → acc .at k ≡ some x →
       handleIn (onInstance (instances observeAdmitted) (eventBy s h2 0) [] k
@@ -270,27 +265,28 @@ module _ (s : Sheet) (st : State) (acc : InstanceAccounts) (fits : FitsGuid (s .
 admit-real : (places : ℕ) (s : Sheet) (st : State) (acc : Accounts) → FitsGuid (s .key) →
     InstanceSim st (acc .instances) →
     eqb (turn places (joined admit) s st .answer .number) 0 ≡ true →
-    Admits (turn places (joined admit) s st .answer) (num (s .key)) acc
+    Admits (turn places (joined admit) s st .answer) s acc
 admit-real places s st acc fits m =
-    admit-cases (λ (t : Turned). eqb (t .answer .number) 0 ≡ true → Admits (t .answer) (num (s .key)) acc) places s st
+    admit-cases (λ (t : Turned). eqb (t .answer .number) 0 ≡ true → Admits (t .answer) s acc) places s st
     (find (hasKey (s .key)) (st .instances))
-    (λ n e ok. record { stopped = λ d. refl; present = λ d. never (sym d ∙ e); absent = λ d. never (sym d ∙ e) })
+    (λ n e ok. record {
+      stopped = λ d. refl;
+      present = λ d. never (sym d ∙ e);
+      absent = λ d. never (sym d ∙ e);
+      takes = λ d. never (sym d ∙ e);
+    })
     (λ n e ok. never (sym ok ∙ e))
-    (λ e4 e5 e6 ok. taken e5)
+    (λ e4 e5 e6 e7 ok. taken e5 e7)
   where
-    room : (not (known s st) && spent st) ≡ false → lookup instanceKey (num (s .key)) (st .instances) ≡ none →
-        st .nextHandle < 2 ^ 63
-    room e n =
-        let k : known s st ≡ false = known-is s st ∙ ap isSome n in
-        leb-false (2 ^ 63) (st .nextHandle) (rw k at e)
-
-    taken : (not (known s st) && spent st) ≡ false → Admits (admitted s st .answer) (num (s .key)) acc
-    taken e =
-        unfold admitted in
+    taken : (not (known s st) && spent st) ≡ false → not (accepts s (find (hasKey (s .key)) (st .instances))) ≡ false →
+        Admits (admitted s st .answer) s acc
+    taken e f =
+        unfold admitted sampled in
         record {
           stopped = λ d. never d;
-          present = λ d x q. sym (handle-there s st (acc .instances) fits m (room e) x q);
-          absent = λ d q. handle-new s st (acc .instances) fits m (room e) q;
+          present = λ d x q. sym (handle-there s st (acc .instances) fits m (handle-free s st e) x q);
+          absent = λ d q. handle-new s st (acc .instances) fits m (handle-free s st e) q;
+          takes = λ d. sym (ap (accepts s) (m .agree (num (s .key)))) ∙ not-false _ f;
         }
 
 -- ---- what an accepted call's event tells
@@ -302,6 +298,7 @@ Admitting (joined admit) e acc =
     (eqb (e .outcome) 0 ≡ false → e .handle ≡ 0)
     × (eqb (e .outcome) 0 ≡ true → (x : Instance) → acc .instances .at (num (e .sheet .key)) ≡ some x → x .handle .0 ≡ e .handle)
     × (eqb (e .outcome) 0 ≡ true → acc .instances .at (num (e .sheet .key)) ≡ none → eqb (e .handle) 0 ≡ false)
+    × (eqb (e .outcome) 0 ≡ true → accepts (e .sheet) (acc .instances .at (num (e .sheet .key))) ≡ true)
 Admitting (joined lapse) e acc = Unit {0}
 Admitting (joined part) e acc = Unit {0}
 Admitting (joined depart) e acc = Unit {0}
@@ -317,10 +314,10 @@ admitting-real : (places : ℕ) (sheet : List ℕ) (st : State) (acc : Accounts)
 admitting-real places sheet st acc (instances c) a m r = tt
 admitting-real places sheet st acc (tracker c) a m r = tt
 admitting-real places sheet st acc (joined admit) a m r =
-    let t : Admits a (num (sheetOf sheet .key)) acc = subst
-    (λ (b : Answer). Admits b (num (sheetOf sheet .key)) acc) (sym (r .is))
+    let t : Admits a (sheetOf sheet) acc = subst
+    (λ (b : Answer). Admits b (sheetOf sheet) acc) (sym (r .is))
     (admit-real places (sheetOf sheet) st acc (r .fits .key) m (sym (ap (λ (b : Answer). eqb (b .number) 0) (r .is)) ∙ r .number)) in
-    (t .stopped, t .present, t .absent)
+    (t .stopped, t .present, t .absent, t .takes)
 admitting-real places sheet st acc (joined lapse) a m r = tt
 admitting-real places sheet st acc (joined part) a m r = tt
 admitting-real places sheet st acc (joined depart) a m r = tt
@@ -335,3 +332,18 @@ real places sheet st out acc c b m e =
       silent = λ d. ap (λ (a : Answer). a .handle .0) (r .is) ∙ turn-silent places c (sheetOf sheet) st d;
       admitted = admitting-real places sheet st acc c _ (m .sim .instances) r;
     }
+
+-- ---- the next call of a list
+
+module _ (places : ℕ) (i : Lending) (before : Lent) (acc : Accounts) (bytes : SheetBytes i) (at : After places before acc) where
+  abbrev e : Event
+  e = eventOf (i .sheet) (next (callIn places) i before .answer)
+
+  pub real-next : (c : Call) → accepted e ≡ some c → Real c e acc
+  real-next c is =
+      subst (λ (m : Lent). accepted (eventOf (i .sheet) (callIn places (i .sheet) m .answer)) ≡ some c →
+      Real c (eventOf (i .sheet) (callIn places (i .sheet) m .answer)) acc) (sym lent)
+      (real places (i .sheet) (at .state) (i .out) acc c bytes (at .held)) is
+    where
+      lent : withOut (i .out) before ≡ layOut places (at .state) (i .out)
+      lent = ap (withOut (i .out)) (at .laid) ∙ out-replaced places (at .state) (before .out) (i .out)

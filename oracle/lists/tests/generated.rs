@@ -1,0 +1,53 @@
+//! Generated lists reach what seldom comes about by chance.
+
+use lists::{FirstOwners, Generator, Image, Step, first_owner};
+use reading::State;
+
+const LISTS: u64 = 1_000;
+/// Each is met so often.
+const LEAST: u32 = 50;
+
+fn follow(owners: &mut FirstOwners, start: State, mut next: impl FnMut(&State) -> Option<Step>) {
+    let mut state = start;
+    let mut image = Image::of_state(&state);
+    owners.begin();
+    while let Some(step) = next(&state) {
+        let (answer, _) = image.step(&step, reading::call);
+        owners.see(&step.sheet, &answer, state.head.next_handle);
+        state = image.state().expect("well formed");
+    }
+}
+
+#[test]
+fn admits_start_instances_and_meet_their_first_owners() {
+    let mut owners = FirstOwners::default();
+    for seed in 1..=LISTS {
+        let (mut generator, start) = Generator::new(seed);
+        let mut left = generator.length();
+        follow(&mut owners, start, |state| {
+            left = left.checked_sub(1)?;
+            Some(generator.next(state))
+        });
+    }
+    assert!(owners.counts().iter().all(|(_, n)| *n >= LEAST), "{owners}");
+}
+
+/// The lists of request 1, list by list: admits that start an instance, and
+/// outcomes 4 before another call has set its owner.
+#[test]
+fn first_owners_are_counted() {
+    let counted = first_owner::lists().into_iter().map(|(name, sheets)| {
+        let mut owners = FirstOwners::default();
+        let mut steps = sheets.into_iter().map(|sheet| Step::of(sheet.0));
+        follow(&mut owners, State::fresh(), |_| steps.next());
+        (name, owners.counts().map(|(_, n)| n))
+    });
+    let expected = [
+        ("first owner", [3, 5]),
+        ("first owner at", [3, 3]),
+        ("first owner kept", [7, 7]),
+        ("first owner anew", [2, 2]),
+        ("no first owner", [1, 1]),
+    ];
+    assert_eq!(counted.collect::<Vec<_>>(), expected);
+}
