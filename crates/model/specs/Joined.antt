@@ -56,7 +56,7 @@ owning s x = cond (hasKey (s .key) x) (kept x (some (ownedFrom s (x .state)))) (
 unfoldable pub firstOwned : Sheet → State → State
 firstOwned s st = withInstances (sift (owning s) (st .instances)) (st .nextHandle) st
 
--- so has an instance that this call started
+-- an instance that this call started is so owned; one that was known has what code 16 left it
 unfoldable pub admitted : Sheet → State → Turned
 admitted s st =
     record {
