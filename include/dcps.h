@@ -12,13 +12,15 @@
  *     The state of one reader is a head and three buffers (pens, writers, lost). The caller keeps it and lends it to each
  *     call. A sheet of 256 bytes says which call to make and with what. The call changes the state in place, writes its
  *     list, where it has one, to the front of out (the rest of out keeps its bytes) and its answer to answer. An instance
- *     ("pen") is one keyed object of a topic, named by a key of 16 bytes; the library gives it a handle, 1, 2, 3 and on,
- *     and no handle is given twice. A writer is named by its GUID of 16 bytes, whose first 12 are its participant's prefix.
+ *     ("pen") is one keyed object of a topic, named by a key of 16 bytes, which dcps_key_hash makes from a serialized key
+ *     of up to 4,096 bytes; the library gives it a handle, 1, 2, 3 and on, and no handle is given twice. A writer is named
+ *     by its GUID of 16 bytes, whose first 12 are its participant's prefix.
  *
  * A reader's calls
  *     a writer is discovered         matched
  *     it is deleted                  part; lost with its participant: depart
- *     a sample of it comes           writer_asserted, as a sample asserts its writer and admit does not; then admit
+ *     a sample of it comes           writer_asserted, as a sample asserts its writer and admit does not; then admit, by the
+ *                                    key that came with it, or else by that of dcps_key_hash
  *     its participant is heard       participant_asserted
  *     it disposes an instance        observe_lifecycle, which answers the handle and counts the marker as a sample; dispose
  *     it unregisters one             where the key is known: unregister_writer, release_owner_of
@@ -33,8 +35,9 @@
  *     Every function answers any bytes of any length: with 0, or refused with a number of enum dcps_refusal. It returns
  *     that number, which is also byte 0 of the answer. On a refusal the answer gets the number and zeros, and nothing else
  *     is written; where the answer's own length is wrong nothing at all is written. A length of any size other than the
- *     stated one is refused as 1. It writes within the lengths that it is given, it ends, and what it writes is what the
- *     definitions (crates/model/specs of the source) say: that is proved of its source, not of the compiler that made the
+ *     stated one is refused as 1, but for that of a serialized key, which 15 and 14 judge. It writes within the lengths
+ *     that it is given, it ends, and what it writes is what the definitions (crates/model/specs of the source; of keys
+ *     crates/key_hash/specs and crates/md5/specs) say: that is proved of its source, not of the compiler that made the
  *     archive. dcps_fresh has no answer, only its number; dcps_version takes nothing and returns no number of these.
  *
  * Outside the promise
@@ -59,7 +62,7 @@
  *     byte is the first); one with a sign in two's complement. A state may move between machines as it is.
  * Stack: dcps_call needs less than 16 KiB below its caller's frame, every other function less than 4 KiB
  *     (DCPS_STACK_BYTES). Measured, not proved: examples/c/stack.c of the source paints a thread's stack, makes every call on
- *     empty and on full states and looks how far the paint is gone.
+ *     empty and on full states, hashes keys of many lengths and looks how far the paint is gone.
  * Platform: Linux on x86-64, System V ABI, ELF, position-independent; no symbol but memcpy, memmove and memset is
  *     taken from elsewhere. The archive links into executables and shared objects, C, C++ and Rust.
  * Times: a time is i32 seconds and u32 nanoseconds (below 10^9) of any epoch. Clocks and leases are u64 nanoseconds
@@ -92,7 +95,7 @@ extern "C" {
 #define DCPS_LOST_BYTES 4096    /* 256 GUIDs */
 #define DCPS_OUT_BYTES 4096
 #define DCPS_ANSWER_BYTES 72 /* of dcps_call and dcps_status */
-#define DCPS_READ_BYTES 24   /* of the other reads */
+#define DCPS_READ_BYTES 24   /* of the other reads and of dcps_key_hash */
 
 #define DCPS_INSTANCE_BYTES 512
 #define DCPS_WRITER_BYTES 40
@@ -101,6 +104,7 @@ extern "C" {
 #define DCPS_PREFIX_BYTES 12
 #define DCPS_HANDLE_BYTES 8
 #define DCPS_GONE_BYTES 4096 /* at most, of a list of GUIDs that is lent to a read */
+#define DCPS_KEY_LARGEST_BYTES 4096 /* at most, stated to dcps_key_hash as the largest size of a serialized key */
 
 #define DCPS_INSTANCE_PLACES 128
 #define DCPS_WRITER_PLACES 128
@@ -110,7 +114,7 @@ extern "C" {
 
 #define DCPS_STACK_BYTES 16384
 
-/* ---- numbers: 0 accepted, else why it is refused; the lowest where several would do */
+/* ---- numbers: 0 accepted, else why it is refused; the lowest where several would do, but 15 before 14 */
 
 enum dcps_refusal {
     DCPS_ACCEPTED = 0,
@@ -126,7 +130,9 @@ enum dcps_refusal {
     DCPS_REFUSED_SET = 10,        /* a new writer, and 16 are in that instance's set */
     DCPS_REFUSED_WRITERS = 11,    /* a new GUID, and 128 writer records are there; departed ones count: see code 34 */
     DCPS_REFUSED_LOST = 12,       /* expiries beyond 256 in lost: take_lost first */
-    DCPS_REFUSED_HANDLES = 13     /* a new instance, and the next handle is 2^63 */
+    DCPS_REFUSED_HANDLES = 13,    /* a new instance, and the next handle is 2^63 */
+    DCPS_REFUSED_KEY_LENGTH = 14, /* a serialized key longer than the stated largest size */
+    DCPS_REFUSED_LARGEST_SIZE = 15 /* a stated largest size above 4096; tested before 14 */
 };
 
 /* ---- what an instance, a writer and an admitted sample can be */
@@ -383,7 +389,7 @@ enum dcps_code {
 #define DCPS_ANSWER_LAST_PUBLICATION 64 /* u64: 64-bit FNV-1a of the GUID of the head's last writer, 1 where that is 0; or 0
                                          * for none */
 
-/* ---- the answer of the other reads, 24 bytes; what a read does not answer is 0 */
+/* ---- the answer of the other reads and of dcps_key_hash, 24 bytes; what is not answered is 0 */
 
 #define DCPS_READ_NUMBER 0      /* u8: enum dcps_refusal */
 #define DCPS_READ_YES 1         /* u8: 0 or 1 */
@@ -394,6 +400,7 @@ enum dcps_code {
 #define DCPS_READ_HANDLE 8      /* u64 */
 #define DCPS_READ_CHANGES 8     /* u64 */
 #define DCPS_READ_OFFSET 8      /* u64: of a stored holder, in pens */
+#define DCPS_READ_KEY_HASH 8    /* 16: the key of an instance */
 #define DCPS_READ_SECONDS 16    /* i32 */
 #define DCPS_READ_NANOSECONDS 20 /* u32 */
 
@@ -541,6 +548,16 @@ uint32_t dcps_would_leave_writerless(const uint8_t *pens, size_t pens_len, const
 /* The handles of those instances, u64 each in the order of the keys, to the front of out; listed is how many. */
 uint32_t dcps_left_writerless(const uint8_t *pens, size_t pens_len, const uint8_t *gone, size_t gone_len,
                               uint32_t view_states, uint8_t *out, size_t out_len, uint8_t *answer, size_t answer_len);
+
+/* The KeyHash of a serialized key (DDSI-RTPS 2.5, 9.6.4.8): the key by which the calls name an instance. No state is lent.
+ * The caller serializes the key members, big-endian (PLAIN_CDR2, in the order of their member ids, no header), and states the
+ * largest size that a serialized key of this type can have; a string<n> takes 4 + n + 1 bytes: its length, its characters,
+ * the NUL. That size decides, not the length of this key, so that every participant has the same KeyHash: up to 16 it is the
+ * bytes, zeros behind them; from 17 on it is their MD5 (RFC 1321), also of a short key. A type without a bound, or with one
+ * above 4096, is always hashed: state DCPS_KEY_LARGEST_BYTES; a key of more bytes is refused as 14. Refused: 1, for the
+ * answer's length alone; 15; then 14. */
+uint32_t dcps_key_hash(const uint8_t *serialized, size_t serialized_len, uint64_t largest, uint8_t *answer,
+                       size_t answer_len);
 
 #ifdef __cplusplus
 }

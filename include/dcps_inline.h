@@ -528,6 +528,12 @@ DCPS_ACCESSOR(dcps_read_handle, u64, uint64_t, DCPS_READ_HANDLE)
 DCPS_ACCESSOR(dcps_read_changes, u64, uint64_t, DCPS_READ_CHANGES)
 DCPS_ACCESSOR(dcps_read_offset, u64, uint64_t, DCPS_READ_OFFSET)
 
+/* The key that dcps_key_hash made, 16 bytes. */
+static inline const uint8_t *dcps_read_key_hash(const uint8_t *read)
+{
+    return read + DCPS_READ_KEY_HASH;
+}
+
 static inline struct dcps_time dcps_read_time(const uint8_t *read)
 {
     return dcps_get_time(read + DCPS_READ_SECONDS);
@@ -758,7 +764,17 @@ static inline const uint8_t *dcps_out_guid(const uint8_t *out, size_t place)
 #define DCPS_EACH_GUID(g, out, listed)                                                                \
     for (const uint8_t *g = (out), *g##_end = dcps_out_guid((out), (listed)); g != g##_end; g += DCPS_GUID_BYTES)
 
-/* ---- keys and GUIDs as the reads take them, and the handle by which a status names a writer */
+/* ---- keys from serialized ones; keys and GUIDs as the reads take them; the handle by which a status names a writer */
+
+/* The key of an instance from its serialized key, by dcps_key_hash. Returns the number. Where it is not 0, key is 16 zeros,
+ * which is a key too: look at the number. */
+static inline uint32_t dcps_key_of(uint8_t *key, const uint8_t *serialized, size_t length, uint64_t largest)
+{
+    uint8_t read[DCPS_READ_BYTES];
+    uint32_t number = dcps_key_hash(serialized, length, largest, read, sizeof read);
+    memcpy(key, dcps_read_key_hash(read), DCPS_KEY_BYTES);
+    return number;
+}
 
 static inline uint64_t dcps_high(const uint8_t *guid)
 {
@@ -799,6 +815,8 @@ static inline const char *dcps_refusal_text(uint32_t number)
     case DCPS_REFUSED_WRITERS: return "new GUID, 128 writer records";
     case DCPS_REFUSED_LOST: return "expiries beyond 256 in Lost";
     case DCPS_REFUSED_HANDLES: return "new instance, next handle 2^63";
+    case DCPS_REFUSED_KEY_LENGTH: return "serialized key longer than its stated largest size";
+    case DCPS_REFUSED_LARGEST_SIZE: return "stated largest size above 4,096";
     default: return "a number unknown here";
     }
 }

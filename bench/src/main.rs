@@ -1,7 +1,10 @@
 //! Times the same lists through the original Rust trackers and through the
-//! static library, and one pass over the lent bytes as the floor.
+//! static library, and one pass over the lent bytes as the floor; then keys
+//! through the library and through a plain MD5 in Rust.
 
 mod calls;
+mod keys;
+mod md5;
 mod mixes;
 mod reads;
 mod state;
@@ -42,6 +45,7 @@ fn main() {
         row("reads", size, timed_reads(&state(size, size.records)), floor);
     }
     each_call(floor);
+    keys::each_key();
 }
 
 /// The library's time for each call by itself, on the last of the sizes.

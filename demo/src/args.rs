@@ -24,6 +24,13 @@ comment. demo/README.md has all the calls. For instance:
   assert plotter-1/c1 at 08:05
   lapse at 08:20
 
+A key is a name without blanks. A line of its own above the first key, as
+
+  keys largest 64
+
+states the largest size of all keys of the file, in bytes: up to 16 a name is padded to the KeyHash, up to 4096 it is
+hashed. Without it the size is 16, or 4096 where a name is longer than 16 bytes.
+
 Exit status: 0; 1 for a file or a key that cannot be shown; 2 for wrong arguments.
 ";
 

@@ -1,4 +1,5 @@
-//! A day's list: one call a line, `VERB [SUBJECT] [WORD VALUE]..`, comments from `#` on.
+//! A day's list: one call a line, `VERB [SUBJECT] [WORD VALUE]..`, comments from `#` on. A line `keys largest SIZE` is
+//! no call.
 
 use crate::dates;
 use crate::forms::{Subject, Verb, Word, FORMS};
@@ -9,8 +10,11 @@ use dcps::{KeyHash, LivelinessKind, Time};
 use std::io::{self, BufRead};
 use std::time::Duration;
 
-/// A longer line is a fault, and is not kept.
-const LONGEST_LINE: usize = 4_096;
+/// A longer line is a fault, and is not kept. The longest key leaves as much to the rest of its line.
+const LONGEST_LINE: usize = 8_192;
+
+/// What the line that states the largest size of the day's keys starts with.
+pub const KEYS: &str = "keys";
 
 /// The words of a line, as the calls take them.
 #[derive(Debug, Clone, PartialEq, Eq)]
@@ -134,8 +138,8 @@ pub fn each_line(
     Ok(())
 }
 
-/// The call of a line, if it has one, or what is wrong with it.
-pub fn read_line(line: usize, bytes: &[u8], names: &mut Names) -> Result<Option<Call>, String> {
+/// The words of a line, without its comment.
+pub fn parts(line: usize, bytes: &[u8]) -> Result<Vec<&str>, String> {
     if bytes.len() > LONGEST_LINE {
         return Err(format!("longer than {LONGEST_LINE} bytes: write one call a line"));
     }
@@ -143,11 +147,19 @@ pub fn read_line(line: usize, bytes: &[u8], names: &mut Names) -> Result<Option<
     let bytes = bytes.strip_prefix(mark).unwrap_or(bytes);
     let text = std::str::from_utf8(bytes)
         .map_err(|_| "not UTF-8 text: save the file as UTF-8".to_owned())?;
-    let parts: Vec<&str> =
-        text.split_whitespace().take_while(|part| !part.starts_with('#')).collect();
+    Ok(text.split_whitespace().take_while(|part| !part.starts_with('#')).collect())
+}
+
+/// The call of a line, if it has one, or what is wrong with it.
+pub fn read_line(line: usize, bytes: &[u8], names: &mut Names) -> Result<Option<Call>, String> {
+    let parts = parts(line, bytes)?;
     let Some((name, rest)) = parts.split_first() else {
         return Ok(None);
     };
+    if *name == KEYS {
+        names.state(stated_size(rest)?)?;
+        return Ok(None);
+    }
     let (_, verb, subject, takes) =
         FORMS.iter().find(|(form, ..)| form == name).ok_or_else(|| unknown_verb(name))?;
     let mut words = Words::default();
@@ -156,9 +168,17 @@ pub fn read_line(line: usize, bytes: &[u8], names: &mut Names) -> Result<Option<
     Ok(Some(Call { line, text: parts.join(" "), verb: *verb, words }))
 }
 
+/// What a line states behind `keys`.
+pub fn stated_size(rest: &[&str]) -> Result<u64, String> {
+    match rest {
+        ["largest", size] => number(size),
+        _ => Err("keys takes 'largest' and a size behind it, as keys largest 64".to_owned()),
+    }
+}
+
 fn unknown_verb(name: &str) -> String {
     let known: Vec<_> = FORMS.iter().map(|(form, ..)| *form).collect();
-    let meant = nearest(name, known.iter().copied());
+    let meant = nearest(name, known.iter().copied().chain([KEYS]));
     let meant = meant.map_or(String::new(), |form| format!(" (did you mean '{form}'?)"));
     format!("{} is no call{meant}; the calls are {}", quoted(name), known.join(", "))
 }
@@ -361,7 +381,7 @@ mod tests {
     #[test]
     fn as_people_have_it() {
         let file = b"\xef\xbb\xbfexpire at 2026-11-15 08:15\r\n\r\nadmit pen-serial-000000000001 from a/b at 2026-11-15T08:15:01Z strength 1\r\n";
-        let calls = read(file, &mut Names::default()).expect("a good file");
+        let calls = read(file, &mut Names::new(64)).expect("a good file");
         assert_eq!(calls[0].words.clock, Duration::from_secs(1_794_730_500));
         assert_eq!(calls[1].line, 3);
         assert_eq!(calls[1].words.time, Some(Time { sec: 1_794_730_501, nanosec: 0 }));
@@ -387,6 +407,17 @@ mod tests {
             "'-1' is no number that fits: write a whole number"
         );
         assert!(fault("expire at -1s").contains("negative"));
+        assert!(fault("key largest 64").contains("did you mean 'keys'?"));
+        for line in ["keys", "keys 64", "keys largest", "keys largest 64 at 1s"] {
+            assert_eq!(
+                fault(line),
+                "keys takes 'largest' and a size behind it, as keys largest 64"
+            );
+        }
+        assert_eq!(
+            fault("keys largest 18446744073709551616"),
+            "'18446744073709551616' is no number that fits: write a whole number"
+        );
     }
 
     #[test]
@@ -429,6 +460,9 @@ mod tests {
         "1e9s",
         "strength",
         "-2147483648",
+        "keys",
+        "largest",
+        "4096",
     ];
 
     #[test]

@@ -258,7 +258,7 @@ fn times(before: &InstanceState, after: &InstanceState) -> Vec<String> {
 #[cfg(test)]
 mod tests {
     use super::*;
-    use crate::names::Names;
+    use crate::names::{Names, FITTING, LARGEST};
     use crate::play::play_text;
     use crate::random::Days;
     use crate::table::{Log, Tables};
@@ -297,19 +297,19 @@ mod tests {
         assert!(Explain::new(*PEN).text("pen").is_none());
     }
 
-    /// Any day is played, shown and explained, and the two agree.
+    /// Any day is played, shown and explained, and the two agree; with names as keys or with hashed ones.
     #[test]
     fn any_day_is_explained() {
         let mut days = Days::new(7);
-        for _ in 0..60 {
-            let (day, mut names) = (days.next_day(40), Names::default());
+        for largest in [FITTING, LARGEST].into_iter().cycle().take(60) {
+            let (day, mut names) = (days.next_day(40), Names::new(largest));
             let (mut tables, mut log) = (Tables::default(), Log::default());
             let state = play_text(&day, &mut names, &mut [&mut tables, &mut log]);
             assert!(tables.text("day", &state, &names).is_ok());
             assert_eq!(log.text().lines().count(), 41);
             for instance in state.instances() {
                 let mut explain = Explain::new(instance.keyhash);
-                play_text(&day, &mut Names::default(), &mut [&mut explain]);
+                play_text(&day, &mut Names::new(largest), &mut [&mut explain]);
                 let key = names.show(&instance.keyhash);
                 let text = explain.text(&key).expect("it is there");
                 let shown = format!("{key} is shown {}:", shown(instance.kind));

@@ -102,3 +102,8 @@ pub const FORMS: &[(&str, Verb, Subject, &[Word])] = &[
     ("release_owner_of", Verb::ReleaseOwnerOf, Subject::Key, &["from!"]),
     ("autopurge", Verb::Autopurge, Subject::Nothing, &["at!", "disposed", "no-writers"]),
 ];
+
+/// Whether a key stands behind a word.
+pub fn takes_key(name: &str) -> bool {
+    FORMS.iter().any(|(form, _, subject, _)| *form == name && *subject == Subject::Key)
+}

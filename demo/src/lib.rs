@@ -7,6 +7,7 @@ mod day;
 mod explain;
 mod forms;
 mod history;
+mod largest;
 mod make;
 mod marks;
 mod mirror;
@@ -19,6 +20,7 @@ mod random;
 mod rank;
 mod report;
 mod said;
+mod source;
 mod table;
 mod tell;
 mod warnings;
@@ -26,15 +28,15 @@ mod words;
 mod writers;
 
 use args::{Asked, Mode};
+use dcps::KeyHash;
 use explain::Explain;
 use history::History;
 use names::Names;
 use play::{play, Watch};
-use progress::Watched;
 use report::Report;
+use source::Source;
 use std::ffi::OsStr;
-use std::fs::File;
-use std::io::{self, BufRead, BufReader, Write};
+use std::io::{self, Write};
 use std::process::ExitCode;
 use table::{Log, Tables};
 use warnings::Warnings;
@@ -73,24 +75,17 @@ fn run(arguments: &[std::ffi::OsString]) -> Result<String, Stop> {
     }
 }
 
-/// The day's source, and its length where that is known.
-fn open(day: &OsStr) -> io::Result<(Box<dyn BufRead>, Option<u64>)> {
-    if day == "-" {
-        return Ok((Box::new(BufReader::new(io::stdin())), None));
-    }
-    let file = File::open(day)?;
-    let length = file.metadata().ok().map(|m| m.len());
-    Ok((Box::new(BufReader::with_capacity(1 << 16, file)), length))
-}
-
 fn show(day: &OsStr, mode: Mode) -> Result<String, Stop> {
     let name = if day == "-" { "standard input".into() } else { day.to_string_lossy() };
-    let mut names = Names::default();
+    let unreadable = |e: io::Error| wrong(format!("{name}: {e}"));
+    let mut source = Source::open(day).map_err(unreadable)?;
+    let sized = source.read("looking at the keys").and_then(|mut s| largest::largest(&mut s));
+    let largest = sized.map_err(unreadable)?;
     let key = match &mode {
-        Mode::Explain(key) => Some(names.key(key).map_err(wrong)?),
+        Mode::Explain(word) => asked(word, largest)?,
         _ => None,
     };
-    let (source, length) = open(day).map_err(|e| wrong(format!("{name}: {e}")))?;
+    let mut names = Names::new(largest);
     let (mut tables, mut log) = (Tables::default(), Log::default());
     let (mut explain, mut history) = (Explain::new(key.unwrap_or_default()), History::default());
     let mut warnings = Warnings::default();
@@ -100,20 +95,28 @@ fn show(day: &OsStr, mode: Mode) -> Result<String, Stop> {
         Mode::Explain(_) => &mut explain,
         Mode::Why(_) => &mut history,
     };
-    let mut watched = Watched::new(source, length);
-    let played = play(&mut watched, &mut names, &mut [&mut warnings, watcher]);
-    drop(watched);
+    let mut calls = source.read("playing").map_err(unreadable)?;
+    let played = play(&mut calls, &mut names, &mut [&mut warnings, watcher]);
+    drop(calls);
     let state = played.map_err(|stop| wrong(stopped(&name, stop)))?;
     let text = match mode {
         Mode::Tables => tables.text(&name, &state, &names).map_err(|r| wrong(r.to_string()))?,
         Mode::Log => log.text(),
-        Mode::Explain(word) => {
-            explain.text(&word).ok_or_else(|| wrong(format!("{word} never stands in {name}")))?
-        }
+        Mode::Explain(word) => key
+            .and_then(|key| explain.text(&names.show(&key)))
+            .ok_or_else(|| wrong(format!("{word} never stands in {name}")))?,
         Mode::Why(form) => Report::new(&name, &history, &names, &warnings).write(form),
     };
     let _ = io::stderr().write_all(warnings.text(&name).as_bytes());
     Ok(text)
+}
+
+/// The key that is to be explained; none where it is beyond the largest size, so that it cannot stand in the day.
+fn asked(word: &str, largest: u64) -> Result<Option<KeyHash>, Stop> {
+    if words::is_name(word) && names::size(word) > largest {
+        return Ok(None);
+    }
+    Names::new(largest).key(word).map(Some).map_err(wrong)
 }
 
 /// Each bad line with what is wrong with it.

@@ -6,9 +6,11 @@ use std::time::{Duration, Instant};
 /// A source that tells how far it is, where standard error is a terminal and the day takes long.
 pub struct Watched<R> {
     source: R,
+    /// What it is read for.
+    doing: &'static str,
     read: u64,
-    /// Of how many bytes, where that is known.
-    of: Option<u64>,
+    /// Of how many bytes.
+    of: u64,
     shown: Option<Instant>,
     said: bool,
 }
@@ -17,9 +19,9 @@ const FIRST: Duration = Duration::from_millis(700);
 const NEXT: Duration = Duration::from_millis(200);
 
 impl<R: BufRead> Watched<R> {
-    pub fn new(source: R, of: Option<u64>) -> Self {
+    pub fn new(source: R, doing: &'static str, of: u64) -> Self {
         let shown = io::stderr().is_terminal().then(Instant::now);
-        Self { source, read: 0, of, shown, said: false }
+        Self { source, doing, read: 0, of, shown, said: false }
     }
 
     fn tell(&mut self) {
@@ -30,9 +32,9 @@ impl<R: BufRead> Watched<R> {
         self.shown = Some(Instant::now());
         self.said = true;
         let read = self.read as f64 / 1e6;
-        let part = self.of.filter(|of| *of > 0).map(|of| 100 * self.read / of);
+        let part = (100 * self.read).checked_div(self.of);
         let part = part.map_or(String::new(), |part| format!(", {part} %"));
-        let _ = write!(io::stderr(), "\r\x1b[Kplaying: {read:.1} MB read{part}");
+        let _ = write!(io::stderr(), "\r\x1b[K{}: {read:.1} MB read{part}", self.doing);
     }
 }
 

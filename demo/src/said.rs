@@ -71,11 +71,11 @@ fn due(next: Option<Duration>) -> String {
 
 fn left_behind(left: &[InstanceHandle], state: &State, names: &Names) -> String {
     let keys = left.iter().filter_map(|handle| state.key_hash_for_handle(*handle));
-    let keys: Vec<_> = keys.map(|key| names.show(&key)).collect();
+    let keys: Vec<_> = keys.collect();
     if keys.is_empty() {
         "no instance left without writers".to_owned()
     } else {
-        format!("left without writers: {}", keys.join(" "))
+        format!("left without writers: {}", names.list(&keys).join(" "))
     }
 }
 

@@ -51,7 +51,9 @@ impl Watch for Tables {
             }
             Ok(_) => {}
         }
-        for (key, before) in &step.changes.instances {
+        let mut changed: Vec<_> = step.changes.instances.iter().collect();
+        changed.sort_by_key(|(key, _)| step.names.order(key));
+        for (key, before) in changed {
             self.abandoned += usize::from(is_abandoned(before.as_ref(), step.mirror.instance(key)));
             if let (Some(before), None) = (before, step.mirror.instance(key)) {
                 let (key, line) = (step.names.show(key), step.call.line);
@@ -127,12 +129,14 @@ impl Log {
 }
 
 fn instances(state: &State, names: &Names) -> String {
-    let rows = state.instances().map(|i| {
+    let mut all: Vec<Instance<'_>> = state.instances().collect();
+    all.sort_by_key(|i| names.order(&i.keyhash));
+    let rows = all.iter().map(|i| {
         vec![
             names.show(&i.keyhash),
             i.handle.as_raw().to_string(),
             shown(i.kind).to_owned(),
-            since(&i),
+            since(i),
             or_nothing(i.writers.iter().map(show_guid).collect()),
             i.current_owner.map_or_else(
                 || NOTHING.to_owned(),
@@ -170,7 +174,8 @@ fn since(i: &Instance<'_>) -> String {
 fn writers(state: &State, names: &Names) -> String {
     let rows = state.writers().map(|w| {
         let writes = state.instances().filter(|i| i.writers.contains(&w.guid));
-        let writes = or_nothing(writes.map(|i| names.show(&i.keyhash)).collect());
+        let writes: Vec<_> = writes.map(|i| i.keyhash).collect();
+        let writes = or_nothing(names.list(&writes));
         let [kind, lease, asserted] = offered(&w);
         vec![show_guid(&w.guid), liveliness(w.state).to_owned(), kind, lease, asserted, writes]
     });
@@ -211,6 +216,9 @@ fn or_nothing(words: Vec<String>) -> String {
     }
 }
 
+/// A wider cell makes its own row longer, and not all the others.
+const WIDEST: usize = 100;
+
 /// Rows in columns as wide as they need; nothing where there are no rows.
 pub fn columns(titles: &[&str], rows: Vec<Vec<String>>) -> String {
     if rows.is_empty() {
@@ -219,7 +227,8 @@ pub fn columns(titles: &[&str], rows: Vec<Vec<String>>) -> String {
     let head = titles.iter().map(|title| (*title).to_owned()).collect();
     let all: Vec<Vec<String>> = std::iter::once(head).chain(rows).collect();
     let width = |place: usize| {
-        all.iter().filter_map(|row| row.get(place)).map(|cell| cell.chars().count()).max()
+        let cells = all.iter().filter_map(|row| row.get(place)).map(|cell| cell.chars().count());
+        cells.filter(|width| *width <= WIDEST).max()
     };
     let widths: Vec<usize> = (0..titles.len()).map(|place| width(place).unwrap_or(0)).collect();
     let mut text = String::new();

@@ -6,7 +6,6 @@ use crate::names::Names;
 use crate::rank::{Group, Verdict};
 use crate::words::{moment_of_clock, show_delay, show_guid, show_moment, spoken, Moment};
 use crate::writers::Writer;
-use dcps::KeyHash;
 use std::time::Duration;
 
 /// What a cause is called, what happened, and what to do.
@@ -101,9 +100,7 @@ impl Teller<'_> {
     }
 
     fn keys(&self) -> String {
-        listed(
-            &self.group.keys.iter().map(|key: &KeyHash| self.names.show(key)).collect::<Vec<_>>(),
-        )
+        listed(&self.names.list(&self.group.keys))
     }
 
     /// The one writer that left, and its lease.

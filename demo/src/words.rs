@@ -18,10 +18,19 @@ pub fn quoted(word: &str) -> String {
 
 // ---- keys and GUIDs
 
+/// Letters, digits and signs, at least one.
+pub fn is_name(word: &str) -> bool {
+    !word.is_empty() && word.bytes().all(|b| b.is_ascii_graphic())
+}
+
+/// Whether a word is written in hexadecimal digits, or tries to be.
+pub fn is_digits(word: &str) -> bool {
+    word.starts_with("0x")
+}
+
 /// Up to N bytes of text, zeros behind it.
 fn text<const N: usize>(word: &str) -> Option<[u8; N]> {
-    let fits = (1..=N).contains(&word.len()) && word.bytes().all(|b| b.is_ascii_graphic());
-    if !fits {
+    if word.len() > N || !is_name(word) {
         return None;
     }
     let mut bytes = [0; N];
@@ -48,9 +57,9 @@ fn named<const N: usize>(word: &str) -> Option<[u8; N]> {
     }
 }
 
-/// A key of up to 16 characters or 32 digits.
-pub fn key(word: &str) -> Option<KeyHash> {
-    named(word)
+/// A KeyHash in 32 digits.
+pub fn key_digits(word: &str) -> Option<KeyHash> {
+    word.strip_prefix("0x").and_then(hex)
 }
 
 pub fn guid(word: &str) -> Result<[u8; 16], String> {
@@ -89,14 +98,14 @@ pub fn participant(word: &str) -> Option<Result<[u8; 12], String>> {
 fn as_text(bytes: &[u8]) -> Option<&str> {
     let end = bytes.iter().rposition(|b| *b != 0)? + 1;
     let name = std::str::from_utf8(&bytes[..end]).ok()?;
-    (name.bytes().all(|b| b.is_ascii_graphic()) && !name.starts_with("0x")).then_some(name)
+    (is_name(name) && !is_digits(name)).then_some(name)
 }
 
-fn as_hex(bytes: &[u8]) -> String {
+pub fn as_hex(bytes: &[u8]) -> String {
     bytes.iter().fold(String::from("0x"), |digits, byte| digits + &format!("{byte:02x}"))
 }
 
-/// A key that no long name stands for.
+/// A key that is not hashed.
 pub fn show_short_key(key: &KeyHash) -> String {
     as_text(key).map_or_else(|| as_hex(key), str::to_owned)
 }
@@ -275,14 +284,8 @@ mod tests {
 
     #[test]
     fn names_come_back_as_written() {
-        for word in ["pen-01", "a", "sixteen-letters!", "0x00112233445566778899aabbccddeeff"] {
-            assert_eq!(key(word).map(|k| show_short_key(&k)), Some(word.to_owned()));
-        }
         for word in ["press-1/w1", "a/b", "0x00112233445566778899aabbccddeeff"] {
             assert_eq!(guid(word).map(|g| show_guid(&g)), Ok(word.to_owned()));
-        }
-        for word in ["", "seventeen-letters", "0x12", "ключ"] {
-            assert!(key(word).is_none(), "{word}");
         }
         for word in ["press-1", "/w1", "press-1/", "press-1/*", "a/b/c", "0x12", "thirteen-long/w"]
         {

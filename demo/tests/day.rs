@@ -32,7 +32,7 @@ fn bad_files() {
     let bytes: Vec<u8> = (0..=255).cycle().take(10_000).collect();
     turned_down(&[&written("bytes.txt", &bytes)], 1, "bytes.txt:1: ");
     let endless = vec![b'a'; 1 << 20];
-    turned_down(&[&written("endless.txt", &endless)], 1, "endless.txt:1: longer than 4096 bytes");
+    turned_down(&[&written("endless.txt", &endless)], 1, "endless.txt:1: longer than 8192 bytes");
     let many = "admitt\n".repeat(1_000);
     let many = written("many.txt", many.as_bytes());
     turned_down(&[&many], 1, "many.txt:1: 'admitt' is no call (did you mean 'admit'?)");

@@ -11,12 +11,17 @@
  *     purge SECONDS                     instances that are not alive for so long go
  *     show                              the tables
  *
- * A pen's name is its key, zeros behind it. A writer is PARTICIPANT/ENTITY, at most 12 and 4 characters. */
+ * PEN is a pen's serial, the key of a topic with `@key string<64> serial`. A writer is PARTICIPANT/ENTITY, at most 12 and 4
+ * characters. */
 #include <inttypes.h>
 #include <stdio.h>
 #include <stdlib.h>
 
 #include "dcps_inline.h"
+
+/* The largest size of a serialized string<64>, for every serial, short ones too: another size stated can be another key. */
+#define SERIAL_LARGEST (4 + 64 + 1)
+#define LINE 256
 
 static struct dcps_state console;
 static uint8_t sheet[DCPS_SHEET_BYTES], answer[DCPS_ANSWER_BYTES];
@@ -32,17 +37,37 @@ static uint64_t nanoseconds(uint64_t seconds)
     return seconds * 1000000000u;
 }
 
+/* 1 where it is accepted, else the refusal is shown. */
+static int accepted(uint32_t number)
+{
+    if (number != DCPS_ACCEPTED)
+        printf("  refused as %" PRIu32 ": %s\n", number, dcps_refusal_text(number));
+    return number == DCPS_ACCEPTED;
+}
+
 /* ---- names */
+
+/* A pen by its serial: the key, and the bytes from which it is made. */
+struct pen {
+    uint8_t key[DCPS_KEY_BYTES];
+    uint8_t serialized[4 + LINE];
+    size_t length;
+};
+
+/* As DDS serializes a string, big-endian: its length with the NUL, its characters, the NUL. */
+static int pen_of(struct pen *pen, const char *serial)
+{
+    size_t length = strlen(serial) + 1;
+    dcps_put_u32(pen->serialized, (uint32_t)length);
+    memcpy(pen->serialized + 4, serial, length);
+    pen->length = 4 + length;
+    return accepted(dcps_key_of(pen->key, pen->serialized, pen->length, SERIAL_LARGEST));
+}
 
 static void put_name(uint8_t *to, size_t places, const char *name, size_t length)
 {
     memset(to, 0, places);
     memcpy(to, name, length < places ? length : places);
-}
-
-static void key_of(uint8_t *key, const char *name)
-{
-    put_name(key, DCPS_KEY_BYTES, name, strlen(name));
 }
 
 static void guid_of(uint8_t *guid, const char *name)
@@ -53,9 +78,12 @@ static void guid_of(uint8_t *guid, const char *name)
     put_name(guid + DCPS_PREFIX_BYTES, DCPS_GUID_BYTES - DCPS_PREFIX_BYTES, slash ? slash + 1 : "", slash ? strlen(slash + 1) : 0);
 }
 
-static void print_key(const uint8_t *key)
+/* A key that is hashed has no serial any more: it is read from the holder, which the first sample stored. */
+static void print_pen(const uint8_t *record)
 {
-    printf("%.16s", (const char *)key);
+    size_t length;
+    const uint8_t *holder = dcps_instance_holder(record, &length);
+    printf("%s", holder ? (const char *)holder + 4 : "?");
 }
 
 static void print_guid(const uint8_t *guid)
@@ -67,20 +95,17 @@ static void print_handle(uint64_t handle)
 {
     const uint8_t *record = dcps_instance_by_handle(console.head, console.pens, handle);
     if (record)
-        print_key(dcps_instance_key(record));
+        print_pen(record);
     else
         printf("#%" PRIu64, handle);
 }
 
 /* ---- calls */
 
-/* Makes the call of the sheet; 1 where it is accepted, else its refusal is shown. */
+/* Makes the call of the sheet. */
 static int call(void)
 {
-    uint32_t number = dcps_state_call(&console, sheet, answer);
-    if (number != DCPS_ACCEPTED)
-        printf("  refused as %" PRIu32 ": %s\n", number, dcps_refusal_text(number));
-    return number == DCPS_ACCEPTED;
+    return accepted(dcps_state_call(&console, sheet, answer));
 }
 
 static void print_left(void)
@@ -109,16 +134,18 @@ static void assert_writer(const char *writer)
     call();
 }
 
-static void sample(const char *pen, const char *writer, const char *strength)
+static void sample(const char *serial, const char *writer, const char *strength)
 {
-    uint8_t key[DCPS_KEY_BYTES], guid[DCPS_GUID_BYTES];
+    struct pen pen;
+    uint8_t guid[DCPS_GUID_BYTES];
     struct dcps_sample s;
-    key_of(key, pen);
     guid_of(guid, writer);
     assert_writer(writer); /* a sample is a sign of its writer, also one that is turned away */
-    s = dcps_sample_of(key, guid, time_now());
-    s.holder = (const uint8_t *)pen;
-    s.holder_length = strlen(pen);
+    if (!pen_of(&pen, serial))
+        return;
+    s = dcps_sample_of(pen.key, guid, time_now());
+    s.holder = pen.serialized;
+    s.holder_length = pen.length;
     s.separation = nanoseconds(1);
     s.strength = strength ? (int32_t)strtol(strength, NULL, 10) : 0;
     dcps_sheet_admit(sheet, &s);
@@ -126,13 +153,14 @@ static void sample(const char *pen, const char *writer, const char *strength)
         printf("  turned away: %s\n", dcps_outcome_text(dcps_answer_outcome(answer)));
 }
 
-static void dispose(const char *pen)
+static void dispose(const char *serial)
 {
-    uint8_t key[DCPS_KEY_BYTES];
+    struct pen pen;
     struct dcps_time time = time_now();
     const uint8_t *record;
-    key_of(key, pen);
-    record = dcps_instance_by_key(console.head, console.pens, key);
+    if (!pen_of(&pen, serial))
+        return;
+    record = dcps_instance_by_key(console.head, console.pens, pen.key);
     dcps_sheet_dispose(sheet, record ? dcps_instance_handle(record) : 0, &time);
     if (call() && !dcps_answer_yes(answer))
         printf("  no such pen\n");
@@ -186,7 +214,7 @@ static void print_instance(const uint8_t *record)
     struct dcps_time time;
     size_t place;
     printf("  ");
-    print_key(dcps_instance_key(record));
+    print_pen(record);
     printf(" #%" PRIu64 " %s", dcps_instance_handle(record), shown[dcps_instance_kind(record)]);
     if (dcps_instance_kind(record) == DCPS_NO_WRITERS && dcps_instance_no_writers_at(record, &time))
         printf(" since %" PRId32, time.sec);
@@ -260,7 +288,7 @@ static void obey(char *line)
 
 int main(void)
 {
-    char line[256];
+    char line[LINE];
     uint32_t version = dcps_version();
     if (version != DCPS_VERSION_NUMBER) {
         fprintf(stderr, "the header is of %s, the library of %" PRIu32 ".%" PRIu32 ".%" PRIu32 "\n", DCPS_VERSION, version >> 16,

@@ -1,7 +1,7 @@
 /* Every builder and every accessor of dcps_inline.h at work, as text that the test of the Rust bindings
  * (bindings/rust/tests/inline.rs) compares with its own:
  *
- *     layout sheets           a line for each builder, its sheet in hexadecimal
+ *     layout sheets           a line for each builder, its sheet in hexadecimal; then words, keys and handles
  *     layout state FILE       head, records, lost and out of a state's bytes
  *     layout answers FILE     answers of 72 bytes
  *     layout reads FILE       answers of reads, 24 bytes each */
@@ -98,6 +98,19 @@ static void joined_sheets(const uint8_t *key, const uint8_t *guid)
     dcps_sheet_depart(sheet, guid, NULL), line("depart");
 }
 
+/* Of 16 bytes: one that is refused as 14, one padded, two hashed, one refused as 15. */
+static void print_keys(const uint8_t *serialized)
+{
+    static const uint64_t largest[] = {15, 16, 17, 4096, 4097};
+    uint8_t key[DCPS_KEY_BYTES];
+    size_t i;
+    for (i = 0; i < sizeof largest / sizeof *largest; i++) {
+        printf("key %" PRIu32 " ", dcps_key_of(key, serialized, 16, largest[i]));
+        print_hex(key, sizeof key);
+        printf("\n");
+    }
+}
+
 static void print_sheets(void)
 {
     uint8_t key[DCPS_KEY_BYTES], guid[DCPS_GUID_BYTES];
@@ -109,8 +122,9 @@ static void print_sheets(void)
     instance_sheets(key, guid);
     writer_sheets(guid);
     joined_sheets(key, guid);
-    for (i = 0; i <= 14; i++)
+    for (i = 0; i <= 16; i++)
         printf("refusal %" PRIu32 " %s\n", i, dcps_refusal_text(i));
+    print_keys(guid);
     printf("guid %" PRIx64 " %" PRIx64 " %" PRIu64 "\n", dcps_high(guid), dcps_low(guid), dcps_handle_of_guid(guid));
 }
 
@@ -215,6 +229,7 @@ static void print_read(const uint8_t *a)
            dcps_read_present(a), dcps_read_stored(a), dcps_read_listed(a), dcps_read_length(a), dcps_read_handle(a),
            dcps_read_changes(a), dcps_read_offset(a));
     print_time(1, time);
+    print_bytes(dcps_read_key_hash(a), DCPS_KEY_BYTES);
     printf("\n");
 }
 

@@ -1,6 +1,6 @@
 /* How much stack the library takes: a thread's stack is painted, calls are made on it, and the paint that is gone below the
- * caller's frame is counted. Every code and every read, on a fresh, a full and a damaged state. Fails where a call takes
- * more than DCPS_STACK_BYTES. */
+ * caller's frame is counted. Every code and every read, on a fresh, a full and a damaged state; keys of many lengths. Fails
+ * where a call takes more than DCPS_STACK_BYTES, or another function more than 4 KiB. */
 #define _POSIX_C_SOURCE 200809L
 #include <pthread.h>
 #include <stdio.h>
@@ -10,6 +10,7 @@
 
 #define STACK (512 * 1024)
 #define PAINT 0xa5
+#define OTHERS 4096 /* what the header says of all functions but dcps_call */
 
 static unsigned char *stack;
 static struct dcps_state fresh, full, used;
@@ -39,6 +40,13 @@ static void make_read(void)
     case 10: dcps_left_writerless(p, n, gone, sizeof gone, 3, used.out, sizeof used.out, answer, DCPS_READ_BYTES); break;
     default: dcps_state_fresh(&used); break;
     }
+}
+
+/* The hash of a key of so many bytes. */
+static void make_key(void)
+{
+    static const uint8_t serialized[DCPS_KEY_LARGEST_BYTES];
+    dcps_key_hash(serialized, which, DCPS_KEY_LARGEST_BYTES, answer, DCPS_READ_BYTES);
 }
 
 /* Paints what lies below this frame, makes the call, and looks how deep it went. */
@@ -114,9 +122,20 @@ static void fill(void)
     made();
 }
 
+/* The deepest of keys without a rest in a last block, with one, and with one that leaves no room for the length. */
+static size_t keys_depth(void)
+{
+    size_t deepest = 0, deep;
+    for (which = 0; which <= DCPS_KEY_LARGEST_BYTES; which += 8) {
+        deep = depth(make_key);
+        deepest = deep > deepest ? deep : deepest;
+    }
+    return deepest;
+}
+
 int main(void)
 {
-    size_t calls = 0, reads = 0, deep;
+    size_t calls = 0, reads = 0, keys, deep;
     unsigned code, state;
     void *area = NULL;
     if (posix_memalign(&area, 4096, STACK) != 0)
@@ -148,7 +167,9 @@ int main(void)
                 reads = deep > reads ? deep : reads;
             }
         }
-    printf("stack: %zu bytes for a call, %zu for a read or fresh; the header says %d\n", calls, reads, DCPS_STACK_BYTES);
+    keys = keys_depth();
+    printf("stack: %zu bytes for a call, %zu for a read or fresh, %zu for a key; the header says %d and %d\n", calls, reads, keys,
+           DCPS_STACK_BYTES, OTHERS);
     free(area);
-    return calls > DCPS_STACK_BYTES || reads > DCPS_STACK_BYTES;
+    return calls > DCPS_STACK_BYTES || reads > OTHERS || keys > OTHERS;
 }

@@ -1,4 +1,5 @@
-/* The same calls with every buffer at each address modulo 16, and in threads of their own: the same states and answers. */
+/* The same calls and keys with every buffer at each address modulo 16, and in threads of their own: the same states, answers
+ * and hashes. */
 #define _POSIX_C_SOURCE 200809L
 #include <pthread.h>
 #include <stdio.h>
@@ -11,6 +12,7 @@
 struct run {
     uint8_t bytes[sizeof(struct dcps_state) + DCPS_SHEET_BYTES + DCPS_ANSWER_BYTES + 16];
     uint8_t answers[CALLS][DCPS_ANSWER_BYTES];
+    uint8_t keys[CALLS][DCPS_READ_BYTES];
     size_t shift;
 };
 
@@ -45,6 +47,8 @@ static void *make(void *pointer)
         fill(sheet, number);
         dcps_state_call(state, sheet, answer);
         memcpy(run->answers[number], answer, DCPS_ANSWER_BYTES);
+        dcps_key_hash(sheet, number, number % 2 ? DCPS_KEY_LARGEST_BYTES : DCPS_KEY_BYTES, answer, DCPS_READ_BYTES);
+        memcpy(run->keys[number], answer, DCPS_READ_BYTES);
     }
     return NULL;
 }
@@ -52,7 +56,7 @@ static void *make(void *pointer)
 int main(void)
 {
     pthread_t threads[17];
-    size_t i, accepted = 0;
+    size_t i, accepted = 0, keys = 0;
     for (i = 0; i < 17; i++) {
         runs[i].shift = i % 16;
         if (pthread_create(&threads[i], NULL, make, &runs[i]) != 0)
@@ -60,14 +64,18 @@ int main(void)
     }
     for (i = 0; i < 17; i++)
         pthread_join(threads[i], NULL);
-    for (i = 0; i < CALLS; i++)
+    for (i = 0; i < CALLS; i++) {
         accepted += runs[0].answers[i][DCPS_ANSWER_NUMBER] == DCPS_ACCEPTED;
+        keys += dcps_read_number(runs[0].keys[i]) == DCPS_ACCEPTED;
+    }
     for (i = 1; i < 17; i++)
         if (memcmp(runs[i].answers, runs[0].answers, sizeof runs[i].answers) != 0 ||
+            memcmp(runs[i].keys, runs[0].keys, sizeof runs[i].keys) != 0 ||
             memcmp(runs[i].bytes + runs[i].shift, runs[0].bytes, sizeof(struct dcps_state)) != 0) {
             fprintf(stderr, "unaligned: another result at %zu\n", i);
             return 1;
         }
-    printf("unaligned: %zu of %d calls accepted, the same at each address modulo 16, in 17 threads\n", accepted, CALLS);
-    return accepted < CALLS / 2;
+    printf("unaligned: %zu of %d calls and %zu keys accepted, the same at each address modulo 16, in 17 threads\n", accepted,
+           CALLS, keys);
+    return accepted < CALLS / 2 || keys < CALLS / 2;
 }

@@ -17,7 +17,8 @@ enum feed_without {
     WITHOUT_UNKNOWN = 16, /* leave an unregister of an unknown key alone */
     WITHOUT_LAPSE = 32,   /* lapse, not expire alone */
     WITHOUT_ASSERT = 64,  /* a sample asserts its writer */
-    WITHOUT_FORGET = 128  /* free the records of departed writers */
+    WITHOUT_FORGET = 128, /* free the records of departed writers */
+    WITHOUT_STATED = 256  /* state the largest size of the key's type */
 };
 
 struct feed {
@@ -43,6 +44,13 @@ static inline uint32_t feed_call(struct feed *f)
         fprintf(stderr, "code %u refused as %u: %s\n", f->sheet[DCPS_SHEET_CODE], (unsigned)number,
                 dcps_refusal_text(number));
     return number;
+}
+
+/* The key of a sample that came without its KeyHash, from its serialized key. The type's largest size is stated, not the
+ * length of this key. */
+static inline uint32_t feed_key(const struct feed *f, uint8_t *key, const uint8_t *serialized, size_t length, uint64_t largest)
+{
+    return dcps_key_of(key, serialized, length, f->without & WITHOUT_STATED ? length : largest);
 }
 
 /* The record of a key, or null. */

@@ -110,6 +110,22 @@ static int crashes_leave_room(unsigned without)
     return dcps_head_alive(f.state.head) == 2 && dcps_head_not_alive(f.state.head) == 0;
 }
 
+/* A sample that came with its KeyHash and one without are of one instance. The key is RFC 1321's "message digest", its
+ * KeyHash that RFC's MD5 of it. */
+static int one_key_both_ways(unsigned without)
+{
+    static const uint8_t came[DCPS_KEY_BYTES] = {0xf9, 0x6b, 0x69, 0x7d, 0x7c, 0xb7, 0x93, 0x8d,
+                                                 0x52, 0x5a, 0x2f, 0x31, 0xaa, 0xf1, 0x61, 0xd0};
+    static const char serialized[] = "message digest";
+    uint8_t made[DCPS_KEY_BYTES];
+    begin(0, without);
+    if (feed_key(&f, made, (const uint8_t *)serialized, strlen(serialized), 4 + 64 + 1) != DCPS_ACCEPTED)
+        return 0;
+    feed_sample(&f, &strong, came, at(2), at(2), 2);
+    feed_sample(&f, &strong, made, at(3), at(3), 3);
+    return dcps_head_instances(f.state.head) == 1;
+}
+
 /* Only an admitted sample revives: code 6 puts a writer into an instance without writers, and it stays so. Nor does a
  * dispose record its writer. */
 static int only_samples_revive(void)
@@ -139,6 +155,7 @@ static const struct {
     {"a writer that is not alive leaves its instances", not_alive_leaves, WITHOUT_LAPSE},
     {"a sample asserts its writer", sample_asserts, WITHOUT_ASSERT},
     {"crashes leave room for new writers", crashes_leave_room, WITHOUT_FORGET},
+    {"a key is the same with its KeyHash and without", one_key_both_ways, WITHOUT_STATED},
 };
 
 static int failed;

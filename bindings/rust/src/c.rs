@@ -121,4 +121,11 @@ unsafe extern "C" {
         answer: *mut u8,
         answer_len: usize,
     ) -> u32;
+    pub fn dcps_key_hash(
+        serialized: *const u8,
+        serialized_len: usize,
+        largest: u64,
+        answer: *mut u8,
+        answer_len: usize,
+    ) -> u32;
 }

@@ -1,11 +1,11 @@
 //! The C boundary, as include/dcps.h has it. Fixed lengths here are why no call of this crate can be refused as 1.
 
 use crate::layout::{
-    i32_at, u32_at, u64_at, ANSWER_BYTES, HEAD_BYTES, OUT_BYTES, PENS_BYTES, READ_BYTES,
+    array_at, i32_at, u32_at, u64_at, ANSWER_BYTES, HEAD_BYTES, OUT_BYTES, PENS_BYTES, READ_BYTES,
     SHEET_BYTES,
 };
 use crate::state::{refusal, Lent};
-use crate::{InstanceHandle, Refusal, Time};
+use crate::{InstanceHandle, KeyHash, Refusal, Time};
 
 #[allow(dead_code)]
 #[path = "c.rs"]
@@ -63,6 +63,7 @@ pub(crate) struct Read {
     pub listed: u32,
     pub handle: InstanceHandle,
     pub changes: u64,
+    pub key_hash: KeyHash,
     pub time: Time,
 }
 
@@ -75,6 +76,7 @@ impl Read {
             listed: u32_at(b, 4),
             handle: InstanceHandle::from_raw(u64_at(b, 8)),
             changes: u64_at(b, 8),
+            key_hash: array_at(b, 8),
             time: Time { sec: i32_at(b, 16), nanosec: u32_at(b, 20) },
         }
     }
@@ -128,6 +130,7 @@ reads! {
     writer_lookup = dcps_writer_lookup(pens: &Pens; high: u64, low: u64);
     would_leave_writerless = dcps_would_leave_writerless(pens: &Pens, gone: &[u8]; view_states: u32);
     changes = dcps_changes(head: &[u8; HEAD_BYTES];);
+    key_hash = dcps_key_hash(serialized: &[u8]; largest: u64);
 }
 
 pub(crate) fn left_writerless(

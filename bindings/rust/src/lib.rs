@@ -23,6 +23,7 @@ mod ffi;
 mod instances;
 mod joined;
 pub mod keep;
+mod key_hash;
 mod layout;
 mod liveliness;
 mod reads;
@@ -37,6 +38,7 @@ mod types;
 pub use {
     answer::Answer,
     joined::{Admission, Sample},
+    key_hash::{key_hash, KEY_LARGEST_BYTES},
     reads::Walker,
     refusal::Refusal,
     sheet::Sheet,

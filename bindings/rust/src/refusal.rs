@@ -5,8 +5,8 @@ use core::fmt;
 
 /// Why a call was refused. A refused call leaves the state as it was.
 ///
-/// Numbers and words are those of the scope document's section 8; of several that apply, the
-/// lowest answers.
+/// Numbers and words are those of the scope document's section 8, and those that requests added to it;
+/// of several that apply, the lowest answers, but 15 before 14.
 ///
 /// ```
 /// use dcps::{LivelinessKind, Refusal, State};
@@ -49,6 +49,11 @@ pub enum Refusal {
     LostFull,
     /// 13: new instance, next handle 2^63.
     HandlesSpent,
+    /// 14: serialized key longer than the largest size stated for its type. Only
+    /// [`key_hash`](crate::key_hash()) can meet it.
+    KeyLength,
+    /// 15: stated largest size above 4,096. Only [`key_hash`](crate::key_hash()) can meet it.
+    LargestSize,
     /// A number that this crate does not know, of a library newer than it.
     Other(u8),
 }
@@ -78,6 +83,8 @@ impl Refusal {
             11 => Self::WritersFull,
             12 => Self::LostFull,
             13 => Self::HandlesSpent,
+            14 => Self::KeyLength,
+            15 => Self::LargestSize,
             other => Self::Other(other),
         })
     }
@@ -85,7 +92,7 @@ impl Refusal {
     /// The number that the scope document gives it.
     ///
     /// ```
-    /// for number in 1..=13 {
+    /// for number in 1..=15 {
     ///     assert_eq!(dcps::Refusal::from_number(number).map(|r| r.number()), Some(number));
     /// }
     /// ```
@@ -105,6 +112,8 @@ impl Refusal {
             Self::WritersFull => 11,
             Self::LostFull => 12,
             Self::HandlesSpent => 13,
+            Self::KeyLength => 14,
+            Self::LargestSize => 15,
             Self::Other(number) => number,
         }
     }
@@ -124,6 +133,8 @@ impl Refusal {
             Self::WritersFull => "new GUID, 128 writer records",
             Self::LostFull => "expiries beyond 256 in Lost",
             Self::HandlesSpent => "new instance, next handle 2^63",
+            Self::KeyLength => "serialized key longer than its stated largest size",
+            Self::LargestSize => "stated largest size above 4,096",
             Self::Other(_) => "a number unknown here",
         }
     }

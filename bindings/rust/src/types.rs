@@ -5,7 +5,7 @@
 
 use core::fmt;
 
-/// The 16 bytes that name an instance (DDSI-RTPS KeyHash).
+/// The 16 bytes that name an instance (DDSI-RTPS KeyHash); [`key_hash`](crate::key_hash()) makes them from a serialized key.
 pub type KeyHash = [u8; 16];
 
 /// Bits of a mask of view states.

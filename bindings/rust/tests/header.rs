@@ -62,7 +62,7 @@ fn one_declaration() {
     let header = functions(&code(HEADER), "uint32_t dcps_", ");", argument);
     let declared = functions(&code(DECLARED), "pub fn dcps_", ") -> u32;", str::to_owned);
     assert_eq!(header, declared);
-    assert!(header.len() >= 14);
+    assert!(header.len() >= 15);
 }
 
 /// The number behind a name of the header, in a macro or an enum.
@@ -100,7 +100,18 @@ fn codes_and_refusals() {
     }
     assert_eq!(number("DCPS_REFUSED_LENGTH"), Refusal::BufferLength.number().into());
     assert_eq!(number("DCPS_REFUSED_HANDLES"), Refusal::HandlesSpent.number().into());
+    assert_eq!(number("DCPS_REFUSED_KEY_LENGTH"), Refusal::KeyLength.number().into());
+    assert_eq!(number("DCPS_REFUSED_LARGEST_SIZE"), Refusal::LargestSize.number().into());
     assert_eq!(number("DCPS_PENS_BYTES"), 65_536);
+}
+
+/// The largest size that the header says can be stated is that of the library.
+#[test]
+fn largest_size() {
+    let largest = u64::from(number("DCPS_KEY_LARGEST_BYTES"));
+    assert_eq!(largest, dcps::KEY_LARGEST_BYTES);
+    assert!(dcps::key_hash(&[], largest).is_ok());
+    assert_eq!(dcps::key_hash(&[], largest + 1), Err(Refusal::LargestSize));
 }
 
 /// The examples of the README are those that are built and run.

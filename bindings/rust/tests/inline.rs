@@ -68,6 +68,12 @@ fn hex(bytes: &[u8]) -> String {
     })
 }
 
+/// The first and the last 8 bytes as numbers.
+fn halves(bytes: &[u8; 16]) -> (u64, u64) {
+    let half = |at| u64::from_be_bytes(*bytes[at..].first_chunk().expect("8 bytes"));
+    (half(0), half(8))
+}
+
 #[test]
 fn builders() {
     let (key, guid): ([u8; 16], [u8; 16]) =
@@ -140,14 +146,18 @@ fn builders() {
     let mut expected: Vec<String> =
         sheets.iter().map(|(name, sheet)| format!("{name} {}", hex(sheet.bytes()))).collect();
     expected.push("refusal 0 accepted".to_owned());
-    expected.extend((1..=14).filter_map(Refusal::from_number).map(|refusal| {
+    expected.extend((1..=16).filter_map(Refusal::from_number).map(|refusal| {
         let text = refusal.to_string();
         let (_, words) = text.split_once(": ").expect("number and words");
         format!("refusal {} {words}", refusal.number())
     }));
-    let half = |at| u64::from_be_bytes(*guid[at..].first_chunk().expect("8 bytes"));
-    let own = InstanceHandle::from_guid(guid).as_raw();
-    expected.push(format!("guid {:x} {:x} {own}", half(0), half(8)));
+    expected.extend([15, 16, 17, 4_096, 4_097].map(|largest| {
+        let made = dcps::key_hash(&guid, largest);
+        let number = made.err().map_or(0, Refusal::number);
+        format!("key {number} {}", hex(&made.unwrap_or_default()))
+    }));
+    let ((high, low), own) = (halves(&guid), InstanceHandle::from_guid(guid).as_raw());
+    expected.push(format!("guid {high:x} {low:x} {own}"));
     assert_eq!(lines(layout(), &["sheets"]), expected);
 }
 
@@ -310,10 +320,10 @@ fn answers() {
 fn reads() {
     let state = state().expect("all accepted");
     let (head, pens, _, _) = state.parts();
-    let (mut bytes, mut out) = ([0; 24 * 6], [0; 4_096]);
+    let (mut bytes, mut out) = ([0; 24 * 7], [0; 4_096]);
     let (key, guid) = (u64::from_be_bytes([2; 8]), [1; 16]);
     let mut places = bytes.chunks_exact_mut(24).map(<[u8]>::as_mut_ptr);
-    let mut place = || places.next().expect("six");
+    let mut place = || places.next().expect("seven");
     let (p, n) = (pens.as_ptr(), pens.len());
     // SAFETY: each pointer comes from a borrow of that many bytes, and no two of them overlap.
     let numbers = unsafe {
@@ -334,9 +344,10 @@ fn reads() {
                 place(),
                 24,
             ),
+            c::dcps_key_hash(guid.as_ptr(), 16, 17, place(), 24),
         ]
     };
-    assert_eq!(numbers, [0; 6]);
+    assert_eq!(numbers, [0; 7]);
     let last = state.last_delivered_ts(&[2; 16]).expect("well formed").expect("delivered");
     let next = state.next_handle_after(InstanceHandle::from_raw(1)).expect("well formed");
     let next = next.expect("there are more").as_raw();
@@ -345,14 +356,21 @@ fn reads() {
     let changes = state.changes().expect("well formed");
     let left = state.left_writerless(&[guid], 3).expect("well formed").len();
     let length = holder.len();
-    let expected = [
+    let key = dcps::key_hash(&guid, 17).expect("16 of 17");
+    let (high, low) = halves(&key);
+    let mut expected = [
         format!("read 0 0 0 0 0 0 {changes} {changes} {changes} 0.0"),
         format!("read 0 0 1 0 0 0 0 0 0 {}.{}", last.sec, last.nanosec),
         format!("read 0 0 1 0 0 0 {next} {next} {next} 0.0"),
         format!("read 0 0 0 1 {length} {length} {offset} {offset} {offset} 0.0"),
         "read 0 1 0 0 0 0 0 0 0 0.0".to_owned(),
         format!("read 0 0 0 0 {left} {left} 0 0 0 0.0"),
+        format!("read 0 0 0 0 0 0 {high} {high} {high} {}.{}", (low >> 32) as i32, low as u32),
     ];
+    for (line, answer) in expected.iter_mut().zip(bytes.chunks_exact(24)) {
+        *line += &format!(" ={}", hex(&answer[8..]));
+    }
+    assert!(expected[6].ends_with(&hex(&key)));
     assert_eq!(printed("reads", &bytes), expected);
 }
 

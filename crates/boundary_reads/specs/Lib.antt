@@ -1,2 +1,3 @@
 -- What the contracts of boundary_reads cite.
 pub mod ReadAnswers
+pub mod KeyHashes

@@ -1,4 +1,6 @@
-// The answers of the reads in bytes, as they cross the C boundary: 24 bytes, whose layout stands in specs/ReadAnswers.
+// The answers of the reads in bytes, as they cross the C boundary: 24 bytes, whose layout stands in specs/ReadAnswers, and in
+// specs/KeyHashes for a KeyHash.
+use key_hash::KeyHashed;
 use model::ChangesRead;
 use model::Decision;
 use model::FoundHandle;
@@ -10,6 +12,7 @@ ghost use lib.ListN.{length};
 ghost use Rattle.octets.specs.Fields.{puts};
 ghost use Rattle.read_answers.specs.Cases.{refusedAnswer, decisionAnswer, handleAnswer, timeAnswer, listingAnswer, holderAnswer, changesAnswer};
 ghost use Rattle.boundary_reads.specs.ReadAnswers.{bitWidths, bitValues, valueWidths, valueValues, toldOf, told};
+ghost use Rattle.boundary_reads.specs.KeyHashes.{keyHashBytes, toldKeyHash};
 
 // ---- the answers
 
@@ -176,4 +179,26 @@ pub fn tell(answer: &mut [u8], a: ReadAnswer) -> u32
     write_bits(answer, a);
     write_values(answer, a);
     a.number as u32
+}
+
+// The number, zeros, and the KeyHash.
+fn write_key_hash(answer: &mut [u8], k: KeyHashed)
+    requires { ⌜ length (now answer) ≡ 24 ⌝ }
+    ensures { λ _. ⌜ now (answer .exit) ≡ keyHashBytes k ⌝ }
+{
+    let hash = k.hash;
+    octets::put_u8(answer, 0, k.number);
+    octets::store(answer, 1, 7, 0);
+    octets::copy(&hash, 0, answer, 8, 16);
+}
+
+// A KeyHash, where the answer has its length; else nothing is written, and the number is 1.
+pub fn tell_key_hash(answer: &mut [u8], k: KeyHashed) -> u32
+    ensures { λ r. ⌜ toldOf r (now (answer .exit)) ≡ toldKeyHash k (now (answer .entry)) ⌝ }
+{
+    if answer.len() != 24 {
+        return 1;
+    }
+    write_key_hash(answer, k);
+    k.number as u32
 }

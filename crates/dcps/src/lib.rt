@@ -1,10 +1,11 @@
-// The public entries: every call on lent head and buffers, the fresh state, and the reads. None has a `requires`: any bytes
-// are answered, or refused with a number of the scope document and nothing written.
+// The public entries: every call on lent head and buffers, the fresh state, the reads, and the KeyHash. None has a
+// `requires`: any bytes are answered, or refused with a number of documents 01 and 02 and nothing written.
 //
 // Derives from instance_tracker.rs and liveliness_tracker.rs of ZeroDDS.
 // Copyright 2026 ZeroDDS Contributors. SPDX-License-Identifier: Apache-2.0. Changed: written anew in Rattle, with the state
 // lent as head and buffers and every call behind one entry.
 use instance_reads::HolderPlace;
+use key_hash::KeyHashed;
 use model::Called;
 use model::ChangesRead;
 use model::Decision;
@@ -29,6 +30,7 @@ ghost use Rattle.model.specs.Calls.{callOfCode};
 ghost use Rattle.model.specs.Reads.{filterRead, orderRead, lastDeliveredRead, nextHandleRead, walkRead, holderInForce, lookupRight, wouldLeaveRead, leftRead, leftOut, statusRead, changesRead, tableRefusal, timeRefusal, listRefusal, leftRefusal, headAlone};
 ghost use Rattle.read_answers.specs.Cases.{decisionAnswer, handleAnswer, timeAnswer, listingAnswer, statusAnswer, changesAnswer};
 ghost use Rattle.instance_reads.specs.HolderPlaces.{holderPlace, bytesAt};
+ghost use Rattle.key_hash.specs.KeyHash.{keyHashOf};
 ghost use Rattle.dcps.specs.Fresh.{freshHead, freshOf};
 
 // ---- every call
@@ -234,4 +236,13 @@ pub fn changes(head: Head) -> ChangesRead
     ensures number { λ r. ⌜ changesAnswer r .number ≡ cond (headAlone 128 head) 0 3 ⌝ }
 {
     writer_validity::changes(head)
+}
+
+// ---- keys
+
+// The key of an instance from its serialized key, whose type's largest size is stated (DDSI-RTPS 2.5, 9.6.4.8).
+pub fn key_hash(serialized: &[u8], largest: u64) -> KeyHashed
+    ensures { λ r. ⌜ r ≡ keyHashOf (now (serialized .entry)) largest ⌝ }
+{
+    key_hash::key_hash(serialized, largest)
 }

@@ -1,5 +1,6 @@
 -- The answers of the reads of instances.
 --     decided, handled, timed, placed     what was read is what is told
+--     hashed                              the same of a KeyHash
 --     left-untold, left-told              the list, where the answer has its length
 -- Assumes nothing.
 use Prim.Native.Nat.{ℕ}
@@ -14,7 +15,9 @@ use Rattle.model.specs.declared.Listing.{Listing}
 use Rattle.model.specs.Reads.{leftRead, leftOut}
 use Rattle.read_answers.specs.declared.ReadAnswer.{ReadAnswer}
 use Rattle.read_answers.specs.Cases.{decisionAnswer, handleAnswer, timeAnswer, listingAnswer, holderAnswer}
+use Rattle.key_hash.specs.declared.KeyHashed.{KeyHashed}
 use Rattle.boundary_reads.specs.ReadAnswers.{toldOf, told}
+use Rattle.boundary_reads.specs.KeyHashes.{toldKeyHash}
 use Rattle.instance_reads.specs.declared.HolderPlace.{HolderPlace}
 use Rattle.dcps_c.specs.Reads.{placeAnswer, toldList, boundaryLeft}
 
@@ -33,6 +36,9 @@ module _ {n : ℕ} (lent left : List ℕ) {a : ReadAnswer} (tells : toldOf n lef
 
   pub placed : (p : HolderPlace) {f : HolderPlace} → a ≡ holderAnswer (p .stored) (p .offset) (p .len) → p ≡ f → toldOf n left ≡ told (placeAnswer f) lent
   placed p e r = retold (e ∙ ap placeAnswer r)
+
+pub hashed : {n : ℕ} (lent left : List ℕ) {k h : KeyHashed} → toldOf n left ≡ toldKeyHash k lent → k ≡ h → toldOf n left ≡ toldKeyHash h lent
+hashed lent left tells e = tells ∙ ap (λ (z : KeyHashed). toldKeyHash z lent) e
 
 module _ (pens gone : List ℕ) (mask : ℕ) (out answer : List ℕ) where
   pub left-untold : (length answer ≡ 24 → ⊥) → toldList 1 out answer ≡ boundaryLeft pens gone mask out answer

@@ -1,5 +1,5 @@
 // The C boundary: every entry of dcps on bytes alone, numbers most significant byte first (include/dcps.h). None has a
-// `requires`: any bytes are answered, or refused with a number of the scope document and nothing written but the answer.
+// `requires`: any bytes are answered, or refused with a number of documents 01 and 02 and nothing written but the answer.
 use model::Answer;
 use model::Called;
 use model::Guid;
@@ -16,6 +16,8 @@ ghost use lib.Dec.{eqb};
 ghost use lib.ListN.{length};
 ghost use Rattle.boundary.specs.Layouts.{answerBytes};
 ghost use Rattle.boundary_reads.specs.ReadAnswers.{toldOf, told};
+ghost use Rattle.boundary_reads.specs.KeyHashes.{toldKeyHash};
+ghost use Rattle.key_hash.specs.KeyHash.{keyHashOf};
 ghost use Rattle.read_answers.specs.Cases.{decisionAnswer, timeAnswer, handleAnswer, statusAnswer};
 ghost use Rattle.model.specs.Answers.{refusedWith};
 ghost use Rattle.model.specs.Handles.{handle};
@@ -337,4 +339,15 @@ pub extern "C" fn dcps_left_writerless(
     }
     let l = dcps::left_writerless(pens, gone, view_states, out);
     boundary_reads::tell(answer, boundary_reads::listing_answer(l))
+}
+
+// ---- keys
+
+// The key of an instance from its serialized key, whose type's largest size is stated (DDSI-RTPS 2.5, 9.6.4.8).
+#[no_mangle]
+pub extern "C" fn dcps_key_hash(serialized: &[u8], largest: u64, answer: &mut [u8]) -> u32
+    ensures { λ r. ⌜ toldOf r (now (answer .exit)) ≡ toldKeyHash (keyHashOf (now (serialized .entry)) largest) (now (answer .entry)) ⌝ }
+{
+    let k = dcps::key_hash(serialized, largest);
+    boundary_reads::tell_key_hash(answer, k)
 }

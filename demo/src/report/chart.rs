@@ -87,11 +87,11 @@ const PATTERNS: &str = "<defs><pattern id=\"stripes\" width=\"6\" height=\"6\" p
 
 /// Instances with most abandonments first come into the picture; they stand in the order of their keys.
 fn shown_instances<'a>(report: &'a Report<'_>) -> Vec<(String, &'a Instance)> {
-    let mut all: Vec<_> = report.history.instances.iter().collect();
+    let mut all: Vec<_> = report.instances().collect();
     if all.len() > ROWS {
         all.sort_by_key(|(_, instance)| std::cmp::Reverse(instance.spells.len()));
         all.truncate(ROWS);
-        all.sort_by_key(|(key, _)| **key);
+        all.sort_by_key(|(key, _)| report.names.order(key));
     }
     all.into_iter().map(|(key, instance)| (report.names.show(key), instance)).collect()
 }

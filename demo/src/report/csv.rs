@@ -27,7 +27,7 @@ const TITLES: [&str; 16] = [
 
 pub fn write(report: &Report<'_>) -> String {
     let mut text = TITLES.join(",") + "\n";
-    for (key, instance) in &report.history.instances {
+    for (key, instance) in report.instances() {
         let key = harmless(report.names.show(key));
         for spell in &instance.spells {
             let cells = row(&key, spell, report);

@@ -13,10 +13,15 @@ use std::fmt::Write;
 const SPELLS_SHOWN: usize = 400;
 const CAUSES_SHOWN: usize = 20;
 
+/// A longer name leaves no room beside it, and is broken.
+const LONG: usize = 48;
+const LONG_NAMES: &str = "p, li, td:first-child, .each td:nth-child(n+4) { overflow-wrap: anywhere; }\ntd:first-child { white-space: normal; }\n";
+
 pub fn write(report: &Report<'_>) -> String {
     let name = escaped(report.name);
+    let long = if report.names.longest() > LONG { LONG_NAMES } else { "" };
     let mut page = format!(
-        "<!DOCTYPE html>\n<html lang=\"en\">\n<head>\n<meta charset=\"utf-8\"/>\n<meta name=\"viewport\" content=\"width=device-width, initial-scale=1\"/>\n<meta name=\"color-scheme\" content=\"light dark\"/>\n<meta http-equiv=\"Content-Security-Policy\" content=\"default-src 'none'; style-src 'unsafe-inline'\"/>\n<title>Why pens are ordered: {name}</title>\n<style>\n{}</style>\n</head>\n<body>\n<main>\n",
+        "<!DOCTYPE html>\n<html lang=\"en\">\n<head>\n<meta charset=\"utf-8\"/>\n<meta name=\"viewport\" content=\"width=device-width, initial-scale=1\"/>\n<meta name=\"color-scheme\" content=\"light dark\"/>\n<meta http-equiv=\"Content-Security-Policy\" content=\"default-src 'none'; style-src 'unsafe-inline'\"/>\n<title>Why pens are ordered: {name}</title>\n<style>\n{}{long}</style>\n</head>\n<body>\n<main>\n",
         include_str!("page.css")
     );
     summary(&mut page, report);
@@ -199,7 +204,7 @@ fn abandonments(page: &mut String, report: &Report<'_>) {
         return;
     }
     page.push_str("<section>\n<h2>Each abandonment</h2>\n<div class=\"scroll\"><table class=\"each\">\n<thead><tr><th class=\"first\">instance</th><th class=\"first\">from</th><th class=\"first\">for</th><th class=\"first\">call and cause</th><th class=\"first\">then</th></tr></thead>\n<tbody>\n");
-    let all = report.history.instances.iter();
+    let all = report.instances();
     let all = all.flat_map(|(key, i)| i.spells.iter().map(move |spell| (key, spell)));
     for (key, spell) in all.take(SPELLS_SHOWN) {
         let _ = writeln!(

@@ -142,6 +142,7 @@ fn counts(counts: &Counts) -> Vec<(&'static str, Json)> {
 }
 
 fn cause(report: &Report<'_>, group: &Group, told: &Told) -> Json {
+    let instances = report.names.list(&group.keys);
     let mut fields = vec![
         ("title", text(told.title)),
         ("what", text(told.what.as_str())),
@@ -152,7 +153,7 @@ fn cause(report: &Report<'_>, group: &Group, told: &Told) -> Json {
         ("false", Json::Bool(group.verdict.is_false())),
         ("writers", guids(&group.lost)),
         ("turned_away_writers", guids(&group.turned)),
-        ("instances", Json::List(group.keys.iter().map(|k| text(report.names.show(k))).collect())),
+        ("instances", Json::List(instances.into_iter().map(text).collect())),
     ];
     fields.extend(counts(&group.counts));
     Json::Object(fields)

@@ -7,7 +7,7 @@ mod json;
 mod text;
 
 use crate::cause::Cause;
-use crate::history::{Guid, History, Spell};
+use crate::history::{Guid, History, Instance, Spell};
 use crate::names::Names;
 use crate::rank::{groups, Counts, Group};
 use crate::tell::{tell, Told};
@@ -67,7 +67,13 @@ impl<'a> Report<'a> {
             instance.spells.iter().for_each(|spell| report.count(spell, &mut counts));
             report.by_instance.push((*key, counts));
         }
+        report.by_instance.sort_by_key(|(key, _)| names.order(key));
         report
+    }
+
+    /// The instances, in the order of their keys.
+    pub fn instances(&self) -> impl Iterator<Item = (&KeyHash, &Instance)> {
+        self.by_instance.iter().filter_map(|(key, _)| Some((key, self.history.instances.get(key)?)))
     }
 
     fn count(&mut self, spell: &Spell, instance: &mut Counts) {
@@ -102,8 +108,10 @@ impl<'a> Report<'a> {
 #[cfg(test)]
 mod tests {
     use super::*;
+    use crate::names::{FITTING, LARGEST};
     use crate::play::{play_text, Step, Watch};
     use crate::random::Days;
+    use crate::table::{Log, Tables};
     use dcps::InstanceStateKind::Alive;
     use dcps::{Instance, InstanceStateKind};
     use std::collections::BTreeSet;
@@ -163,5 +171,30 @@ mod tests {
             }
         }
         assert!(lines > 200, "{lines}");
+    }
+
+    /// All that a day shows, but explanations.
+    fn all_shown(day: &str, largest: u64) -> Vec<String> {
+        let (mut history, mut warnings) = (History::default(), Warnings::default());
+        let (mut tables, mut log) = (Tables::default(), Log::default());
+        let mut names = Names::new(largest);
+        let state =
+            play_text(day, &mut names, &mut [&mut history, &mut warnings, &mut tables, &mut log]);
+        let report = Report::new("day", &history, &names, &warnings);
+        let forms = [Form::Text, Form::Csv, Form::Json, Form::Html];
+        let mut shown: Vec<_> = forms.into_iter().map(|form| report.write(form)).collect();
+        shown.push(tables.text("day", &state, &names).expect("a status"));
+        shown.extend([log.text(), warnings.text("day")]);
+        shown
+    }
+
+    /// What is shown goes by the names: that they are hashed changes nothing.
+    #[test]
+    fn hashed_keys_are_shown_alike() {
+        let mut days = Days::new(11);
+        for _ in 0..60 {
+            let day = days.next_day(100);
+            assert_eq!(all_shown(&day, FITTING), all_shown(&day, LARGEST), "{day}");
+        }
     }
 }

@@ -201,7 +201,7 @@ fn abandonments(text: &mut String, report: &Report<'_>) {
     if report.total.abandoned > 0 {
         text.push_str("\nEach abandonment\n");
     }
-    for (key, instance) in &report.history.instances {
+    for (key, instance) in report.instances() {
         if instance.spells.is_empty() {
             continue;
         }

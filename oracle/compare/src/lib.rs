@@ -1,8 +1,10 @@
 //! The static library beside the reading of 01 and 02 and the Rust: generated
-//! lists through all three, every answer and every byte compared.
+//! lists and keys through all three, every answer and every byte compared.
 
 pub mod case;
 pub mod guarded;
+pub mod key_tally;
+pub mod keys;
 pub mod library;
 pub mod list;
 pub mod reads;
@@ -11,6 +13,8 @@ pub mod shrink;
 pub mod tally;
 
 pub use case::{Case, Fault};
+pub use key_tally::KeyTally;
+pub use keys::KeyCase;
 pub use list::List;
 pub use run::{Parting, Run};
 pub use tally::Tally;

@@ -60,6 +60,7 @@ boundary! {
     writer_lookup = dcps_writer_lookup(pens; high: u64, low: u64; answer);
     would_leave_writerless = dcps_would_leave_writerless(pens, gone; view_states: u32; answer);
     left_writerless = dcps_left_writerless(pens, gone; view_states: u32; out, answer);
+    key_hash = dcps_key_hash(serialized; largest: u64; answer);
     fresh = dcps_fresh(;; head, pens, writers, lost);
 }
 

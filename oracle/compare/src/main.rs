@@ -1,21 +1,29 @@
-//! Compares that many calls of generated lists, from a seed on.
+//! Compares that many calls of generated lists, or that many generated keys,
+//! from a seed on.
 
 use std::env;
 use std::process::ExitCode;
 use std::time::Instant;
 
+use compare::keys::compare_keys;
 use compare::list::Library;
 use compare::run::Parting;
 use compare::shrink::shrink;
-use compare::{List, Tally, library};
+use compare::{KeyCase, List, Tally, library};
 
-const USAGE: &str = "compare SEED CALLS    compare that many calls with the static library";
+const USAGE: &str = "compare SEED CALLS        compare that many calls with the static library
+compare keys SEED COUNT   compare that many KeyHashes with it";
 /// A line of progress after so many calls.
 const PROGRESS: u64 = 1_000_000;
 
 fn main() -> ExitCode {
-    let numbers: Vec<u64> = env::args().skip(1).map_while(|word| word.parse().ok()).collect();
-    let (&[seed, calls], 3) = (numbers.as_slice(), env::args().len()) else {
+    let words: Vec<String> = env::args().skip(1).collect();
+    let (numbers, of_keys) = match words.split_first() {
+        Some((word, numbers)) if word == "keys" => (numbers, true),
+        _ => (words.as_slice(), false),
+    };
+    let numbers: Vec<_> = numbers.iter().map(|word| word.parse::<u64>()).collect();
+    let &[Ok(seed), Ok(count)] = numbers.as_slice() else {
         eprintln!("{USAGE}");
         return ExitCode::FAILURE;
     };
@@ -27,7 +35,24 @@ fn main() -> ExitCode {
         println!("SKIPPED: no sources of ZeroDDS (set ZERO_DDS_SRC)");
         return ExitCode::SUCCESS;
     }
-    compared(seed, calls)
+    if of_keys { keys_compared(seed, count) } else { compared(seed, count) }
+}
+
+fn keys_compared(first: u64, count: u64) -> ExitCode {
+    match compare_keys((0..count).map(|n| first.wrapping_add(n)), library::key_hash) {
+        Ok(tally) => {
+            print!("{tally}");
+            println!("from seed {first}: {} keys, 0 disagreements", tally.keys);
+            ExitCode::SUCCESS
+        }
+        Err((seed, case, parting)) => {
+            println!("seed {seed}: {parting:?}");
+            let parts = |case: &KeyCase| case.compared(library::key_hash).err();
+            let small = case.shrunk(|case| parts(case).is_some());
+            println!("the smallest found: {small}: {:?}", parts(&small).unwrap_or(parting));
+            ExitCode::FAILURE
+        }
+    }
 }
 
 fn compared(first: u64, calls: u64) -> ExitCode {

@@ -20,7 +20,7 @@ use crate::tally::Tally;
 
 pub const READ_BYTES: usize = 24;
 /// What every byte of an answer and of Out is before a read.
-const FILL: u8 = 0xc3;
+pub const FILL: u8 = 0xc3;
 /// Where the holder stands in an instance's record.
 const HOLDER_AT: usize = 112;
 /// Damage, and odd lengths, one in so many times.
@@ -296,13 +296,16 @@ impl Asked<'_> {
 
 /// An answer of the stated length as expected; one of another length is
 /// refused as 1 and left alone.
-fn same_answer(what: &str, expected: &[u8], number: u32, answer: &Guarded) -> Result<(), Parting> {
+pub fn same_answer(
+    what: &str,
+    expected: &[u8],
+    number: u32,
+    answer: &Guarded,
+) -> Result<(), Parting> {
     let length = answer.bytes().len();
-    if length == expected.len() {
-        same_bytes(what, &[expected[0]], &[number as u8])?;
-        answer.same(what, expected)
-    } else {
-        same_bytes(what, &[1], &[number as u8])?;
-        answer.same(what, &vec![FILL; length])
-    }
+    let fits = length == expected.len();
+    let expected_number = if fits { expected[0] } else { 1 };
+    let whole = u32::from(expected_number).to_be_bytes();
+    same_bytes(&format!("number of {what}"), &whole, &number.to_be_bytes())?;
+    if fits { answer.same(what, expected) } else { answer.same(what, &vec![FILL; length]) }
 }

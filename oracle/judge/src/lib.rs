@@ -2,6 +2,7 @@
 //! and through the Rust, and compares every answer and the whole state.
 
 pub mod compare;
+pub mod keys;
 pub mod reads;
 pub mod short;
 

@@ -6,7 +6,9 @@ use lists::fill::{Filled, LEASE_PRESENT, TIME1_PRESENT};
 use lists::{Image, Step};
 use original::Original;
 use reading::bytes::Guid;
+use reading::key_hash::key_hash;
 use reading::layout::{Instance, Standing, Time, Writer};
+use reading::md5::md5;
 use reading::{Answer, State};
 
 const KEY: [u8; 16] = [1; 16];
@@ -120,6 +122,25 @@ fn an_admit_owns_what_it_starts() {
     assert_eq!((answer.number, answer.outcome), (0, 4));
     let (answer, _) = run(State::fresh(), vec![strong(16), strong(9), strong(10), weak(16)]);
     assert!(answer.yes);
+}
+
+/// The Rust takes any length with any size: up to 16 stated it pads the key,
+/// or cuts it at 16 bytes; above it hashes.
+#[test]
+fn a_key_longer_than_stated_or_of_too_large_a_size() {
+    let (short, long) = ([7; 17], [7; 6000]);
+    let cut: Option<[u8; 16]> = original::PRESENT.then_some([7; 16]);
+    assert_eq!((key_hash(&short, 16), original::key_hash_of(&short, 16)), (Err(14), cut));
+    let padded = original::PRESENT.then_some([7, 7, 7, 7, 7, 7, 7, 7, 7, 7, 0, 0, 0, 0, 0, 0]);
+    assert_eq!(
+        (key_hash(&short[..10], 3), original::key_hash_of(&short[..10], 3)),
+        (Err(14), padded)
+    );
+    for (key, largest, number) in [(&long[..18], 17, 14), (&short, 4097, 15), (&long, 5000, 15)] {
+        let hashed = original::PRESENT.then(|| md5(key));
+        assert_eq!(key_hash(key, largest), Err(number));
+        assert_eq!(original::key_hash_of(key, largest as usize), hashed);
+    }
 }
 
 #[test]

@@ -1,4 +1,5 @@
-//! Lists of calls: generated from a seed, or recorded in a file.
+//! Lists of calls: generated from a seed, or recorded in a file. And keys,
+//! generated.
 
 pub mod bench;
 pub mod coverage;
@@ -9,6 +10,7 @@ pub mod format;
 pub mod generate;
 pub mod hostile;
 pub mod image;
+pub mod keys;
 pub mod owners;
 pub mod pools;
 pub mod record;
@@ -21,4 +23,5 @@ pub mod start;
 pub use coverage::Coverage;
 pub use generate::Generator;
 pub use image::{Image, Step};
+pub use keys::SerializedKey;
 pub use owners::FirstOwners;

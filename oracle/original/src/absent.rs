@@ -78,3 +78,7 @@ pub fn two_handles(_: u64) -> Option<(u64, u64, u64)> {
 pub fn handle_of(_: Guid) -> Option<u64> {
     None
 }
+
+pub fn key_hash_of(_: &[u8], _: usize) -> Option<Key> {
+    None
+}

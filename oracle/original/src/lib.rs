@@ -1,4 +1,5 @@
-//! ZeroDDS's instance and liveliness trackers as 01's calls see them.
+//! ZeroDDS's instance and liveliness trackers as 01's calls see them, and its
+//! KeyHash.
 //!
 //! The sources are built as they are, from the directory that `ZERO_DDS_SRC`
 //! names; the build script appends to each copy what sets and gets its state.
@@ -28,10 +29,16 @@ mod driver;
 #[cfg(sources)]
 pub use driver::{Original, Turn, handle_of, two_handles};
 
+/// The KeyHash by the Rust; none where the sources are not at hand.
+#[cfg(sources)]
+pub fn key_hash_of(serialized: &[u8], largest: usize) -> Option<reading::bytes::Key> {
+    Some(key_hash::compute_key_hash(serialized, largest))
+}
+
 #[cfg(not(sources))]
 mod absent;
 #[cfg(not(sources))]
-pub use absent::{Original, Turn, handle_of, two_handles};
+pub use absent::{Original, Turn, handle_of, key_hash_of, two_handles};
 
 /// Whether the sources were at hand when this was built.
 pub const PRESENT: bool = cfg!(sources);

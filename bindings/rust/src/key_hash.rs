@@ -1,0 +1,36 @@
+//! The key of an instance, from the bytes that its key members serialize to.
+
+use crate::{ffi, KeyHash, Refusal};
+
+/// The largest size that can be stated to [`key_hash()`].
+pub const KEY_LARGEST_BYTES: u64 = 4_096;
+
+/// The KeyHash of a serialized key (DDSI-RTPS 2.5, 9.6.4.8), by which an instance is named.
+///
+/// `serialized` has the key members, serialized by the caller: big-endian PLAIN_CDR2 in the order of their member ids,
+/// without a header. `largest` is the largest size that a serialized key of this type can have, and it decides, not the
+/// length of this key: up to 16 the KeyHash is the bytes themselves, zeros behind them; from 17 on it is their MD5 (RFC
+/// 1321), also of a short key. A `string<n>` takes 4 + n + 1 bytes: its length, its characters, the NUL. A type without
+/// a bound, or with one above 4,096, is always hashed: state [`KEY_LARGEST_BYTES`]; a key of more bytes is refused as 14.
+///
+/// Refused as 15 where `largest` is above [`KEY_LARGEST_BYTES`], then as 14 where the key is longer than `largest`.
+///
+/// ```
+/// // The key is a string<40>: its length with the NUL in 4 bytes, its characters, the NUL.
+/// let serialized = |serial: &str| {
+///     let length = serial.len() as u32 + 1;
+///     [&length.to_be_bytes()[..], serial.as_bytes(), &[0]].concat()
+/// };
+/// let largest = 4 + 40 + 1;
+/// let pen = dcps::key_hash(&serialized("plotting pen 0.35 black 004711"), largest)?;
+/// let other = dcps::key_hash(&serialized("plotting pen 0.35 black 004712"), largest)?;
+/// assert_ne!(pen, other);
+///
+/// // 16 stated pads and 17 stated hashes, whatever the length: this is RFC 1321's MD5 ("abc").
+/// assert_eq!(dcps::key_hash(b"abc", 16)?, *b"abc\0\0\0\0\0\0\0\0\0\0\0\0\0");
+/// assert_eq!(dcps::key_hash(b"abc", 17)?, 0x900150983cd24fb0d6963f7d28e17f72_u128.to_be_bytes());
+/// # Ok::<(), dcps::Refusal>(())
+/// ```
+pub fn key_hash(serialized: &[u8], largest: u64) -> Result<KeyHash, Refusal> {
+    Ok(ffi::key_hash(serialized, largest)?.key_hash)
+}

@@ -1,0 +1,2 @@
+-- What the contracts of key_hash cite.
+pub mod KeyHash
