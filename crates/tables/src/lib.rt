@@ -36,22 +36,22 @@ pub fn keys_rise(t: &[u8], size: usize, count: usize) -> bool
     true
 }
 
-// How many of the first count records stand before the key: a binary search.
+// How many of the first count records stand before the key: a binary search, in 16 bits, as there are 128 at most.
 pub fn lower_bound(t: &[u8], size: usize, count: usize, key: Guid) -> usize
     requires { ⌜ (16 ≤ size) × (count ≤ 128) × (count * size ≤ length (now t)) × (rising (keys size count (now t)) ≡ true) ⌝ }
     ensures { λ r. ⌜ r ≡ lowerBound (keys size count (now (t .entry))) (num key) ⌝ }
 {
-    let mut lo = 0;
-    let mut hi = count;
+    let mut lo = 0u16;
+    let mut hi = count as u16;
     while lo < hi {
-        let mid = lo + (hi - lo) / 2;
-        if guid::is_less(guid::guid_at(t, mid * size), key) {
+        let mid = (lo + hi) / 2;
+        if guid::is_less(guid::guid_at(t, mid as usize * size), key) {
             lo = mid + 1;
         } else {
             hi = mid;
         }
     }
-    lo
+    lo as usize
 }
 
 // The place of the key among the first count records.

@@ -22,14 +22,23 @@ abbrev μ-loop : tie.MeasureT-loop
 abbrev K : tie.Start Inv-loop μ-loop → List ℕ
 K s = keys (s .args .size) (s .args .count) (s .args .t .now)
 
+-- as many as there are records
+many : (s : tie.Start Inv-loop μ-loop) → length (K s) ≡ s .args .count
+many s = length-keys (s .args .size) (s .args .count) (s .args .t .now)
+
+-- 128 records at most
+cast-hi : tie.Need-cast-hi Inv-loop μ-loop
+cast-hi c = omega arith
+
+loop-holds : tie.Need-loop-holds Inv-loop μ-loop
+loop-holds c = bracket-start _ _ _ (many (c .before))
+
 -- the middle of a turn, which is a place
 abbrev Mid : tie.In-loop Inv-loop μ-loop → ℕ
-Mid c = c .before .loop .lo + (c .before .loop .hi - c .before .loop .lo) / 2
+Mid c = (c .before .loop .lo + c .before .loop .hi) / 2
 
 mid-lt : (c : tie.In-loop Inv-loop μ-loop) → Mid c < c .before .before .before .args .count
-mid-lt c =
-    let a = c .before .before .before .args in
-    omega (arith, length-keys (a .size) (a .count) (a .t .now))
+mid-lt c = omega (arith, many (c .before .before .before))
 
 room : (c : tie.In-loop Inv-loop μ-loop)
     → (let a = c .before .before .before .args in Mid c * a .size + a .size ≤ length (a .t .now))
@@ -40,14 +49,11 @@ key-is c =
     let a = c .before .before .before .before .args in
     getD-keys (a .size) (a .count) (a .t .now) (Mid (c .before)) (mid-lt (c .before)) ∙ sym (ap num (c .guid-at .ensures))
 
-loop-holds : tie.Need-loop-holds Inv-loop μ-loop
-loop-holds c = bracket-start _ _ _ (length-keys (c .before .args .size) (c .before .args .count) (c .before .args .t .now))
-
-sub-mid : tie.Need-sub-mid Inv-loop μ-loop
-sub-mid c = omega arith
-
 add-mid : tie.Need-add-mid Inv-loop μ-loop
-add-mid c = omega (arith, mid-lt c)
+add-mid c = omega (arith, many (c .before .before .before))
+
+cast-guid-at : tie.Need-cast-guid-at Inv-loop μ-loop
+cast-guid-at c = omega (arith, mid-lt c)
 
 mul-guid-at : tie.Need-mul-guid-at Inv-loop μ-loop
 mul-guid-at c = omega (arith, room c)
@@ -79,6 +85,9 @@ loop-again-2 c =
     bracket-down (i .before .before .before .pre .3) (i .before .loop .inv) (Mid i) (omega arith) (omega arith)
     (rw (key-is (c .before .before)) (ltb-false _ _ (sym (c .before .is-less .ensures) ∙ c .if1 .left)))
 
+cast-result : tie.Need-cast-result Inv-loop μ-loop
+cast-result c = omega (arith, many (c .before .before .before))
+
 returns : tie.Need-returns Inv-loop μ-loop
 returns c =
     let s = c .before .before .before in
@@ -90,9 +99,10 @@ lower-bound-spec =
     (tie.spec
     Inv-loop
     μ-loop
+    cast-hi
     loop-holds
-    sub-mid
     add-mid
+    cast-guid-at
     mul-guid-at
     guid-at-requires
     is-less-requires
@@ -101,4 +111,5 @@ lower-bound-spec =
     loop-again
     loop-less-2
     loop-again-2
+    cast-result
     returns)
