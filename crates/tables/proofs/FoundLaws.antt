@@ -6,6 +6,7 @@
 --     lower-found, lower-missing           what is found, from the lower bound
 --     found-at                             At i says that it stands at i, and is said where key i is it
 --     found-missing                        Missing i says that it would go in at i, and is said where it would
+--     number-le, insert-le                 of 128 keys at most: no record number above 127, no place to insert above 128
 -- Assumes nothing.
 use mathlib.Core.Path.{_≡_, refl, sym, ap}
 use mathlib.Core.Logic.{⊎-elim}
@@ -130,3 +131,11 @@ lower-found ks k p q l e = rw (q, lt-ltb p (length ks) l, eq-eqb (getD ks p 0) k
 
 pub lower-missing : (ks : List ℕ) (k p : ℕ) → lowerBound ks k ≡ p → (p < length ks → getD ks p 0 ≡ k → ⊥) → foundIn ks k ≡ Missing p
 lower-missing ks k p q n = found-step (λ (r : Found). r ≡ Missing p) ks k (λ l e. absurd (n (rw q at l) (rw q at e))) (λ m. ap Missing q)
+
+-- document 02, request 3
+module _ (ks : List ℕ) (k i : ℕ) (most : length ks ≤ 128) where
+  pub number-le : foundIn ks k ≡ At i → i ≤ 127
+  number-le f = omega (arith, found-at ks k i f .within)
+
+  pub insert-le : rising ks ≡ true → foundIn ks k ≡ Missing i → i ≤ 128
+  insert-le r f = omega (arith, found-missing ks k i r f .within)
