@@ -29,7 +29,8 @@
  *     samples are taken or seen      note_taken, mark_view_seen
  *     the status is asked for        take_status, or dcps_status
  *     The other calls are parts of these, for a caller that decides more by itself. docs/INTEGRATION.md (in the package
- *     share/doc/dcps) has the recipes for a DDS reader: shared topics, owners, samples that are turned away, leases, crashes.
+ *     share/doc/dcps) has the recipes for a DDS reader: shared topics, owners, samples that are turned away, leases, crashes,
+ *     keys, stamps.
  *
  * Promise
  *     Every function answers any bytes of any length: with 0, or refused with a number of enum dcps_refusal. It returns
@@ -37,8 +38,9 @@
  *     is written; where the answer's own length is wrong nothing at all is written. A length of any size other than the
  *     stated one is refused as 1, but for that of a serialized key, which 15 and 14 judge. It writes within the lengths
  *     that it is given, it ends, and what it writes is what the definitions (crates/model/specs of the source; of keys
- *     crates/key_hash/specs and crates/md5/specs) say: that is proved of its source, not of the compiler that made the
- *     archive. dcps_fresh has no answer, only its number; dcps_version takes nothing and returns no number of these.
+ *     crates/key_hash/specs and crates/md5/specs; of wire time crates/wire_time/specs) say: that is proved of its source,
+ *     not of the compiler that made the archive. dcps_fresh has no answer, only its number; dcps_version takes nothing and
+ *     returns no number of these.
  *
  * Outside the promise
  *     A null pointer, also with length 0. A pointer to fewer bytes than its length says. Two pointers of one call whose
@@ -60,13 +62,16 @@
  * Alignment: none is needed, of any pointer.
  * Byte order: all numbers in head, sheet, buffers, out and answers stand most significant byte first, bits too (bit 7 of a
  *     byte is the first); one with a sign in two's complement. A state may move between machines as it is.
- * Stack: dcps_call needs less than 16 KiB below its caller's frame, every other function less than 4 KiB
- *     (DCPS_STACK_BYTES). Measured, not proved: examples/c/stack.c of the source paints a thread's stack, makes every call on
- *     empty and on full states, hashes keys of many lengths and looks how far the paint is gone.
+ * Stack: dcps_call needs less than 16 KiB below its caller's frame (DCPS_STACK_BYTES), dcps_wire_fraction, which has a table,
+ *     less than 8 KiB, every other function less than 4 KiB. Measured, not proved: examples/c/stack.c of the source paints a
+ *     thread's stack, makes every call on empty and on full states, hashes keys of many lengths, converts stamps and looks how
+ *     far the paint is gone.
  * Platform: Linux on x86-64, System V ABI, ELF, position-independent; no symbol but memcpy, memmove and memset is
  *     taken from elsewhere. The archive links into executables and shared objects, C, C++ and Rust.
  * Times: a time is i32 seconds and u32 nanoseconds (below 10^9) of any epoch. Clocks and leases are u64 nanoseconds
- *     (below 2^62) of any clock that does not go back. The two need not agree; the library reads no clock.
+ *     (below 2^62) of any clock that does not go back. The two need not agree; the library reads no clock. A stamp of RTPS
+ *     has a 32-bit fraction of a second in the place of nanoseconds: dcps_wire_fraction makes it,
+ *     dcps_wire_nanos makes nanoseconds of it again, with DCPS_REMAINDER_UNKNOWN where it came over the wire.
  */
 #ifndef DCPS_H
 #define DCPS_H
@@ -95,7 +100,7 @@ extern "C" {
 #define DCPS_LOST_BYTES 4096    /* 256 GUIDs */
 #define DCPS_OUT_BYTES 4096
 #define DCPS_ANSWER_BYTES 72 /* of dcps_call and dcps_status */
-#define DCPS_READ_BYTES 24   /* of the other reads and of dcps_key_hash */
+#define DCPS_READ_BYTES 24   /* of every other function that answers */
 
 #define DCPS_INSTANCE_BYTES 512
 #define DCPS_WRITER_BYTES 40
@@ -121,7 +126,7 @@ enum dcps_refusal {
     DCPS_REFUSED_LENGTH = 1,      /* a length other than stated */
     DCPS_REFUSED_CODE = 2,        /* unknown call code */
     DCPS_REFUSED_STATE = 3,       /* head and buffers are not well formed (see the records below), or the 64 bytes are no head's */
-    DCPS_REFUSED_NANOSECONDS = 4, /* nanoseconds of 10^9 or more in a used time */
+    DCPS_REFUSED_NANOSECONDS = 4, /* nanoseconds of 10^9 or more, in a used time or in dcps_wire_fraction */
     DCPS_REFUSED_CLOCK = 5,       /* a used clock or lease of 2^62 or more */
     DCPS_REFUSED_HOLDER = 6,      /* a used holder longer than 144 bytes */
     DCPS_REFUSED_KIND = 7,        /* kind 3 in matched */
@@ -389,7 +394,7 @@ enum dcps_code {
 #define DCPS_ANSWER_LAST_PUBLICATION 64 /* u64: 64-bit FNV-1a of the GUID of the head's last writer, 1 where that is 0; or 0
                                          * for none */
 
-/* ---- the answer of the other reads and of dcps_key_hash, 24 bytes; what is not answered is 0 */
+/* ---- the answer of every other function that has one, 24 bytes; what is not answered is 0 */
 
 #define DCPS_READ_NUMBER 0      /* u8: enum dcps_refusal */
 #define DCPS_READ_YES 1         /* u8: 0 or 1 */
@@ -397,12 +402,15 @@ enum dcps_code {
 #define DCPS_READ_STORED 3      /* u8: 0 or 1, a holder is stored */
 #define DCPS_READ_LISTED 4      /* u32: entries written to out */
 #define DCPS_READ_LENGTH 4      /* u32: of a stored holder */
+#define DCPS_READ_FRACTION 4    /* u32: of a second, in 2^-32 s */
+#define DCPS_READ_WIRE_NANOS 4  /* u32: what dcps_wire_nanos answers, no part of the time at 16 */
 #define DCPS_READ_HANDLE 8      /* u64 */
 #define DCPS_READ_CHANGES 8     /* u64 */
 #define DCPS_READ_OFFSET 8      /* u64: of a stored holder, in pens */
 #define DCPS_READ_KEY_HASH 8    /* 16: the key of an instance */
-#define DCPS_READ_SECONDS 16    /* i32 */
-#define DCPS_READ_NANOSECONDS 20 /* u32 */
+#define DCPS_READ_REMAINDER 8   /* u64, below 10^9: what the division leaves that gave the fraction */
+#define DCPS_READ_SECONDS 16    /* i32: of a time */
+#define DCPS_READ_NANOSECONDS 20 /* u32: of that time */
 
 /* ---- the head, 64 bytes
  *
@@ -558,6 +566,22 @@ uint32_t dcps_left_writerless(const uint8_t *pens, size_t pens_len, const uint8_
  * answer's length alone; 15; then 14. */
 uint32_t dcps_key_hash(const uint8_t *serialized, size_t serialized_len, uint64_t largest, uint8_t *answer,
                        size_t answer_len);
+
+/* Nanoseconds below 10^9 as the fraction of a second that a stamp of RTPS carries: fraction is nanosec * 2^32 / 10^9 rounded
+ * down, remainder what that division leaves, at whole milliseconds too. The remainder is below 10^9, fits a uint32_t and goes
+ * with the fraction where the nanoseconds are wanted again. No state is lent; the seconds of a stamp are the caller's.
+ * Refused: 1, for the answer's length alone; 4. */
+uint32_t dcps_wire_fraction(uint32_t nanosec, uint8_t *answer, size_t answer_len);
+
+/* In the place of a remainder that is not known, as that of a stamp which came over the wire. */
+#define DCPS_REMAINDER_UNKNOWN 999999999
+
+/* The nanoseconds of a fraction: wire nanos is (fraction * 10^9 + remainder) / 2^32 rounded down. Of what dcps_wire_fraction
+ * answered it is the nanosec that it was given. With DCPS_REMAINDER_UNKNOWN it is that nanosec too, of every fraction less
+ * than 1 from nanosec * 2^32 / 10^9, so whichever way the sender rounded; with a remainder of 0 it can be 1 less. It is
+ * below 10^9 where the remainder is, and 10^9 at most. A stamp that means invalid or infinite has a fraction too: look for it
+ * first. Refused: 1, for the answer's length alone. */
+uint32_t dcps_wire_nanos(uint32_t fraction, uint32_t remainder, uint8_t *answer, size_t answer_len);
 
 #ifdef __cplusplus
 }

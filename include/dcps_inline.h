@@ -527,6 +527,9 @@ DCPS_ACCESSOR(dcps_read_length, u32, uint32_t, DCPS_READ_LENGTH)
 DCPS_ACCESSOR(dcps_read_handle, u64, uint64_t, DCPS_READ_HANDLE)
 DCPS_ACCESSOR(dcps_read_changes, u64, uint64_t, DCPS_READ_CHANGES)
 DCPS_ACCESSOR(dcps_read_offset, u64, uint64_t, DCPS_READ_OFFSET)
+DCPS_ACCESSOR(dcps_read_fraction, u32, uint32_t, DCPS_READ_FRACTION)
+DCPS_ACCESSOR(dcps_read_remainder, u64, uint32_t, DCPS_READ_REMAINDER)
+DCPS_ACCESSOR(dcps_read_wire_nanos, u32, uint32_t, DCPS_READ_WIRE_NANOS)
 
 /* The key that dcps_key_hash made, 16 bytes. */
 static inline const uint8_t *dcps_read_key_hash(const uint8_t *read)
@@ -764,7 +767,7 @@ static inline const uint8_t *dcps_out_guid(const uint8_t *out, size_t place)
 #define DCPS_EACH_GUID(g, out, listed)                                                                \
     for (const uint8_t *g = (out), *g##_end = dcps_out_guid((out), (listed)); g != g##_end; g += DCPS_GUID_BYTES)
 
-/* ---- keys from serialized ones; keys and GUIDs as the reads take them; the handle by which a status names a writer */
+/* ---- keys from serialized ones; stamps on the wire; keys and GUIDs as the reads take them; a status's handle of a writer */
 
 /* The key of an instance from its serialized key, by dcps_key_hash. Returns the number. Where it is not 0, key is 16 zeros,
  * which is a key too: look at the number. */
@@ -774,6 +777,26 @@ static inline uint32_t dcps_key_of(uint8_t *key, const uint8_t *serialized, size
     uint32_t number = dcps_key_hash(serialized, length, largest, read, sizeof read);
     memcpy(key, dcps_read_key_hash(read), DCPS_KEY_BYTES);
     return number;
+}
+
+/* The fraction of a stamp and its remainder from nanoseconds, by dcps_wire_fraction. Returns the number. Where it is not 0,
+ * both are 0, as those of a whole second are: look at the number. Both are written, so neither pointer is null. */
+static inline uint32_t dcps_fraction_of(uint32_t *fraction, uint32_t *remainder, uint32_t nanosec)
+{
+    uint8_t read[DCPS_READ_BYTES];
+    uint32_t number = dcps_wire_fraction(nanosec, read, sizeof read);
+    *fraction = dcps_read_fraction(read);
+    *remainder = dcps_read_remainder(read);
+    return number;
+}
+
+/* The nanoseconds of a fraction, by dcps_wire_nanos, which refuses none. The remainder of a stamp that came over the wire is
+ * DCPS_REMAINDER_UNKNOWN. */
+static inline uint32_t dcps_nanos_of(uint32_t fraction, uint32_t remainder)
+{
+    uint8_t read[DCPS_READ_BYTES];
+    dcps_wire_nanos(fraction, remainder, read, sizeof read);
+    return dcps_read_wire_nanos(read);
 }
 
 static inline uint64_t dcps_high(const uint8_t *guid)

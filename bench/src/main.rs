@@ -1,12 +1,14 @@
 //! Times the same lists through the original Rust trackers and through the
 //! static library, and one pass over the lent bytes as the floor; then keys
-//! through the library and through a plain MD5 in Rust.
+//! through the library and through a plain MD5 in Rust, and stamps beside
+//! plain arithmetic.
 
 mod calls;
 mod keys;
 mod md5;
 mod mixes;
 mod reads;
+mod stamps;
 mod state;
 
 use std::hint::black_box;
@@ -46,6 +48,7 @@ fn main() {
     }
     each_call(floor);
     keys::each_key();
+    stamps::each_conversion();
 }
 
 /// The library's time for each call by itself, on the last of the sizes.

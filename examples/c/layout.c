@@ -1,10 +1,10 @@
 /* Every builder and every accessor of dcps_inline.h at work, as text that the test of the Rust bindings
  * (bindings/rust/tests/inline.rs) compares with its own:
  *
- *     layout sheets           a line for each builder, its sheet in hexadecimal; then words, keys and handles
+ *     layout sheets           a line for each builder, its sheet in hexadecimal; then words, keys, stamps and handles
  *     layout state FILE       head, records, lost and out of a state's bytes
  *     layout answers FILE     answers of 72 bytes
- *     layout reads FILE       answers of reads, 24 bytes each */
+ *     layout reads FILE       answers of reads, of keys and of stamps, 24 bytes each */
 #include <inttypes.h>
 #include <stdio.h>
 #include <stdlib.h>
@@ -111,6 +111,19 @@ static void print_keys(const uint8_t *serialized)
     }
 }
 
+/* Nanoseconds to a fraction and its remainder, and back by both and by the fraction alone; the last are refused as 4. */
+static void print_stamps(void)
+{
+    static const uint32_t nanosec[] = {0, 1, 100000000, 999999999, 1000000000};
+    uint32_t fraction, remainder;
+    size_t i;
+    for (i = 0; i < sizeof nanosec / sizeof *nanosec; i++) {
+        printf("stamp %" PRIu32, dcps_fraction_of(&fraction, &remainder, nanosec[i]));
+        printf(" %" PRIu32 " %" PRIu32 " %" PRIu32 " %" PRIu32 "\n", fraction, remainder, dcps_nanos_of(fraction, remainder),
+               dcps_nanos_of(fraction, DCPS_REMAINDER_UNKNOWN));
+    }
+}
+
 static void print_sheets(void)
 {
     uint8_t key[DCPS_KEY_BYTES], guid[DCPS_GUID_BYTES];
@@ -125,6 +138,7 @@ static void print_sheets(void)
     for (i = 0; i <= 16; i++)
         printf("refusal %" PRIu32 " %s\n", i, dcps_refusal_text(i));
     print_keys(guid);
+    print_stamps();
     printf("guid %" PRIx64 " %" PRIx64 " %" PRIu64 "\n", dcps_high(guid), dcps_low(guid), dcps_handle_of_guid(guid));
 }
 
@@ -230,7 +244,7 @@ static void print_read(const uint8_t *a)
            dcps_read_changes(a), dcps_read_offset(a));
     print_time(1, time);
     print_bytes(dcps_read_key_hash(a), DCPS_KEY_BYTES);
-    printf("\n");
+    printf(" %" PRIu32 " %" PRIu32 " %" PRIu32 "\n", dcps_read_fraction(a), dcps_read_remainder(a), dcps_read_wire_nanos(a));
 }
 
 /* A kind that is none is refused, and a body may use the answer again from which the number of turns came. */

@@ -1,6 +1,6 @@
 /* How much stack the library takes: a thread's stack is painted, calls are made on it, and the paint that is gone below the
- * caller's frame is counted. Every code and every read, on a fresh, a full and a damaged state; keys of many lengths. Fails
- * where a call takes more than DCPS_STACK_BYTES, or another function more than 4 KiB. */
+ * caller's frame is counted. Every code and every read, on a fresh, a full and a damaged state; keys of many lengths; stamps.
+ * Fails where a call takes DCPS_STACK_BYTES, a stamp 8 KiB or another function 4 KiB. */
 #define _POSIX_C_SOURCE 200809L
 #include <pthread.h>
 #include <stdio.h>
@@ -10,7 +10,8 @@
 
 #define STACK (512 * 1024)
 #define PAINT 0xa5
-#define OTHERS 4096 /* what the header says of all functions but dcps_call */
+#define STAMPS 8192 /* what the header says of dcps_wire_fraction */
+#define OTHERS 4096 /* and of all other functions but dcps_call */
 
 static unsigned char *stack;
 static struct dcps_state fresh, full, used;
@@ -39,6 +40,15 @@ static void make_read(void)
     case 9: dcps_would_leave_writerless(p, n, gone, sizeof gone, 3, answer, DCPS_READ_BYTES); break;
     case 10: dcps_left_writerless(p, n, gone, sizeof gone, 3, used.out, sizeof used.out, answer, DCPS_READ_BYTES); break;
     default: dcps_state_fresh(&used); break;
+    }
+}
+
+static void make_stamp(void)
+{
+    switch (which) {
+    case 0: dcps_wire_fraction(999000000, answer, DCPS_READ_BYTES); break;
+    case 1: dcps_wire_fraction(999999999, answer, DCPS_READ_BYTES); break;
+    default: dcps_wire_nanos(4294967291u, DCPS_REMAINDER_UNKNOWN, answer, DCPS_READ_BYTES); break;
     }
 }
 
@@ -133,9 +143,20 @@ static size_t keys_depth(void)
     return deepest;
 }
 
+/* The deepest of a whole millisecond, other nanoseconds and the way back. */
+static size_t stamps_depth(void)
+{
+    size_t deepest = 0, deep;
+    for (which = 0; which < 3; which++) {
+        deep = depth(make_stamp);
+        deepest = deep > deepest ? deep : deepest;
+    }
+    return deepest;
+}
+
 int main(void)
 {
-    size_t calls = 0, reads = 0, keys, deep;
+    size_t calls = 0, reads = 0, keys, stamps, deep;
     unsigned code, state;
     void *area = NULL;
     if (posix_memalign(&area, 4096, STACK) != 0)
@@ -168,8 +189,9 @@ int main(void)
             }
         }
     keys = keys_depth();
-    printf("stack: %zu bytes for a call, %zu for a read or fresh, %zu for a key; the header says %d and %d\n", calls, reads, keys,
-           DCPS_STACK_BYTES, OTHERS);
+    stamps = stamps_depth();
+    printf("stack: %zu bytes for a call, %zu for a stamp, %zu for a read or fresh, %zu for a key; the header says %d, %d and %d\n",
+           calls, stamps, reads, keys, DCPS_STACK_BYTES, STAMPS, OTHERS);
     free(area);
-    return calls > DCPS_STACK_BYTES || reads > OTHERS || keys > OTHERS;
+    return calls >= DCPS_STACK_BYTES || stamps >= STAMPS || reads >= OTHERS || keys >= OTHERS;
 }

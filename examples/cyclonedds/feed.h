@@ -18,7 +18,8 @@ enum feed_without {
     WITHOUT_LAPSE = 32,   /* lapse, not expire alone */
     WITHOUT_ASSERT = 64,  /* a sample asserts its writer */
     WITHOUT_FORGET = 128, /* free the records of departed writers */
-    WITHOUT_STATED = 256  /* state the largest size of the key's type */
+    WITHOUT_STATED = 256, /* state the largest size of the key's type */
+    WITHOUT_REMAINDER = 512 /* let 999999999 stand for a remainder that is not known */
 };
 
 struct feed {
@@ -51,6 +52,12 @@ static inline uint32_t feed_call(struct feed *f)
 static inline uint32_t feed_key(const struct feed *f, uint8_t *key, const uint8_t *serialized, size_t length, uint64_t largest)
 {
     return dcps_key_of(key, serialized, length, f->without & WITHOUT_STATED ? length : largest);
+}
+
+/* The time of a stamp that came over the wire, where the transport hands its fraction over and not nanoseconds. */
+static inline struct dcps_time feed_time(const struct feed *f, int32_t sec, uint32_t fraction)
+{
+    return dcps_time_of(sec, dcps_nanos_of(fraction, f->without & WITHOUT_REMAINDER ? 0 : DCPS_REMAINDER_UNKNOWN));
 }
 
 /* The record of a key, or null. */

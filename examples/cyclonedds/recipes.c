@@ -27,6 +27,7 @@ static void begin(int exclusive, unsigned without)
 {
     dcps_state_fresh(&f.state);
     f.exclusive = exclusive;
+    f.by_source = 0;
     f.without = without;
     feed_matched(&f, &strong, 1);
     feed_matched(&f, &weak, 1);
@@ -126,6 +127,16 @@ static int one_key_both_ways(unsigned without)
     return dcps_head_instances(f.state.head) == 1;
 }
 
+/* By source, a sample that came over the wire and the same one from a store, which has its nanoseconds, are of one time: the
+ * second is turned away. The fraction is that of 100 ms, rounded down. */
+static int one_time_both_ways(unsigned without)
+{
+    begin(0, without);
+    f.by_source = 1;
+    feed_sample(&f, &strong, key, feed_time(&f, 2, 429496729), at(3), 3);
+    return feed_sample(&f, &strong, key, dcps_time_of(2, 100000000), at(4), 4) == DCPS_OUT_OF_ORDER;
+}
+
 /* Only an admitted sample revives: code 6 puts a writer into an instance without writers, and it stays so. Nor does a
  * dispose record its writer. */
 static int only_samples_revive(void)
@@ -156,6 +167,7 @@ static const struct {
     {"a sample asserts its writer", sample_asserts, WITHOUT_ASSERT},
     {"crashes leave room for new writers", crashes_leave_room, WITHOUT_FORGET},
     {"a key is the same with its KeyHash and without", one_key_both_ways, WITHOUT_STATED},
+    {"a time is the same over the wire and from a store", one_time_both_ways, WITHOUT_REMAINDER},
 };
 
 static int failed;

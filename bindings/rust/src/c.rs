@@ -128,4 +128,11 @@ unsafe extern "C" {
         answer: *mut u8,
         answer_len: usize,
     ) -> u32;
+    pub fn dcps_wire_fraction(nanosec: u32, answer: *mut u8, answer_len: usize) -> u32;
+    pub fn dcps_wire_nanos(
+        fraction: u32,
+        remainder: u32,
+        answer: *mut u8,
+        answer_len: usize,
+    ) -> u32;
 }

@@ -5,7 +5,7 @@ use crate::layout::{
     SHEET_BYTES,
 };
 use crate::state::{refusal, Lent};
-use crate::{InstanceHandle, KeyHash, Refusal, Time};
+use crate::{InstanceHandle, KeyHash, Refusal, Time, WireFraction};
 
 #[allow(dead_code)]
 #[path = "c.rs"]
@@ -65,6 +65,8 @@ pub(crate) struct Read {
     pub changes: u64,
     pub key_hash: KeyHash,
     pub time: Time,
+    pub wire: WireFraction,
+    pub wire_nanos: u32,
 }
 
 impl Read {
@@ -78,6 +80,8 @@ impl Read {
             changes: u64_at(b, 8),
             key_hash: array_at(b, 8),
             time: Time { sec: i32_at(b, 16), nanosec: u32_at(b, 20) },
+            wire: WireFraction { fraction: u32_at(b, 4), remainder: u64_at(b, 8) as u32 },
+            wire_nanos: u32_at(b, 4),
         }
     }
 
@@ -131,6 +135,8 @@ reads! {
     would_leave_writerless = dcps_would_leave_writerless(pens: &Pens, gone: &[u8]; view_states: u32);
     changes = dcps_changes(head: &[u8; HEAD_BYTES];);
     key_hash = dcps_key_hash(serialized: &[u8]; largest: u64);
+    wire_fraction = dcps_wire_fraction(; nanosec: u32);
+    wire_nanos = dcps_wire_nanos(; fraction: u32, remainder: u32);
 }
 
 pub(crate) fn left_writerless(

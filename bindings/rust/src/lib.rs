@@ -34,6 +34,7 @@ mod state;
 #[cfg(feature = "std")]
 mod trackers;
 mod types;
+mod wire_time;
 
 pub use {
     answer::Answer,
@@ -48,6 +49,7 @@ pub use {
         view_state_mask, InstanceHandle, InstanceStateKind, KeyHash, LivelinessChangedStatus,
         LivelinessKind, Time, HANDLE_NIL,
     },
+    wire_time::{wire_fraction, wire_nanos, WireFraction, REMAINDER_UNKNOWN},
 };
 
 #[cfg(feature = "alloc")]

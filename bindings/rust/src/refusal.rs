@@ -29,7 +29,7 @@ pub enum Refusal {
     /// 3: not well formed. Only bytes that a state is made of can meet it, in
     /// [`State::from_parts`](crate::State::from_parts) and [`State::over`](crate::State::over).
     NotWellFormed,
-    /// 4: nanoseconds of 10^9 or more in a used time.
+    /// 4: nanoseconds of 10^9 or more, in a used time or in [`wire_fraction`](crate::wire_fraction).
     Nanoseconds,
     /// 5: used clock or lease of 2^62 nanoseconds or more.
     ClockOrLease,

@@ -32,7 +32,8 @@ pub mod view_state_mask {
 pub struct Time {
     /// Seconds, which may be negative.
     pub sec: i32,
-    /// Nanoseconds; a call that uses 10^9 or more of them is refused as 4.
+    /// Nanoseconds; a call that uses 10^9 or more of them is refused as 4. [`wire_nanos`](crate::wire_nanos) makes them
+    /// from the fraction of a stamp that came over the wire.
     pub nanosec: u32,
 }
 

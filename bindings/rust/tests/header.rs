@@ -62,7 +62,7 @@ fn one_declaration() {
     let header = functions(&code(HEADER), "uint32_t dcps_", ");", argument);
     let declared = functions(&code(DECLARED), "pub fn dcps_", ") -> u32;", str::to_owned);
     assert_eq!(header, declared);
-    assert!(header.len() >= 15);
+    assert!(header.len() >= 17);
 }
 
 /// The number behind a name of the header, in a macro or an enum.
@@ -112,6 +112,11 @@ fn largest_size() {
     assert_eq!(largest, dcps::KEY_LARGEST_BYTES);
     assert!(dcps::key_hash(&[], largest).is_ok());
     assert_eq!(dcps::key_hash(&[], largest + 1), Err(Refusal::LargestSize));
+}
+
+#[test]
+fn unknown_remainder() {
+    assert_eq!(number("DCPS_REMAINDER_UNKNOWN"), dcps::REMAINDER_UNKNOWN);
 }
 
 /// The examples of the README are those that are built and run.

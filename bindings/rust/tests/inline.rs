@@ -3,8 +3,9 @@
 
 use dcps::keep::{Keeper, AREA_BYTES};
 use dcps::{
-    Answer, Instance, InstanceHandle, InstanceStateKind, LivelinessChangedStatus, LivelinessKind,
-    Refusal, Sample, Sheet, State, Time, WriterLiveliness, WriterState,
+    wire_fraction, wire_nanos, Answer, Instance, InstanceHandle, InstanceStateKind,
+    LivelinessChangedStatus, LivelinessKind, Refusal, Sample, Sheet, State, Time, WireFraction,
+    WriterLiveliness, WriterState, REMAINDER_UNKNOWN,
 };
 use std::fmt::Write;
 use std::path::{Path, PathBuf};
@@ -72,6 +73,15 @@ fn hex(bytes: &[u8]) -> String {
 fn halves(bytes: &[u8; 16]) -> (u64, u64) {
     let half = |at| u64::from_be_bytes(*bytes[at..].first_chunk().expect("8 bytes"));
     (half(0), half(8))
+}
+
+/// Nanoseconds to a fraction and its remainder, and back by both and by the fraction alone.
+fn stamp(nanosec: u32) -> String {
+    let made = wire_fraction(nanosec);
+    let number = made.err().map_or(0, Refusal::number);
+    let WireFraction { fraction, remainder } = made.unwrap_or_default();
+    let (kept, came) = (wire_nanos(fraction, remainder), wire_nanos(fraction, REMAINDER_UNKNOWN));
+    format!("stamp {number} {fraction} {remainder} {kept} {came}")
 }
 
 #[test]
@@ -156,6 +166,7 @@ fn builders() {
         let number = made.err().map_or(0, Refusal::number);
         format!("key {number} {}", hex(&made.unwrap_or_default()))
     }));
+    expected.extend([0, 1, 100_000_000, 999_999_999, 1_000_000_000].map(stamp));
     let ((high, low), own) = (halves(&guid), InstanceHandle::from_guid(guid).as_raw());
     expected.push(format!("guid {high:x} {low:x} {own}"));
     assert_eq!(lines(layout(), &["sheets"]), expected);
@@ -316,14 +327,13 @@ fn answers() {
     assert!(expected.len() > 3_000 && printed("answers", &bytes) == expected);
 }
 
-#[test]
-fn reads() {
-    let state = state().expect("all accepted");
+/// The answers of some reads, of a key and of both conversions of a stamp, 24 bytes each.
+fn answers_of_reads(state: &State) -> [u8; 24 * 9] {
     let (head, pens, _, _) = state.parts();
-    let (mut bytes, mut out) = ([0; 24 * 7], [0; 4_096]);
+    let (mut bytes, mut out) = ([0; 24 * 9], [0; 4_096]);
     let (key, guid) = (u64::from_be_bytes([2; 8]), [1; 16]);
     let mut places = bytes.chunks_exact_mut(24).map(<[u8]>::as_mut_ptr);
-    let mut place = || places.next().expect("seven");
+    let mut place = || places.next().expect("nine");
     let (p, n) = (pens.as_ptr(), pens.len());
     // SAFETY: each pointer comes from a borrow of that many bytes, and no two of them overlap.
     let numbers = unsafe {
@@ -345,19 +355,29 @@ fn reads() {
                 24,
             ),
             c::dcps_key_hash(guid.as_ptr(), 16, 17, place(), 24),
+            c::dcps_wire_fraction(100_000_000, place(), 24),
+            c::dcps_wire_nanos(429_496_729, 600_000_000, place(), 24),
         ]
     };
-    assert_eq!(numbers, [0; 7]);
+    assert_eq!(numbers, [0; 9]);
+    bytes
+}
+
+#[test]
+fn reads() {
+    let (state, guid) = (state().expect("all accepted"), [1; 16]);
     let last = state.last_delivered_ts(&[2; 16]).expect("well formed").expect("delivered");
     let next = state.next_handle_after(InstanceHandle::from_raw(1)).expect("well formed");
     let next = next.expect("there are more").as_raw();
     let holder = state.holder_in_force(&[2; 16], b"none");
-    let offset = holder.as_ptr() as usize - p as usize;
+    let offset = holder.as_ptr() as usize - state.parts().1.as_ptr() as usize;
     let changes = state.changes().expect("well formed");
     let left = state.left_writerless(&[guid], 3).expect("well formed").len();
     let length = holder.len();
     let key = dcps::key_hash(&guid, 17).expect("16 of 17");
     let (high, low) = halves(&key);
+    let WireFraction { fraction, remainder } = wire_fraction(100_000_000).expect("below 10^9");
+    let nanos = wire_nanos(fraction, remainder);
     let mut expected = [
         format!("read 0 0 0 0 0 0 {changes} {changes} {changes} 0.0"),
         format!("read 0 0 1 0 0 0 0 0 0 {}.{}", last.sec, last.nanosec),
@@ -366,11 +386,16 @@ fn reads() {
         "read 0 1 0 0 0 0 0 0 0 0.0".to_owned(),
         format!("read 0 0 0 0 {left} {left} 0 0 0 0.0"),
         format!("read 0 0 0 0 0 0 {high} {high} {high} {}.{}", (low >> 32) as i32, low as u32),
+        format!("read 0 0 0 0 {fraction} {fraction} {remainder} {remainder} {remainder} 0.0"),
+        format!("read 0 0 0 0 {nanos} {nanos} 0 0 0 0.0"),
     ];
+    let bytes = answers_of_reads(&state);
     for (line, answer) in expected.iter_mut().zip(bytes.chunks_exact(24)) {
-        *line += &format!(" ={}", hex(&answer[8..]));
+        let number = |at| u32::from_be_bytes(*answer[at..].first_chunk().expect("4 bytes"));
+        let (at_4, low_at_8) = (number(4), number(12));
+        *line += &format!(" ={} {at_4} {low_at_8} {at_4}", hex(&answer[8..]));
     }
-    assert!(expected[6].ends_with(&hex(&key)));
+    assert!(expected[6].contains(&hex(&key)));
     assert_eq!(printed("reads", &bytes), expected);
 }
 

@@ -1,5 +1,5 @@
 // The answers of the reads in bytes, as they cross the C boundary: 24 bytes, whose layout stands in specs/ReadAnswers, and in
-// specs/KeyHashes for a KeyHash.
+// specs/KeyHashes for a KeyHash; specs/WireAnswers says what wire time puts into it.
 use key_hash::KeyHashed;
 use model::ChangesRead;
 use model::Decision;
@@ -7,12 +7,14 @@ use model::FoundHandle;
 use model::FoundTime;
 use model::Listing;
 use read_answers::ReadAnswer;
+use wire_time::WireFraction;
 ghost use mathlib.Core.Path.{_≡_};
 ghost use lib.ListN.{length};
 ghost use Rattle.octets.specs.Fields.{puts};
 ghost use Rattle.read_answers.specs.Cases.{refusedAnswer, decisionAnswer, handleAnswer, timeAnswer, listingAnswer, holderAnswer, changesAnswer};
 ghost use Rattle.boundary_reads.specs.ReadAnswers.{bitWidths, bitValues, valueWidths, valueValues, toldOf, told};
 ghost use Rattle.boundary_reads.specs.KeyHashes.{keyHashBytes, toldKeyHash};
+ghost use Rattle.boundary_reads.specs.WireAnswers.{fractionAnswer, nanosAnswer};
 
 // ---- the answers
 
@@ -142,6 +144,38 @@ pub fn changes_answer(c: ChangesRead) -> ReadAnswer
             sec: 0,
             nanosec: 0,
         },
+    }
+}
+
+// A fraction and a remainder, or the refusal.
+pub fn fraction_answer(w: WireFraction) -> ReadAnswer
+    ensures { λ r. ⌜ r ≡ fractionAnswer w ⌝ }
+{
+    ReadAnswer {
+        number: w.number,
+        yes: false,
+        present: false,
+        stored: false,
+        size: w.fraction,
+        value: w.remainder as u64,
+        sec: 0,
+        nanosec: 0,
+    }
+}
+
+// The nanoseconds of a fraction and a remainder.
+pub fn nanos_answer(n: u32) -> ReadAnswer
+    ensures { λ r. ⌜ r ≡ nanosAnswer n ⌝ }
+{
+    ReadAnswer {
+        number: 0,
+        yes: false,
+        present: false,
+        stored: false,
+        size: n,
+        value: 0,
+        sec: 0,
+        nanosec: 0,
     }
 }
 

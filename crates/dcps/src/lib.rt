@@ -19,6 +19,7 @@ use model::Listing;
 use model::Sheet;
 use model::StatusRead;
 use model::Time;
+use wire_time::WireFraction;
 ghost use mathlib.Core.Bool.{true, _&&_, cond};
 ghost use mathlib.Core.List.{List, []};
 ghost use mathlib.Core.Path.{_≡_};
@@ -31,6 +32,7 @@ ghost use Rattle.model.specs.Reads.{filterRead, orderRead, lastDeliveredRead, n
 ghost use Rattle.read_answers.specs.Cases.{decisionAnswer, handleAnswer, timeAnswer, listingAnswer, statusAnswer, changesAnswer};
 ghost use Rattle.instance_reads.specs.HolderPlaces.{holderPlace, bytesAt};
 ghost use Rattle.key_hash.specs.KeyHash.{keyHashOf};
+ghost use Rattle.wire_time.specs.WireTime.{wireFractionOf, nanosOf};
 ghost use Rattle.dcps.specs.Fresh.{freshHead, freshOf};
 
 // ---- every call
@@ -245,4 +247,21 @@ pub fn key_hash(serialized: &[u8], largest: u64) -> KeyHashed
     ensures { λ r. ⌜ r ≡ keyHashOf (now (serialized .entry)) largest ⌝ }
 {
     key_hash::key_hash(serialized, largest)
+}
+
+// ---- wire time
+
+// Nanoseconds as the fraction of a second that a stamp of RTPS carries, with the remainder of the division.
+pub fn wire_fraction(nanosec: u32) -> WireFraction
+    ensures { λ r. ⌜ r ≡ wireFractionOf nanosec ⌝ }
+{
+    wire_time::wire_fraction(nanosec)
+}
+
+// The nanoseconds that a fraction and a remainder came from; of any other two, rounded down. 999,999,999 stands for a remainder
+// that is not known, as of a stamp off the wire.
+pub fn nanos_of(fraction: u32, remainder: u32) -> u32
+    ensures { λ r. ⌜ r ≡ nanosOf fraction remainder ⌝ }
+{
+    wire_time::nanos_of(fraction, remainder)
 }

@@ -17,7 +17,9 @@ ghost use lib.ListN.{length};
 ghost use Rattle.boundary.specs.Layouts.{answerBytes};
 ghost use Rattle.boundary_reads.specs.ReadAnswers.{toldOf, told};
 ghost use Rattle.boundary_reads.specs.KeyHashes.{toldKeyHash};
+ghost use Rattle.boundary_reads.specs.WireAnswers.{fractionAnswer, nanosAnswer};
 ghost use Rattle.key_hash.specs.KeyHash.{keyHashOf};
+ghost use Rattle.wire_time.specs.WireTime.{wireFractionOf, nanosOf};
 ghost use Rattle.read_answers.specs.Cases.{decisionAnswer, timeAnswer, handleAnswer, statusAnswer};
 ghost use Rattle.model.specs.Answers.{refusedWith};
 ghost use Rattle.model.specs.Handles.{handle};
@@ -350,4 +352,24 @@ pub extern "C" fn dcps_key_hash(serialized: &[u8], largest: u64, answer: &mut [u
 {
     let k = dcps::key_hash(serialized, largest);
     boundary_reads::tell_key_hash(answer, k)
+}
+
+// ---- wire time
+
+// Nanoseconds as the fraction of a second that a stamp of RTPS carries, with the remainder of the division.
+#[no_mangle]
+pub extern "C" fn dcps_wire_fraction(nanosec: u32, answer: &mut [u8]) -> u32
+    ensures { λ r. ⌜ toldOf r (now (answer .exit)) ≡ told (fractionAnswer (wireFractionOf nanosec)) (now (answer .entry)) ⌝ }
+{
+    let w = dcps::wire_fraction(nanosec);
+    boundary_reads::tell(answer, boundary_reads::fraction_answer(w))
+}
+
+// The nanoseconds that a fraction and a remainder came from.
+#[no_mangle]
+pub extern "C" fn dcps_wire_nanos(fraction: u32, remainder: u32, answer: &mut [u8]) -> u32
+    ensures { λ r. ⌜ toldOf r (now (answer .exit)) ≡ told (nanosAnswer (nanosOf fraction remainder)) (now (answer .entry)) ⌝ }
+{
+    let n = dcps::nanos_of(fraction, remainder);
+    boundary_reads::tell(answer, boundary_reads::nanos_answer(n))
 }

@@ -19,7 +19,7 @@ use Rattle.model.specs.declared.StatusRead.the-variants.{Is as statusIs, Refuse
 use Rattle.model.specs.Answers.{refusedWith, reporting}
 use Rattle.read_answers.specs.declared.ReadAnswer.{ReadAnswer}
 
-abbrev readOf : ℕ → Bool → Bool → ℕ → ℕ → ReadAnswer
+abbrev pub readOf : ℕ → Bool → Bool → ℕ → ℕ → ReadAnswer
 readOf number said present size value =
     record { number = number; yes = said; present = present; stored = false; size = size; value = value; sec = pos 0; nanosec = 0 }
 

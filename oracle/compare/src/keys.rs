@@ -12,15 +12,12 @@ use reading::key_hash::key_hash;
 
 use crate::case::hex;
 use crate::guarded::Guarded;
-use crate::key_tally::KeyTally;
-use crate::reads::{FILL, READ_BYTES, same_answer};
+use crate::key_tally::{KeyTally, fate, key_tally};
+use crate::reads::{FILL, READ_BYTES, answer_length, same_answer};
 use crate::run::Parting;
 
 /// Where an answer has the KeyHash.
 const KEY_HASH_AT: usize = 8;
-/// Lengths of an answer other than the stated one, lent one in so many times.
-pub const ODD_ANSWERS: [usize; 6] = [0, 1, 8, 23, 25, 72];
-const ODD_ONE_IN: usize = 16;
 
 #[derive(Debug, Clone, PartialEq, Eq)]
 pub struct KeyCase {
@@ -34,11 +31,11 @@ pub fn compare_keys(
     seeds: impl Iterator<Item = u64>,
     mut library: impl FnMut(&[u8], u64, &mut [u8]) -> u32,
 ) -> Result<KeyTally, (u64, KeyCase, Parting)> {
-    let mut tally = KeyTally::default();
+    let mut tally = key_tally();
     for seed in seeds {
         let case = KeyCase::of_seed(seed);
         match case.compared(&mut library) {
-            Ok(told) => tally.see(&case, &told),
+            Ok(told) => tally.see(&case, fate(&case, &told)),
             Err(parting) => return Err((seed, case, parting)),
         }
     }
@@ -59,8 +56,7 @@ impl KeyCase {
     pub fn of_seed(seed: u64) -> Self {
         let mut rng = Rng::new(seed);
         let key = SerializedKey::any(&mut rng);
-        let odd = rng.one_in(ODD_ONE_IN);
-        Self { key, answer_length: if odd { rng.pick(&ODD_ANSWERS) } else { READ_BYTES } }
+        Self { key, answer_length: answer_length(&mut rng) }
     }
 
     /// The reading's KeyHash or refusal.

@@ -61,6 +61,8 @@ boundary! {
     would_leave_writerless = dcps_would_leave_writerless(pens, gone; view_states: u32; answer);
     left_writerless = dcps_left_writerless(pens, gone; view_states: u32; out, answer);
     key_hash = dcps_key_hash(serialized; largest: u64; answer);
+    wire_fraction = dcps_wire_fraction(; nanosec: u32; answer);
+    wire_nanos = dcps_wire_nanos(; fraction: u32, remainder: u32; answer);
     fresh = dcps_fresh(;; head, pens, writers, lost);
 }
 

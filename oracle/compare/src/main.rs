@@ -1,5 +1,5 @@
-//! Compares that many calls of generated lists, or that many generated keys,
-//! from a seed on.
+//! Compares that many calls of generated lists, that many generated keys, or
+//! wire times, from a seed on.
 
 use std::env;
 use std::process::ExitCode;
@@ -9,18 +9,20 @@ use compare::keys::compare_keys;
 use compare::list::Library;
 use compare::run::Parting;
 use compare::shrink::shrink;
+use compare::times::{Conversion, compare_times};
 use compare::{KeyCase, List, Tally, library};
 
-const USAGE: &str = "compare SEED CALLS        compare that many calls with the static library
-compare keys SEED COUNT   compare that many KeyHashes with it";
+const USAGE: &str = "compare SEED CALLS         compare that many calls with the static library
+compare keys SEED COUNT    compare that many KeyHashes with it
+compare times SEED COUNT   compare wire times with it, that many by chance";
 /// A line of progress after so many calls.
 const PROGRESS: u64 = 1_000_000;
 
 fn main() -> ExitCode {
     let words: Vec<String> = env::args().skip(1).collect();
-    let (numbers, of_keys) = match words.split_first() {
-        Some((word, numbers)) if word == "keys" => (numbers, true),
-        _ => (words.as_slice(), false),
+    let (word, numbers) = match words.split_first() {
+        Some((word, numbers)) if word == "keys" || word == "times" => (word.as_str(), numbers),
+        _ => ("", words.as_slice()),
     };
     let numbers: Vec<_> = numbers.iter().map(|word| word.parse::<u64>()).collect();
     let &[Ok(seed), Ok(count)] = numbers.as_slice() else {
@@ -31,18 +33,28 @@ fn main() -> ExitCode {
         println!("SKIPPED: no libdcps_c.a (rt staticlib dcps_c, or set DCPS_LIB_DIR)");
         return ExitCode::SUCCESS;
     }
-    if !original::PRESENT {
+    // The sources convert no time to the wire: none are needed for that.
+    if !original::PRESENT && word != "times" {
         println!("SKIPPED: no sources of ZeroDDS (set ZERO_DDS_SRC)");
         return ExitCode::SUCCESS;
     }
-    if of_keys { keys_compared(seed, count) } else { compared(seed, count) }
+    match word {
+        "keys" => keys_compared(seed, count),
+        "times" => times_compared(seed, count),
+        _ => compared(seed, count),
+    }
+}
+
+/// That many, one after the other.
+fn seeds(first: u64, count: u64) -> impl Iterator<Item = u64> {
+    (0..count).map(move |n| first.wrapping_add(n))
 }
 
 fn keys_compared(first: u64, count: u64) -> ExitCode {
-    match compare_keys((0..count).map(|n| first.wrapping_add(n)), library::key_hash) {
+    match compare_keys(seeds(first, count), library::key_hash) {
         Ok(tally) => {
             print!("{tally}");
-            println!("from seed {first}: {} keys, 0 disagreements", tally.keys);
+            println!("from seed {first}: {} keys, 0 disagreements", tally.cases);
             ExitCode::SUCCESS
         }
         Err((seed, case, parting)) => {
@@ -53,6 +65,27 @@ fn keys_compared(first: u64, count: u64) -> ExitCode {
             ExitCode::FAILURE
         }
     }
+}
+
+/// A run that met no case of some sort fails too.
+fn times_compared(first: u64, count: u64) -> ExitCode {
+    let library = |conversion, answer: &mut [u8]| match conversion {
+        Conversion::Fraction(nanosec) => library::wire_fraction(nanosec, answer),
+        Conversion::Nanos(fraction, remainder) => library::wire_nanos(fraction, remainder, answer),
+    };
+    match compare_times(seeds(first, count), library) {
+        Ok(tally) => {
+            print!("{tally}");
+            let missing = tally.missing();
+            if missing.is_empty() {
+                println!("from seed {first}: {} times, 0 disagreements", tally.cases);
+                return ExitCode::SUCCESS;
+            }
+            println!("too few seeds, none of: {}", missing.join(", "));
+        }
+        Err((case, parting)) => println!("{case}: {parting:?}"),
+    }
+    ExitCode::FAILURE
 }
 
 fn compared(first: u64, calls: u64) -> ExitCode {

@@ -25,6 +25,10 @@ pub const FILL: u8 = 0xc3;
 const HOLDER_AT: usize = 112;
 /// Damage, and odd lengths, one in so many times.
 const SPOILT_ONE_IN: usize = 6;
+/// Lengths of an answer other than the stated one, lent one in so many times
+/// to a function that is compared by itself.
+pub const ODD_ANSWERS: [usize; 6] = [0, 1, 8, 23, 25, 72];
+const ODD_ONE_IN: usize = 16;
 
 /// A read's answer; what it does not answer is 0.
 #[derive(Default)]
@@ -292,6 +296,11 @@ impl Asked<'_> {
             library::changes(&bytes, answer)
         })
     }
+}
+
+/// Mostly the stated one.
+pub fn answer_length(rng: &mut Rng) -> usize {
+    if rng.one_in(ODD_ONE_IN) { rng.pick(&ODD_ANSWERS) } else { READ_BYTES }
 }
 
 /// An answer of the stated length as expected; one of another length is

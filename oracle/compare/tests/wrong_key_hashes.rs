@@ -34,7 +34,7 @@ fn the_reading_agrees_with_itself_on_keys_of_every_sort() {
         over_bytes(key_hash, serialized, largest, answer)
     };
     let tally = compare_keys(1..=KEYS, library).unwrap_or_else(|parted| panic!("{parted:?}"));
-    assert_eq!(tally.keys, KEYS);
+    assert_eq!(tally.cases, KEYS);
     assert_eq!(tally.missing(), Vec::<String>::new());
 }
 

@@ -1,5 +1,5 @@
-//! Lists of calls: generated from a seed, or recorded in a file. And keys,
-//! generated.
+//! Lists of calls: generated from a seed, or recorded in a file. And keys and
+//! wire times, generated.
 
 pub mod bench;
 pub mod coverage;
@@ -19,6 +19,7 @@ pub mod rng;
 pub mod run;
 pub mod sample;
 pub mod start;
+pub mod times;
 
 pub use coverage::Coverage;
 pub use generate::Generator;

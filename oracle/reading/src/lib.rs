@@ -20,6 +20,7 @@ pub mod md5;
 pub mod reads;
 pub mod sheet;
 pub mod state;
+pub mod wire_time;
 
 pub use answer::Answer;
 pub use head::Head;

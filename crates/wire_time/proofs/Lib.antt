@@ -1,0 +1,2 @@
+-- The laws of wire time.
+pub mod WireLaws

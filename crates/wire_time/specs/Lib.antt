@@ -1,0 +1,2 @@
+-- What the contracts of wire_time cite.
+pub mod WireTime
