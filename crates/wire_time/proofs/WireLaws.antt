@@ -16,17 +16,13 @@ use native.Mathlib.Nat.{add-zero, zero-add, add-suc, suc-add, le-of-suc-le-suc, 
 use native.Mathlib.Omega.{arith}
 use borrow.Author.Tests.{lt-ltb}
 use lib.ListN.{getD}
-use Rattle.wire_time.specs.declared.WireFraction.{WireFraction}
-use Rattle.wire_time.specs.WireTime.{fractionOf, entryOf, entriesFrom, table, nanosOf, wireFractionOf}
+use Rattle.wire_time.specs.WireTime.{fractionOf, entryOf, entriesFrom, table, nanosOf, accepted, refused, wireFractionOf}
 
 -- ---- lines
 
-abbrev pub told : ℕ → ℕ → ℕ → WireFraction
-told number fraction remainder = record { number = number; fraction = fraction; remainder = remainder }
-
 pub worked :
     map wireFractionOf (0 ∷ 2 ∷ 1_000_000 ∷ 999_999_999 ∷ 1_000_000_000 ∷ [])
-    ≡ told 0 0 0 ∷ told 0 8 589_934_592 ∷ told 0 4_294_967 296_000_000 ∷ told 0 4_294_967_291 705_032_704 ∷ told 4 0 0 ∷ []
+    ≡ accepted 0 0 ∷ accepted 8 589_934_592 ∷ accepted 4_294_967 296_000_000 ∷ accepted 4_294_967_291 705_032_704 ∷ refused 4 ∷ []
 unfolding wireFractionOf
 worked = refl
 

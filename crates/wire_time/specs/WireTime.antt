@@ -30,13 +30,13 @@ entriesFrom m (suc count) = entryOf m ∷ entriesFrom (suc m) count
 abbrev pub table : List ℕ
 table = entriesFrom 0 1000
 
-abbrev pub converted : ℕ → WireFraction
-converted n = record { number = 0; fraction = fractionOf n; remainder = remainderOf n }
+abbrev pub accepted : ℕ → ℕ → WireFraction
+accepted fraction remainder = record { number = 0; fraction = fraction; remainder = remainder }
 
 -- a refusal: its number, and zeros
 abbrev pub refused : ℕ → WireFraction
 refused number = record { number = number; fraction = 0; remainder = 0 }
 
--- nanoseconds of 10^9 or more meet number 4
+-- nanoseconds below 10^9 are converted; 10^9 or more meet number 4
 unfoldable pub wireFractionOf : ℕ → WireFraction
-wireFractionOf n = cond (ltb n (10 ^ 9)) (converted n) (refused 4)
+wireFractionOf n = cond (ltb n (10 ^ 9)) (accepted (fractionOf n) (remainderOf n)) (refused 4)

@@ -1,5 +1,5 @@
-// Wire time (document 02, ticket 4): nanoseconds below 10^9 as the 32-bit fraction of a second that the stamps of RTPS carry
-// (DDSI-RTPS 2.5, 9.3.2), with the remainder of the division, so that nothing is dropped.
+// Wire time (document 02, ticket 4): nanoseconds below 10^9 as the 32-bit fraction of a second that the stamps of RTPS carry,
+// with the remainder of the division, so that nothing is dropped.
 mod table;
 
 use table::FRACTIONS;
