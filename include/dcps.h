@@ -9,12 +9,13 @@
  *               out, sizeof out, answer, sizeof answer);    0, and the handle is in answer + DCPS_ANSWER_HANDLE
  *
  * How it works
- *     The state of one reader is a head and three buffers (pens, writers, lost). The caller keeps it and lends it to each
- *     call. A sheet of 256 bytes says which call to make and with what. The call changes the state in place, writes its
- *     list, where it has one, to the front of out (the rest of out keeps its bytes) and its answer to answer. An instance
- *     ("pen") is one keyed object of a topic, named by a key of 16 bytes, which dcps_key_hash makes from a serialized key
- *     of up to 4,096 bytes; the library gives it a handle, 1, 2, 3 and on, and no handle is given twice. A writer is named
- *     by its GUID of 16 bytes, whose first 12 are its participant's prefix.
+ *     The state of one reader is a head and three buffers (pens, writers, lost). It has places for 128 instances, or for 32
+ *     where pens are lent with DCPS_SMALL_PENS_BYTES: dcps_fresh sets that number in the head, and every call keeps it. The
+ *     caller keeps the state and lends it to each call. A sheet of 256 bytes says which call to make and with what. The call
+ *     changes the state in place, writes its list, where it has one, to the front of out (the rest of out keeps its bytes)
+ *     and its answer to answer. An instance ("pen") is one keyed object of a topic, named by a key of 16 bytes, which
+ *     dcps_key_hash makes from a serialized key of up to 4,096 bytes; the library gives it a handle, 1, 2, 3 and on, and no
+ *     handle is given twice. A writer is named by its GUID of 16 bytes, whose first 12 are its participant's prefix.
  *
  * A reader's calls
  *     a writer is discovered         matched
@@ -36,11 +37,12 @@
  *     Every function answers any bytes of any length: with 0, or refused with a number of enum dcps_refusal. It returns
  *     that number, which is also byte 0 of the answer. On a refusal the answer gets the number and zeros, and nothing else
  *     is written; where the answer's own length is wrong nothing at all is written. A length of any size other than the
- *     stated one is refused as 1, but for that of a serialized key, which 15 and 14 judge. It writes within the lengths
- *     that it is given, it ends, and what it writes is what the definitions (crates/model/specs of the source; of keys
- *     crates/key_hash/specs and crates/md5/specs; of wire time crates/wire_time/specs) say: that is proved of its source,
- *     not of the compiler that made the archive. dcps_fresh has no answer, only its number; dcps_version takes nothing and
- *     returns no number of these.
+ *     stated one is refused as 1, but for that of a serialized key, which 15 and 14 judge; a head of its length with another
+ *     number of places than 32 or 128 is refused as 3 before any other length is. Pens go with the head: 512 bytes for each
+ *     of its places. It writes within the lengths that it is given, it ends, and what it writes is what the
+ *     definitions (crates/model/specs of the source; of keys crates/key_hash/specs and crates/md5/specs; of wire time
+ *     crates/wire_time/specs) say: that is proved of its source, not of the compiler that made the archive. dcps_fresh has no
+ *     answer, only its number; dcps_version takes nothing and returns no number of these.
  *
  * Outside the promise
  *     A null pointer, also with length 0. A pointer to fewer bytes than its length says. Two pointers of one call whose
@@ -96,6 +98,7 @@ extern "C" {
 #define DCPS_HEAD_BYTES 64
 #define DCPS_SHEET_BYTES 256
 #define DCPS_PENS_BYTES 65536   /* 128 records of 512 */
+#define DCPS_SMALL_PENS_BYTES 16384 /* 32 records of 512; the other lengths are the same */
 #define DCPS_WRITERS_BYTES 5120 /* 128 records of 40 */
 #define DCPS_LOST_BYTES 4096    /* 256 GUIDs */
 #define DCPS_OUT_BYTES 4096
@@ -111,7 +114,8 @@ extern "C" {
 #define DCPS_GONE_BYTES 4096 /* at most, of a list of GUIDs that is lent to a read */
 #define DCPS_KEY_LARGEST_BYTES 4096 /* at most, stated to dcps_key_hash as the largest size of a serialized key */
 
-#define DCPS_INSTANCE_PLACES 128
+#define DCPS_INSTANCE_PLACES 128      /* in DCPS_PENS_BYTES */
+#define DCPS_SMALL_INSTANCE_PLACES 32 /* in DCPS_SMALL_PENS_BYTES */
 #define DCPS_WRITER_PLACES 128
 #define DCPS_LOST_PLACES 256
 #define DCPS_SET_PLACES 16     /* writers in an instance's set */
@@ -119,19 +123,21 @@ extern "C" {
 
 #define DCPS_STACK_BYTES 16384
 
-/* ---- numbers: 0 accepted, else why it is refused; the lowest where several would do, but 15 before 14 */
+/* ---- numbers: 0 accepted, else why it is refused; the lowest where several would do, but 15 before 14, and 3 before 1 for
+ * a head's number of places */
 
 enum dcps_refusal {
     DCPS_ACCEPTED = 0,
     DCPS_REFUSED_LENGTH = 1,      /* a length other than stated */
     DCPS_REFUSED_CODE = 2,        /* unknown call code */
-    DCPS_REFUSED_STATE = 3,       /* head and buffers are not well formed (see the records below), or the 64 bytes are no head's */
+    DCPS_REFUSED_STATE = 3,       /* head and buffers are not well formed (see the records below), or the 64 bytes are no head's;
+                                   * where the head's number of places is neither 32 nor 128 this comes before 1 */
     DCPS_REFUSED_NANOSECONDS = 4, /* nanoseconds of 10^9 or more, in a used time or in dcps_wire_fraction */
     DCPS_REFUSED_CLOCK = 5,       /* a used clock or lease of 2^62 or more */
     DCPS_REFUSED_HOLDER = 6,      /* a used holder longer than 144 bytes */
     DCPS_REFUSED_KIND = 7,        /* kind 3 in matched */
     DCPS_REFUSED_ACKNOWLEDGE = 8, /* an acknowledgement that takes a count less its change beyond +-2^30 */
-    DCPS_REFUSED_INSTANCES = 9,   /* a new instance, and 128 are there */
+    DCPS_REFUSED_INSTANCES = 9,   /* a new instance, and as many are there as the head has places, 32 or 128 */
     DCPS_REFUSED_SET = 10,        /* a new writer, and 16 are in that instance's set */
     DCPS_REFUSED_WRITERS = 11,    /* a new GUID, and 128 writer records are there; departed ones count: see code 34 */
     DCPS_REFUSED_LOST = 12,       /* expiries beyond 256 in lost: take_lost first */
@@ -414,9 +420,13 @@ enum dcps_code {
 
 /* ---- the head, 64 bytes
  *
- * Bytes with another presence than 0 or 1, a spare that is not zero, or an absent last writer that is not zero are no
- * head's, and are refused as 3. Well formed: the counts agree with the records; the next handle is 1 to 2^63; for both
- * counts, count less change is within +-2^30. */
+ * Bytes with another number of places than 32 or 128, another presence than 0 or 1, or an absent last writer that is not zero
+ * are no head's, and are refused as 3. Well formed: the counts agree with the records, and there are no more instances than
+ * places; the next handle is 1 to 2^63; for both counts, count less change is within +-2^30.
+ *
+ * A head that was kept before heads had the number of places has 0 there, and is refused as 3. To carry it over, once, write
+ * 0 and 128 to its bytes 30 and 31 (dcps_carry_head of dcps_inline.h does): its pens have 65,536 bytes. Nothing else of a
+ * kept state changes. */
 
 #define DCPS_HEAD_INSTANCES 0         /* u32: used records of pens */
 #define DCPS_HEAD_WRITERS 4           /* u32: used records of writers */
@@ -425,7 +435,9 @@ enum dcps_code {
 #define DCPS_HEAD_NOT_ALIVE 16        /* u32: writers that are not alive or departed */
 #define DCPS_HEAD_ALIVE_CHANGE 20     /* i32: of alive, since it was acknowledged */
 #define DCPS_HEAD_NOT_ALIVE_CHANGE 24 /* i32 */
-#define DCPS_HEAD_LAST_WRITER_PRESENT 28 /* u16: 0 or 1; the u16 at 30 is 0 */
+#define DCPS_HEAD_LAST_WRITER_PRESENT 28 /* u16: 0 or 1 */
+#define DCPS_HEAD_PLACES 30           /* u16: for how many instances there are places, 32 or 128; set by dcps_fresh, kept by
+                                       * every call */
 #define DCPS_HEAD_NEXT_HANDLE 32      /* u64: the handle of the next new instance */
 #define DCPS_HEAD_CHANGES 40          /* u64: how often a writer moved a count, modulo 2^64 */
 #define DCPS_HEAD_LAST_WRITER 48      /* 16: the writer that did so last; of several in one call the greatest GUID */
@@ -494,13 +506,15 @@ enum dcps_code {
 uint32_t dcps_version(void);
 
 /* A call: the sheet says which (byte 81 is its code). The new head, pens, writers, lost and out are written on number 0
- * only. The lengths of head and answer belong to refusal 1; bytes that are no head's are refused as 3, after 1 and 2. */
+ * only. Refused, in this order: 1, a head of another length than 64; 3, a head whose number of places is neither 32 nor 128,
+ * whatever else is lent; 1, another length, that of the answer and that of pens for the head's places among them: 32 with
+ * 65,536 bytes, or 128 with 16,384; 2; 3, other bytes that are no head's, or not well formed; then those of the code. */
 uint32_t dcps_call(uint8_t *head, size_t head_len, const uint8_t *sheet, size_t sheet_len, uint8_t *pens, size_t pens_len,
                    uint8_t *writers, size_t writers_len, uint8_t *lost, size_t lost_len, uint8_t *out, size_t out_len,
                    uint8_t *answer, size_t answer_len);
 
-/* Head and buffers become those of the fresh state: no instance, no writer, next handle 1. Refused as 1, and nothing
- * written, where a length is another. */
+/* Head and buffers become those of the fresh state: no instance, no writer, next handle 1, and as many places as pens have:
+ * 32 in 16,384 bytes, 128 in 65,536. Refused as 1, and nothing written, where a length is another. */
 uint32_t dcps_fresh(uint8_t *head, size_t head_len, uint8_t *pens, size_t pens_len, uint8_t *writers, size_t writers_len,
                     uint8_t *lost, size_t lost_len);
 
@@ -509,13 +523,15 @@ uint32_t dcps_fresh(uint8_t *head, size_t head_len, uint8_t *pens, size_t pens_l
 uint32_t dcps_status(const uint8_t *head, size_t head_len, uint8_t *answer, size_t answer_len);
 
 /* How often a writer moved a count (became alive, not alive, or neither), as the head has it: changes. Refused: 1; 3, where
- * no buffers go with the head: it is no head's, is not well formed by itself, has more than 128 instances, 128 writers or 256
- * lost, as many instances as its next handle or more, or more alive and not alive writers than writers. */
+ * no buffers go with the head: it is no head's, is not well formed by itself, has more instances than places, more than 128
+ * writers or 256 lost, as many instances as its next handle or more, or more alive and not alive writers than writers. As in
+ * dcps_call, a head of another length is 1, then another number of places is 3, then an answer of another length is 1. */
 uint32_t dcps_changes(const uint8_t *head, size_t head_len, uint8_t *answer, size_t answer_len);
 
-/* The reads of instances are lent pens alone: the used records are those before the first whose handle is 0, and refusal 3 is
- * about the table alone. A key or a GUID of 16 bytes passes as two numbers: high is its first 8 bytes, low its last 8. A list
- * of GUIDs is a multiple of 16 bytes, 4096 at most, else it is refused as 1. Each meets 1 and 3, those with a time also 4. */
+/* The reads of instances are lent pens alone, of either length, 16,384 or 65,536 bytes: the used records are those before the
+ * first whose handle is 0, and refusal 3 is about the table alone. A key or a GUID of 16 bytes passes as two numbers: high is
+ * its first 8 bytes, low its last 8. A list of GUIDs is a multiple of 16 bytes, 4096 at most, else it is refused as 1. Each
+ * meets 1 and 3, those with a time also 4. */
 
 /* yes: a sample of the key is delivered under the time-based filter (DDS 1.4, 2.2.3.12), as in admit. In this read and the
  * next one seconds below 0 are taken as 0 and the nanoseconds stay; an unknown key, or one without a last time, is yes. */
@@ -540,7 +556,8 @@ uint32_t dcps_next_handle_after(const uint8_t *pens, size_t pens_len, uint64_t p
 uint32_t dcps_handle_at_position(const uint8_t *pens, size_t pens_len, size_t position, uint8_t *answer, size_t answer_len);
 
 /* Where the bytes from which the key was made stand in pens: stored, offset and length. Where stored is 0, also because
- * pens would be refused, the bytes that the caller has at hand are in force. Refused as 1 for the answer's length alone. */
+ * another read would refuse pens, their length too, the bytes that the caller has at hand are in force. Refused as 1 for the
+ * answer's length alone. */
 uint32_t dcps_holder_in_force(const uint8_t *pens, size_t pens_len, uint64_t high, uint64_t low, uint8_t *answer,
                               size_t answer_len);
 

@@ -3,7 +3,7 @@
  * Nothing here is proved: it only lays out and reads bytes, as dcps.h says, and a test compares each builder and each
  * accessor with the Rust bindings. Every call goes through dcps_call, which judges whatever a builder made.
  *
- *     static struct dcps_state s;    78,912 bytes: better not on a small stack
+ *     static struct dcps_state s;    78,912 bytes, or 29,760 of a dcps_small_state: better not on a small stack
  *     uint8_t sheet[DCPS_SHEET_BYTES], answer[DCPS_ANSWER_BYTES];
  *     dcps_state_fresh(&s);
  *     dcps_sheet_register(sheet, key, holder, holder_length, NULL);
@@ -100,6 +100,7 @@ static inline void dcps_put_time(uint8_t *b, struct dcps_time time)
 
 /* ---- a state with its out, and calls on it */
 
+/* With places for 128 instances. */
 struct dcps_state {
     uint8_t head[DCPS_HEAD_BYTES];
     uint8_t pens[DCPS_PENS_BYTES];
@@ -108,17 +109,77 @@ struct dcps_state {
     uint8_t out[DCPS_OUT_BYTES]; /* no part of the state: the list of the latest call that gave one */
 };
 
+/* With places for 32. */
+struct dcps_small_state {
+    uint8_t head[DCPS_HEAD_BYTES];
+    uint8_t pens[DCPS_SMALL_PENS_BYTES];
+    uint8_t writers[DCPS_WRITERS_BYTES];
+    uint8_t lost[DCPS_LOST_BYTES];
+    uint8_t out[DCPS_OUT_BYTES];
+};
+
+/* Where the bytes of either are: for code that is to work with both, and for a state that lies in no struct. */
+struct dcps_lent {
+    uint8_t *head, *pens, *writers, *lost, *out;
+    size_t pens_bytes; /* DCPS_PENS_BYTES or DCPS_SMALL_PENS_BYTES */
+};
+
+static inline struct dcps_lent dcps_lent_of(uint8_t *head, uint8_t *pens, size_t pens_bytes, uint8_t *writers, uint8_t *lost,
+                                            uint8_t *out)
+{
+    struct dcps_lent lent;
+    lent.head = head;
+    lent.pens = pens;
+    lent.pens_bytes = pens_bytes;
+    lent.writers = writers;
+    lent.lost = lost;
+    lent.out = out;
+    return lent;
+}
+
+static inline struct dcps_lent dcps_state_lent(struct dcps_state *s)
+{
+    return dcps_lent_of(s->head, s->pens, sizeof s->pens, s->writers, s->lost, s->out);
+}
+
+static inline struct dcps_lent dcps_small_state_lent(struct dcps_small_state *s)
+{
+    return dcps_lent_of(s->head, s->pens, sizeof s->pens, s->writers, s->lost, s->out);
+}
+
+static inline uint32_t dcps_lent_fresh(struct dcps_lent s)
+{
+    uint32_t number = dcps_fresh(s.head, DCPS_HEAD_BYTES, s.pens, s.pens_bytes, s.writers, DCPS_WRITERS_BYTES, s.lost,
+                                 DCPS_LOST_BYTES);
+    if (number == DCPS_ACCEPTED)
+        memset(s.out, 0, DCPS_OUT_BYTES);
+    return number;
+}
+
+static inline uint32_t dcps_lent_call(struct dcps_lent s, const uint8_t *sheet, uint8_t *answer)
+{
+    return dcps_call(s.head, DCPS_HEAD_BYTES, sheet, DCPS_SHEET_BYTES, s.pens, s.pens_bytes, s.writers, DCPS_WRITERS_BYTES,
+                     s.lost, DCPS_LOST_BYTES, s.out, DCPS_OUT_BYTES, answer, DCPS_ANSWER_BYTES);
+}
+
 static inline uint32_t dcps_state_fresh(struct dcps_state *s)
 {
-    memset(s->out, 0, sizeof s->out);
-    return dcps_fresh(s->head, sizeof s->head, s->pens, sizeof s->pens, s->writers, sizeof s->writers, s->lost,
-                      sizeof s->lost);
+    return dcps_lent_fresh(dcps_state_lent(s));
 }
 
 static inline uint32_t dcps_state_call(struct dcps_state *s, const uint8_t *sheet, uint8_t *answer)
 {
-    return dcps_call(s->head, sizeof s->head, sheet, DCPS_SHEET_BYTES, s->pens, sizeof s->pens, s->writers,
-                     sizeof s->writers, s->lost, sizeof s->lost, s->out, sizeof s->out, answer, DCPS_ANSWER_BYTES);
+    return dcps_lent_call(dcps_state_lent(s), sheet, answer);
+}
+
+static inline uint32_t dcps_small_state_fresh(struct dcps_small_state *s)
+{
+    return dcps_lent_fresh(dcps_small_state_lent(s));
+}
+
+static inline uint32_t dcps_small_state_call(struct dcps_small_state *s, const uint8_t *sheet, uint8_t *answer)
+{
+    return dcps_lent_call(dcps_small_state_lent(s), sheet, answer);
 }
 
 /* ---- the fields of a sheet, for the builders below */
@@ -550,8 +611,29 @@ DCPS_ACCESSOR(dcps_head_alive, u32, uint32_t, DCPS_HEAD_ALIVE)
 DCPS_ACCESSOR(dcps_head_not_alive, u32, uint32_t, DCPS_HEAD_NOT_ALIVE)
 DCPS_ACCESSOR(dcps_head_alive_change, i32, int32_t, DCPS_HEAD_ALIVE_CHANGE)
 DCPS_ACCESSOR(dcps_head_not_alive_change, i32, int32_t, DCPS_HEAD_NOT_ALIVE_CHANGE)
+DCPS_ACCESSOR(dcps_head_places, u16, uint16_t, DCPS_HEAD_PLACES)
 DCPS_ACCESSOR(dcps_head_next_handle, u64, uint64_t, DCPS_HEAD_NEXT_HANDLE)
 DCPS_ACCESSOR(dcps_head_changes, u64, uint64_t, DCPS_HEAD_CHANGES)
+
+/* The bytes of pens that go with the head, 16,384 or 65,536; 0 where its number of places is another than 32 or 128. */
+static inline size_t dcps_head_pens_bytes(const uint8_t *head)
+{
+    switch (dcps_head_places(head)) {
+    case DCPS_SMALL_INSTANCE_PLACES: return DCPS_SMALL_PENS_BYTES;
+    case DCPS_INSTANCE_PLACES: return DCPS_PENS_BYTES;
+    default: return 0;
+    }
+}
+
+/* Carries a head over that was kept before heads had the number of places: 1, and it has 128, as its pens have 65,536 bytes.
+ * Any other head stays as it is: 0. */
+static inline int dcps_carry_head(uint8_t *head)
+{
+    if (dcps_head_places(head) != 0)
+        return 0;
+    dcps_put_u16(head + DCPS_HEAD_PLACES, DCPS_INSTANCE_PLACES);
+    return 1;
+}
 
 /* The GUID of the last writer, or null where there is none. */
 static inline const uint8_t *dcps_head_last_writer(const uint8_t *head)
@@ -677,18 +759,30 @@ static inline int dcps_writer_lease(const uint8_t *record, uint64_t *lease)
     return (dcps_writer_flags(record) & DCPS_WRITER_LEASE_BIT) != 0;
 }
 
-/* ---- the tables: used records by place, in the order of keys and GUIDs, and by name */
+/* ---- the tables: used records by place, in the order of keys and GUIDs, and by name
+ *
+ * Pens are those that go with the head, dcps_head_pens_bytes of it, and no length is looked at: lend a state from elsewhere to
+ * a call first, which refuses it as 1 or 3. */
 
-/* How many are used, never more than there are places. */
+/* How many are used, never more than the head has places: none with a head that would be refused for their number. */
 static inline size_t dcps_instance_records(const uint8_t *head)
 {
-    size_t count = dcps_head_instances(head);
-    return count < DCPS_INSTANCE_PLACES ? count : DCPS_INSTANCE_PLACES;
+    size_t count = dcps_head_instances(head), places = dcps_head_pens_bytes(head) / DCPS_INSTANCE_BYTES;
+    return count < places ? count : places;
 }
 
 static inline const uint8_t *dcps_instance_at(const uint8_t *pens, size_t place)
 {
     return pens + place * DCPS_INSTANCE_BYTES;
+}
+
+/* How many are used where no head is at hand, as the reads have it: those before the first whose handle is 0. */
+static inline size_t dcps_pens_records(const uint8_t *pens, size_t pens_bytes)
+{
+    size_t place = 0, places = pens_bytes / DCPS_INSTANCE_BYTES;
+    while (place < places && dcps_instance_handle(dcps_instance_at(pens, place)) != 0)
+        place++;
+    return place;
 }
 
 static inline size_t dcps_writer_records(const uint8_t *head)
@@ -833,7 +927,7 @@ static inline const char *dcps_refusal_text(uint32_t number)
     case DCPS_REFUSED_HOLDER: return "holder above 144";
     case DCPS_REFUSED_KIND: return "kind 3 in matched";
     case DCPS_REFUSED_ACKNOWLEDGE: return "acknowledge taking count minus change beyond \xc2\xb1" "2^30";
-    case DCPS_REFUSED_INSTANCES: return "new instance, 128 there";
+    case DCPS_REFUSED_INSTANCES: return "new instance, all places taken";
     case DCPS_REFUSED_SET: return "new writer, 16 in that instance's set";
     case DCPS_REFUSED_WRITERS: return "new GUID, 128 writer records";
     case DCPS_REFUSED_LOST: return "expiries beyond 256 in Lost";

@@ -1,7 +1,7 @@
 //! Times the same lists through the original Rust trackers and through the
-//! static library, and one pass over the lent bytes as the floor; then keys
-//! through the library and through a plain MD5 in Rust, and stamps beside
-//! plain arithmetic.
+//! static library, on states with places for 128 instances and for 32, and one
+//! pass over the lent bytes as the floor; then keys through the library and
+//! through a plain MD5 in Rust, and stamps beside plain arithmetic.
 
 mod calls;
 mod keys;
@@ -19,13 +19,12 @@ use lists::Image;
 use mixes::{Mix, mixes};
 use original::Original;
 use reading::answer::ANSWER_BYTES;
-use reading::layout::{LOST_BYTES, OUT_BYTES, PENS_BYTES, WRITERS_BYTES};
+use reading::layout::{LOST_BYTES, OUT_BYTES, WRITERS_BYTES, pens_bytes};
 use reading::{Answer, Sheet, State};
 use state::{SIZES, Size, state};
 
 /// Each list is run so often; the median counts.
 const ROUNDS: usize = 301;
-const LENT_BYTES: usize = PENS_BYTES + WRITERS_BYTES + LOST_BYTES;
 
 fn main() {
     if !library::PRESENT {
@@ -36,47 +35,58 @@ fn main() {
         println!("SKIPPED: no sources of ZeroDDS (set ZERO_DDS_SRC)");
         return;
     }
-    let floor = floor();
-    println!("one pass over {LENT_BYTES} bytes: {floor:.0} ns\n");
-    println!("| mix | instances | Rust, ns | library, ns | library / Rust | library / floor |");
-    println!("|---|---|---|---|---|---|");
-    for size in SIZES {
-        for mix in mixes(size) {
-            row(mix.name, size, timed(&mix), floor);
+    let floors = SIZES.map(|sizes| floor(sizes[0].lent()));
+    println!(
+        "\n| mix | places | instances | Rust, ns | library, ns | library / Rust | library / floor |"
+    );
+    println!("|---|---|---|---|---|---|---|");
+    for (sizes, floor) in SIZES.iter().zip(floors) {
+        for size in *sizes {
+            for mix in mixes(*size) {
+                row(mix.name, *size, timed(&mix), floor);
+            }
+            row("reads", *size, timed_reads(&state(*size, size.instances)), floor);
         }
-        row("reads", size, timed_reads(&state(size, size.records)), floor);
     }
-    each_call(floor);
+    each_call(floors);
     keys::each_key();
     stamps::each_conversion();
 }
 
-/// The library's time for each call by itself, on the last of the sizes.
-fn each_call(floor: f64) {
-    let size = SIZES[SIZES.len() - 1];
-    let start = state(size, size.records);
-    println!("\n| call on {} instances | library, ns | library / floor |", size.name);
-    println!("|---|---|---|");
-    for (name, sheet) in calls::calls(&start) {
-        let rounds = (0..ROUNDS).map(|_| {
-            let mut buffers = Buffers::of(&start);
-            let time = each(1, || {
-                black_box(buffers.call(black_box(&sheet)));
-            });
-            assert_eq!(buffers.answer[0], 0, "{name}");
-            time
-        });
-        let library = median(rounds.collect());
-        println!("| {name} | {library:.0} | {:.1} |", library / floor);
+/// The library's time for each call by itself, on the full states.
+fn each_call(floors: [f64; 2]) {
+    let full = SIZES.map(|sizes| sizes[sizes.len() - 1]);
+    let [large, small] = full.map(|size| state(size, size.instances));
+    let [a, b] = full.map(|size| size.name);
+    println!("\n| call | on {a}, ns | library / floor | on {b}, ns | library / floor |");
+    println!("|---|---|---|---|---|");
+    let sheets = calls::calls(&large).into_iter().zip(calls::calls(&small));
+    for ((name, of_large), (_, of_small)) in sheets {
+        let [a, b] = [timed_call(name, &large, &of_large), timed_call(name, &small, &of_small)];
+        let [by_a, by_b] = [a / floors[0], b / floors[1]];
+        println!("| {name} | {a:.0} | {by_a:.1} | {b:.0} | {by_b:.1} |");
     }
+}
+
+/// Nanoseconds of a call of the library that is accepted.
+fn timed_call(name: &str, start: &State, sheet: &[u8]) -> f64 {
+    let rounds = (0..ROUNDS).map(|_| {
+        let mut buffers = Buffers::of(start);
+        let time = each(1, || {
+            black_box(buffers.call(black_box(sheet)));
+        });
+        assert_eq!(buffers.answer[0], 0, "{name}");
+        time
+    });
+    median(rounds.collect())
 }
 
 fn row(name: &str, size: Size, times: Option<(f64, f64)>, floor: f64) {
     let Some((rust, library)) = times else { return };
     let (by_rust, by_floor) = (library / rust, library / floor);
     println!(
-        "| {name} | {} | {rust:.0} | {library:.0} | {by_rust:.1} | {by_floor:.1} |",
-        size.name
+        "| {name} | {} | {} | {rust:.0} | {library:.0} | {by_rust:.1} | {by_floor:.1} |",
+        size.places, size.name
     );
 }
 
@@ -92,18 +102,31 @@ fn each(calls: usize, work: impl FnOnce()) -> f64 {
     begun.elapsed().as_nanos() as f64 / calls as f64
 }
 
+/// Bytes that a turn of the floor's loop takes: a shorter loop takes twice as
+/// long where the linker happens to put it across a line of the cache.
+const TURN: usize = 128;
+
 /// One pass that every byte has a say in, and that compiles to vector code.
-fn floor() -> f64 {
-    let bytes = vec![0u8; LENT_BYTES];
+fn floor(lent: usize) -> f64 {
+    let bytes = vec![0u8; lent];
     let pass = || {
-        black_box(black_box(&bytes).iter().fold(0, |all, byte| all | byte));
+        let mut all = [0; TURN];
+        let (turns, _) = black_box(&bytes).as_chunks::<TURN>();
+        for turn in turns {
+            all.iter_mut().zip(turn).for_each(|(all, byte)| *all |= byte);
+        }
+        black_box(all);
     };
-    median((0..ROUNDS).map(|_| each(1, pass)).collect())
+    let time = median((0..ROUNDS).map(|_| each(1, pass)).collect());
+    println!("one pass over {lent} bytes: {time:.0} ns");
+    time
 }
 
 /// What is lent to the library.
 struct Buffers {
     image: Image,
+    /// The length of pens, by the head's number of places.
+    pens: usize,
     head: Vec<u8>,
     out: Vec<u8>,
     answer: [u8; ANSWER_BYTES],
@@ -113,14 +136,15 @@ impl Buffers {
     fn of(state: &State) -> Self {
         let image = Image::of_state(state);
         let head = image.head.bytes().to_vec();
-        Self { image, head, out: vec![0; OUT_BYTES], answer: [0; ANSWER_BYTES] }
+        let pens = pens_bytes(state.head.places);
+        Self { image, pens, head, out: vec![0; OUT_BYTES], answer: [0; ANSWER_BYTES] }
     }
 
     fn call(&mut self, sheet: &[u8]) -> u32 {
         library::call(Lent {
             head: &mut self.head,
             sheet,
-            pens: &mut self.image.pens[..PENS_BYTES],
+            pens: &mut self.image.pens[..self.pens],
             writers: &mut self.image.writers[..WRITERS_BYTES],
             lost: &mut self.image.lost[..LOST_BYTES],
             out: &mut self.out,
@@ -172,7 +196,7 @@ fn timed_reads(state: &State) -> Option<(f64, f64)> {
     let (rust, mut buffers) = (Original::at(state), Buffers::of(state));
     let rust = rust.as_ref()?;
     let asked = reads::questions(state);
-    let pens = &buffers.image.pens[..PENS_BYTES];
+    let pens = &buffers.image.pens[..buffers.pens];
     let (head, out) = (&buffers.head, &mut buffers.out);
     for q in &asked {
         assert_eq!(reads::of_rust(rust, q), reads::of_library(head, pens, out, q), "reads");

@@ -20,7 +20,7 @@ pub struct Mix {
 /// The mixes that a size has.
 pub fn mixes(size: Size) -> Vec<Mix> {
     let mut all = Vec::new();
-    if size.records > 0 {
+    if size.instances > 0 {
         all.push(admitted(size));
         all.push(filtered(size));
     }
@@ -65,13 +65,13 @@ fn samples(state: &State, separation: u64) -> Vec<Filled> {
 }
 
 fn admitted(size: Size) -> Mix {
-    let start = state(size, size.records);
+    let start = state(size, size.instances);
     let sheets = samples(&start, 1);
     mix("admit on known instances", start, sheets, |a| a.number == 0 && a.outcome == 0)
 }
 
 fn filtered(size: Size) -> Mix {
-    let start = state(size, size.records);
+    let start = state(size, size.instances);
     let sheets = samples(&start, 1_000_000_000_000);
     mix("admit stopped by the filter", start, sheets, |a| a.number == 0 && a.outcome == 2)
 }
@@ -86,13 +86,13 @@ fn expiries(size: Size) -> Mix {
             [Filled::code(37).a(due(n) - 1), lapse]
         })
         .collect();
-    mix("expire and lapse", state(size, size.records), sheets, |a| a.number == 0)
+    mix("expire and lapse", state(size, size.instances), sheets, |a| a.number == 0)
 }
 
 /// A new instance that is disposed and purged again; a full table has one
 /// place free for it.
 fn registrations(size: Size) -> Mix {
-    let start = state(size, size.records.min(127));
+    let start = state(size, size.instances.min(usize::from(size.places) - 1));
     let holder = [0x33; 24];
     let sheets = (0..CALLS / 3)
         .flat_map(|n| {
@@ -114,10 +114,10 @@ fn registrations(size: Size) -> Mix {
 
 /// Assertions of a writer and of a participant in turn, by a clock that rises.
 fn assertions(size: Size) -> Mix {
-    let start = state(size, size.records);
+    let start = state(size, size.instances);
     let sheets = (0..CALLS)
         .map(|n| {
-            let writer = start.writers.get(n * 37 % size.records.max(1));
+            let writer = start.writers.get(n * 37 % size.writers.max(1));
             let guid = writer.map_or([9; 16], |w| w.guid);
             let clock = 200 * APART + n as u64;
             if n % 2 == 0 {

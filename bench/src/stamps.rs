@@ -4,7 +4,7 @@ use std::fmt::Debug;
 use std::hint::black_box;
 
 use compare::library;
-use compare::reads::READ_BYTES;
+use compare::read::READ_BYTES;
 use reading::bytes::array_at;
 use reading::wire_time::{MILLISECOND, SECOND};
 

@@ -3,7 +3,10 @@
 use lists::rng::Rng;
 use reading::State;
 use reading::bytes::Guid;
-use reading::layout::{HOLDER_PLACES, Instance, LOST_PLACES, SET_PLACES, Standing, Time, Writer};
+use reading::layout::{
+    HOLDER_PLACES, Instance, LARGE, LOST_BYTES, LOST_PLACES, SET_PLACES, SMALL, Standing, Time,
+    WRITER_PLACES, WRITERS_BYTES, Writer, pens_bytes,
+};
 
 /// All instances saw their last sample at this time, in seconds.
 pub const LAST: i32 = 100;
@@ -17,25 +20,50 @@ pub const EXPIRIES: usize = 16;
 #[derive(Clone, Copy)]
 pub struct Size {
     pub name: &'static str,
-    /// Instances, and as many writer records.
-    pub records: usize,
+    /// Instances that there are places for.
+    pub places: u16,
+    pub instances: usize,
+    /// Writer records.
+    pub writers: usize,
     set: usize,
     holder: usize,
     lost: usize,
 }
 
-pub const SIZES: [Size; 4] = [
-    Size { name: "0", records: 0, set: 0, holder: 0, lost: 0 },
-    Size { name: "16", records: 16, set: 2, holder: 24, lost: 0 },
-    Size { name: "128", records: 128, set: 2, holder: 24, lost: 0 },
-    // Every record, set and holder as large as it can be.
-    Size {
-        name: "128, full",
-        records: 128,
-        set: SET_PLACES,
-        holder: HOLDER_PLACES,
-        lost: LOST_PLACES - EXPIRIES,
-    },
+impl Size {
+    const fn of(name: &'static str, places: u16, records: usize) -> Self {
+        Self { name, places, instances: records, writers: records, set: 2, holder: 24, lost: 0 }
+    }
+
+    /// Every table, set and holder as full as it can be.
+    const fn full(name: &'static str, places: u16) -> Self {
+        Self {
+            name,
+            places,
+            instances: places as usize,
+            writers: WRITER_PLACES,
+            set: SET_PLACES,
+            holder: HOLDER_PLACES,
+            lost: LOST_PLACES - EXPIRIES,
+        }
+    }
+
+    /// The bytes that a call is lent for it.
+    pub fn lent(self) -> usize {
+        pens_bytes(self.places) + WRITERS_BYTES + LOST_BYTES
+    }
+}
+
+/// Those of the large console and of the bench-top one, each with the full one
+/// last.
+pub const SIZES: [&[Size]; 2] = [
+    &[
+        Size::of("0", LARGE, 0),
+        Size::of("16", LARGE, 16),
+        Size::of("128", LARGE, 128),
+        Size::full("128, full", LARGE),
+    ],
+    &[Size::of("16", SMALL, 16), Size::of("32", SMALL, 32), Size::full("32, full", SMALL)],
 ];
 
 /// GUIDs that rise, of participants with eight writers each.
@@ -49,8 +77,8 @@ fn guid(place: usize) -> Guid {
 /// Alive instances with owner, holder, times and writers, and alive writers.
 pub fn state(size: Size, instances: usize) -> State {
     let mut rng = Rng::new(1);
-    let mut state = State::fresh();
-    let guids: Vec<Guid> = (0..size.records).map(guid).collect();
+    let mut state = State::fresh(size.places);
+    let guids: Vec<Guid> = (0..size.writers).map(guid).collect();
     let mut keys: Vec<[u8; 16]> = (0..instances)
         .map(|_| {
             let mut key = [0; 16];

@@ -31,6 +31,12 @@ A key is a name without blanks. A line of its own above the first key, as
 states the largest size of all keys of the file, in bytes: up to 16 a name is padded to the KeyHash, up to 4096 it is
 hashed. Without it the size is 16, or 4096 where a name is longer than 16 bytes.
 
+A console has places for 128 instances. A line of its own above the first call,
+
+  places 32
+
+makes it a bench-top console with places for 32.
+
 Exit status: 0; 1 for a file or a key that cannot be shown; 2 for wrong arguments.
 ";
 

@@ -1,12 +1,12 @@
-//! A day's list: one call a line, `VERB [SUBJECT] [WORD VALUE]..`, comments from `#` on. A line `keys largest SIZE` is
-//! no call.
+//! A day's list: one call a line, `VERB [SUBJECT] [WORD VALUE]..`, comments from `#` on. Lines `keys largest SIZE` and
+//! `places NUMBER` are no calls.
 
 use crate::dates;
 use crate::forms::{Subject, Verb, Word, FORMS};
 use crate::names::Names;
 use crate::nearest::nearest;
 use crate::words::{self, quoted, Moment};
-use dcps::{KeyHash, LivelinessKind, Time};
+use dcps::{KeyHash, LivelinessKind, Places, Time};
 use std::io::{self, BufRead};
 use std::time::Duration;
 
@@ -15,6 +15,9 @@ const LONGEST_LINE: usize = 8_192;
 
 /// What the line that states the largest size of the day's keys starts with.
 pub const KEYS: &str = "keys";
+
+/// What the line that states the number of places for instances starts with.
+const PLACES: &str = "places";
 
 /// The words of a line, as the calls take them.
 #[derive(Debug, Clone, PartialEq, Eq)]
@@ -98,6 +101,13 @@ impl Call {
     }
 }
 
+/// What a line has in it; one that states the size of keys has told it to the names.
+#[derive(Debug, Clone, PartialEq, Eq)]
+pub enum Line {
+    Call(Box<Call>),
+    Places(Places),
+}
+
 /// What is wrong with a line.
 #[derive(Debug, Clone, PartialEq, Eq)]
 pub struct Fault {
@@ -150,22 +160,27 @@ pub fn parts(line: usize, bytes: &[u8]) -> Result<Vec<&str>, String> {
     Ok(text.split_whitespace().take_while(|part| !part.starts_with('#')).collect())
 }
 
-/// The call of a line, if it has one, or what is wrong with it.
-pub fn read_line(line: usize, bytes: &[u8], names: &mut Names) -> Result<Option<Call>, String> {
+/// What a line has in it, if anything, or what is wrong with it.
+pub fn read_line(line: usize, bytes: &[u8], names: &mut Names) -> Result<Option<Line>, String> {
     let parts = parts(line, bytes)?;
     let Some((name, rest)) = parts.split_first() else {
         return Ok(None);
     };
-    if *name == KEYS {
-        names.state(stated_size(rest)?)?;
-        return Ok(None);
+    match *name {
+        KEYS => {
+            names.state(stated_size(rest)?)?;
+            return Ok(None);
+        }
+        PLACES => return stated_places(rest).map(|places| Some(Line::Places(places))),
+        _ => {}
     }
     let (_, verb, subject, takes) =
         FORMS.iter().find(|(form, ..)| form == name).ok_or_else(|| unknown_verb(name))?;
     let mut words = Words::default();
     let rest = read_subject(name, *subject, rest, names, &mut words)?;
     read_words(name, *verb, takes, rest, &mut words)?;
-    Ok(Some(Call { line, text: parts.join(" "), verb: *verb, words }))
+    let call = Call { line, text: parts.join(" "), verb: *verb, words };
+    Ok(Some(Line::Call(Box::new(call))))
 }
 
 /// What a line states behind `keys`.
@@ -176,9 +191,18 @@ pub fn stated_size(rest: &[&str]) -> Result<u64, String> {
     }
 }
 
+/// What a line states behind `places`.
+fn stated_places(rest: &[&str]) -> Result<Places, String> {
+    let [word] = rest else {
+        return Err("places takes one number behind it, as places 32".to_owned());
+    };
+    let places = word.parse().ok().and_then(Places::from_count);
+    places.ok_or_else(|| format!("{} is no number of places: write 32 or 128", quoted(word)))
+}
+
 fn unknown_verb(name: &str) -> String {
     let known: Vec<_> = FORMS.iter().map(|(form, ..)| *form).collect();
-    let meant = nearest(name, known.iter().copied().chain([KEYS]));
+    let meant = nearest(name, known.iter().copied().chain([KEYS, PLACES]));
     let meant = meant.map_or(String::new(), |form| format!(" (did you mean '{form}'?)"));
     format!("{} is no call{meant}; the calls are {}", quoted(name), known.join(", "))
 }
@@ -346,7 +370,8 @@ pub fn read(file: &[u8], names: &mut Names) -> Result<Vec<Call>, Vec<Fault>> {
     let mut faults = Vec::new();
     let mut source = file;
     let read = each_line(&mut source, |line, bytes| match read_line(line, bytes, names) {
-        Ok(call) => calls.extend(call),
+        Ok(Some(Line::Call(call))) => calls.push(*call),
+        Ok(_) => {}
         Err(what) => faults.push(Fault { line, what }),
     });
     assert!(read.is_ok());
@@ -421,6 +446,20 @@ mod tests {
     }
 
     #[test]
+    fn a_console_has_32_places_or_128() {
+        assert!(fault("place 32").contains("did you mean 'places'?"));
+        for figure in ["0", "31", "33", "64", "127", "129", "-32", "all"] {
+            assert_eq!(
+                fault(&format!("places {figure}")),
+                format!("'{figure}' is no number of places: write 32 or 128")
+            );
+        }
+        for line in ["places", "places 32 128", "places for 32"] {
+            assert_eq!(fault(line), "places takes one number behind it, as places 32");
+        }
+    }
+
+    #[test]
     fn every_fault_has_its_line() {
         let file = b"expire at 1s\nbad\nexpire at x\n\xff\xfe\n";
         let faults = read(file, &mut Names::default()).expect_err("bad lines");
@@ -463,6 +502,8 @@ mod tests {
         "keys",
         "largest",
         "4096",
+        "places",
+        "32",
     ];
 
     #[test]

@@ -46,7 +46,7 @@ impl Names {
             return Err("'keys' stands twice: leave one of them".to_owned());
         }
         if self.keyed {
-            return Err("keys stands below a key: write it above the first one".to_owned());
+            return Err("'keys' stands below a key: write it above the first one".to_owned());
         }
         dcps::key_hash(b"", largest)
             .map_err(|refusal| format!("{refusal}: write a size of up to {LARGEST}"))?;
@@ -201,7 +201,7 @@ mod tests {
         assert_eq!(names.state(64), Err("'keys' stands twice: leave one of them".to_owned()));
         let mut names = Names::default();
         assert!(names.key("pen-01").is_ok());
-        assert!(names.state(64).is_err_and(|e| e.starts_with("keys stands below a key")));
+        assert!(names.state(64).is_err_and(|e| e.starts_with("'keys' stands below a key")));
         for size in [0, FITTING, LARGEST] {
             assert_eq!(Names::default().state(size), Ok(()));
         }

@@ -1,11 +1,11 @@
 //! Plays a day: reads it line by line, makes each call, and shows it to those who watch. Nothing is kept of a
 //! line but what they keep.
 
-use crate::day::{each_line, read_line, Call, Fault};
+use crate::day::{each_line, read_line, Call, Fault, Line};
 use crate::make::{make, Said};
 use crate::mirror::{Changes, Mirror};
 use crate::names::Names;
-use dcps::{Refusal, State};
+use dcps::{Places, Refusal, State};
 use std::io::{self, BufRead};
 
 /// A call that was made.
@@ -43,6 +43,9 @@ struct Player<'a> {
     names: &'a mut Names,
     state: State,
     mirror: Mirror,
+    /// Whether the day has stated the number of places, and whether it has made a call.
+    stated: bool,
+    called: bool,
     faults: Faults,
 }
 
@@ -54,7 +57,8 @@ pub fn play(
     watchers: &mut [&mut dyn Watch],
 ) -> Result<State, Stop> {
     let faults = Faults { first: Vec::new(), all: 0 };
-    let mut player = Player { names, state: State::new(), mirror: Mirror::default(), faults };
+    let (state, mirror) = (State::new(), Mirror::default());
+    let mut player = Player { names, state, mirror, stated: false, called: false, faults };
     each_line(source, |line, bytes| player.line(line, bytes, watchers))
         .map_err(Stop::Unreadable)?;
     if player.faults.all == 0 {
@@ -66,19 +70,39 @@ pub fn play(
 
 impl Player<'_> {
     fn line(&mut self, line: usize, bytes: &[u8], watchers: &mut [&mut dyn Watch]) {
-        match read_line(line, bytes, self.names) {
-            Ok(Some(call)) if self.faults.all == 0 => self.call(&call, watchers),
-            Ok(_) => {}
-            Err(what) => {
-                self.faults.all += 1;
-                if self.faults.first.len() < FAULTS_KEPT {
-                    self.faults.first.push(Fault { line, what });
-                }
+        let taken = read_line(line, bytes, self.names).and_then(|read| match read {
+            Some(Line::Places(places)) => self.places(places),
+            Some(Line::Call(call)) => {
+                self.call(&call, watchers);
+                Ok(())
+            }
+            None => Ok(()),
+        });
+        if let Err(what) = taken {
+            self.faults.all += 1;
+            if self.faults.first.len() < FAULTS_KEPT {
+                self.faults.first.push(Fault { line, what });
             }
         }
     }
 
+    /// A state has its places from its beginning, so no call may have been made on it.
+    fn places(&mut self, places: Places) -> Result<(), String> {
+        if std::mem::replace(&mut self.stated, true) {
+            return Err("'places' stands twice: leave one of them".to_owned());
+        }
+        if self.called {
+            return Err("'places' stands below a call: write it above the first one".to_owned());
+        }
+        self.state = State::with_places(places);
+        Ok(())
+    }
+
     fn call(&mut self, call: &Call, watchers: &mut [&mut dyn Watch]) {
+        self.called = true;
+        if self.faults.all > 0 {
+            return;
+        }
         let said = make(&mut self.state, call);
         let changes = match &said {
             Ok(said) => self.mirror.follow(call, said, &self.state),

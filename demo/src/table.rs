@@ -6,8 +6,8 @@ use crate::play::{Step, Watch};
 use crate::said::{in_words, status};
 use crate::words::{show_clock, show_delay, show_guid, show_time};
 use dcps::{
-    Instance, InstanceState, InstanceStateKind, LivelinessKind, Refusal, State, WriterLiveliness,
-    WriterState,
+    Instance, InstanceState, InstanceStateKind, LivelinessKind, Places, Refusal, State,
+    WriterLiveliness, WriterState,
 };
 use std::fmt::Write;
 
@@ -86,13 +86,22 @@ impl Tables {
             self.calls, self.refused, self.turned_away, self.abandoned
         );
         lines(&mut text, &self.notable, self.refused + self.turned_away);
-        let _ = writeln!(text, "\nInstances: {}", state.len());
+        let _ = writeln!(text, "\nInstances: {}{}", state.len(), of_places(state.places()));
         text += &instances(state, names);
         lines(&mut text, &self.purged, self.purged.len());
         let _ = writeln!(text, "\nWriters: {}", state.writers().count());
         text += &writers(state, names);
         let _ = writeln!(text, "\nLiveliness: {}", status(&state.status()?));
         Ok(text)
+    }
+}
+
+/// The room that a console has, where it is not the usual.
+fn of_places(places: Places) -> String {
+    if places == Places::default() {
+        String::new()
+    } else {
+        format!(" of {} places", places.count())
     }
 }
 

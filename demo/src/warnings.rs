@@ -7,7 +7,7 @@ use crate::names::Names;
 use crate::nearest::nearest;
 use crate::play::{Step, Watch};
 use crate::words::{moment_of_clock, show_guid, show_moment, spoken, Moment};
-use dcps::{KeyHash, WriterLiveliness};
+use dcps::{KeyHash, Refusal, WriterLiveliness};
 use std::collections::{BTreeSet, HashMap, HashSet};
 
 const KEPT: usize = 20;
@@ -22,6 +22,7 @@ pub struct Warnings {
     keys: HashSet<KeyHash>,
     /// Keys that were warned of.
     unknown: HashSet<KeyHash>,
+    crowded: bool,
     writers: HashMap<[u8; 16], Signs>,
 }
 
@@ -38,6 +39,7 @@ impl Watch for Warnings {
     fn see(&mut self, step: &Step<'_>) {
         self.key(step);
         self.writer(step);
+        self.place(step);
         if step.said.is_err() {
             return;
         }
@@ -110,6 +112,21 @@ impl Warnings {
                 format!("nobody has named {key} before, so the call changes nothing{meant}")
             });
         }
+    }
+
+    /// A new instance that finds no place, the first time: no table has it, so it is never seen to be abandoned.
+    fn place(&mut self, step: &Step<'_>) {
+        if *step.said != Err(Refusal::InstancesFull) || self.crowded {
+            return;
+        }
+        self.crowded = true;
+        self.warn(step.call.line, |_| {
+            let (key, places) = (step.names.show(&step.call.words.key), step.state.places());
+            format!(
+                "all {} places are taken, so {key} gets none: purge what is abandoned (autopurge) before it comes",
+                places.count()
+            )
+        });
     }
 
     /// A writer that was never matched: its lease is not known, so it never lapses.
@@ -220,6 +237,17 @@ mod tests {
             2,
             "the lease of a/b is 5 min, and 9 min passed",
         );
+    }
+
+    #[test]
+    fn a_full_table_is_said_once() {
+        let day = |first: &str, instances: usize| {
+            let calls = (0..instances).map(|n| format!("register pen-{n}\n"));
+            first.to_owned() + &calls.collect::<String>()
+        };
+        one(&day("places 32\n", 35), 34, "all 32 places are taken, so pen-32 gets none");
+        one(&day("", 130), 129, "all 128 places are taken, so pen-128 gets none");
+        assert_eq!(warned(&day("places 32\n", 32)), []);
     }
 
     #[test]

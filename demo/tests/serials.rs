@@ -116,7 +116,11 @@ fn the_size_is_stated_once_and_above_the_first_key() {
     let twice = written("twice.txt", b"keys largest 64\nkeys largest 64\n");
     turned_down(&[&twice], 1, "twice.txt:2: 'keys' stands twice: leave one of them");
     let below = written("below.txt", b"expire at 1s\nregister abc\nkeys largest 64\n");
-    turned_down(&[&below], 1, "below.txt:3: keys stands below a key: write it above the first one");
+    turned_down(
+        &[&below],
+        1,
+        "below.txt:3: 'keys' stands below a key: write it above the first one",
+    );
     assert!(shown(&["-"], "expire at 1s\nkeys largest 64\nregister abc\n").contains("\n  abc "));
 }
 

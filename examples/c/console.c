@@ -1,5 +1,5 @@
 /* A small console from the two headers alone: it reads lines from standard input, one call each, and shows which instances
- * still have a writer.
+ * still have a writer. `console` has places for 128 instances, `console 32` for 32, in a fourth of the memory for pens.
  *
  *     at SECONDS                        the time and the clock from here on
  *     match WRITER [LEASE]              an automatic writer, its lease in seconds
@@ -23,7 +23,7 @@
 #define SERIAL_LARGEST (4 + 64 + 1)
 #define LINE 256
 
-static struct dcps_state console;
+static struct dcps_lent console;
 static uint8_t sheet[DCPS_SHEET_BYTES], answer[DCPS_ANSWER_BYTES];
 static uint32_t now;
 
@@ -105,7 +105,7 @@ static void print_handle(uint64_t handle)
 /* Makes the call of the sheet. */
 static int call(void)
 {
-    return accepted(dcps_state_call(&console, sheet, answer));
+    return accepted(dcps_lent_call(console, sheet, answer));
 }
 
 static void print_left(void)
@@ -247,8 +247,9 @@ static void print_writer(const uint8_t *record)
 
 static void show(void)
 {
-    printf("  %" PRIu32 " instances, %" PRIu32 " writers alive, %" PRIu32 " not\n", dcps_head_instances(console.head),
-           dcps_head_alive(console.head), dcps_head_not_alive(console.head));
+    printf("  %" PRIu32 " instances in %u places, %" PRIu32 " writers alive, %" PRIu32 " not\n",
+           dcps_head_instances(console.head), dcps_head_places(console.head), dcps_head_alive(console.head),
+           dcps_head_not_alive(console.head));
     DCPS_EACH_INSTANCE(record, console.head, console.pens)
         print_instance(record);
     DCPS_EACH_WRITER(record, console.head, console.writers)
@@ -286,16 +287,29 @@ static void obey(char *line)
         printf("  not understood\n");
 }
 
-int main(void)
+static int version_differs(void)
 {
-    char line[LINE];
     uint32_t version = dcps_version();
-    if (version != DCPS_VERSION_NUMBER) {
-        fprintf(stderr, "the header is of %s, the library of %" PRIu32 ".%" PRIu32 ".%" PRIu32 "\n", DCPS_VERSION, version >> 16,
-                version >> 8 & 255, version & 255);
+    if (version == DCPS_VERSION_NUMBER)
+        return 0;
+    fprintf(stderr, "the header is of %s, the library of %" PRIu32 ".%" PRIu32 ".%" PRIu32 "\n", DCPS_VERSION, version >> 16,
+            version >> 8 & 255, version & 255);
+    return 1;
+}
+
+int main(int count, char **words)
+{
+    static struct dcps_state large;
+    static struct dcps_small_state small;
+    char line[LINE];
+    if (version_differs())
         return 1;
+    if (count > 2 || (count == 2 && strcmp(words[1], "32") != 0)) {
+        fprintf(stderr, "console [32]\n");
+        return 2;
     }
-    dcps_state_fresh(&console);
+    console = count == 2 ? dcps_small_state_lent(&small) : dcps_state_lent(&large);
+    dcps_lent_fresh(console);
     while (fgets(line, sizeof line, stdin))
         obey(line);
     return 0;

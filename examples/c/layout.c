@@ -2,7 +2,7 @@
  * (bindings/rust/tests/inline.rs) compares with its own:
  *
  *     layout sheets           a line for each builder, its sheet in hexadecimal; then words, keys, stamps and handles
- *     layout state FILE       head, records, lost and out of a state's bytes
+ *     layout state FILE       head, records, lost and out of a state's bytes, of either size
  *     layout answers FILE     answers of 72 bytes
  *     layout reads FILE       answers of reads, of keys and of stamps, 24 bytes each */
 #include <inttypes.h>
@@ -197,32 +197,48 @@ static void print_writer(const uint8_t *r)
     printf(" %" PRIu64 "\n", dcps_writer_last_assertion(r));
 }
 
-static void print_state(const struct dcps_state *s)
+static void print_head(const uint8_t *h)
 {
-    const uint8_t *h = s->head;
-    printf("head %" PRIu32 " %" PRIu32 " %" PRIu32 " %" PRIu32 " %" PRIu32 " %" PRId32 " %" PRId32 " %" PRIu64 " %" PRIu64,
+    printf("head %" PRIu32 " %" PRIu32 " %" PRIu32 " %" PRIu32 " %" PRIu32 " %" PRId32 " %" PRId32 " %u %zu %" PRIu64 " %" PRIu64,
            dcps_head_instances(h), dcps_head_writers(h), dcps_head_lost(h), dcps_head_alive(h), dcps_head_not_alive(h),
-           dcps_head_alive_change(h), dcps_head_not_alive_change(h), dcps_head_next_handle(h), dcps_head_changes(h));
+           dcps_head_alive_change(h), dcps_head_not_alive_change(h), dcps_head_places(h), dcps_head_pens_bytes(h),
+           dcps_head_next_handle(h), dcps_head_changes(h));
     print_bytes(dcps_head_last_writer(h), DCPS_GUID_BYTES);
     printf("\n");
-    DCPS_EACH_INSTANCE(r, h, s->pens) {
+}
+
+static void print_state(struct dcps_lent s)
+{
+    const uint8_t *h = s.head;
+    print_head(h);
+    if (dcps_pens_records(s.pens, s.pens_bytes) != dcps_instance_records(h))
+        printf("records behind the last\n");
+    DCPS_EACH_INSTANCE(r, h, s.pens) {
         print_instance(r);
-        if (dcps_instance_by_key(h, s->pens, dcps_instance_key(r)) != r ||
-            dcps_instance_by_handle(h, s->pens, dcps_instance_handle(r)) != r)
+        if (dcps_instance_by_key(h, s.pens, dcps_instance_key(r)) != r ||
+            dcps_instance_by_handle(h, s.pens, dcps_instance_handle(r)) != r)
             printf("not found\n");
     }
-    DCPS_EACH_WRITER(r, h, s->writers) {
+    DCPS_EACH_WRITER(r, h, s.writers) {
         print_writer(r);
-        if (dcps_writer_by_guid(h, s->writers, dcps_writer_guid(r)) != r)
+        if (dcps_writer_by_guid(h, s.writers, dcps_writer_guid(r)) != r)
             printf("not found\n");
     }
-    DCPS_EACH_GUID(guid, s->lost, dcps_head_lost(h)) {
+    DCPS_EACH_GUID(guid, s.lost, dcps_head_lost(h)) {
         printf("lost");
         print_bytes(guid, DCPS_GUID_BYTES);
         printf("\n");
     }
-    DCPS_EACH_HANDLE(handle, s->out, 3)
+    DCPS_EACH_HANDLE(handle, s.out, 3)
         printf("out %" PRIu64 "\n", handle);
+}
+
+/* The bytes of a struct dcps_state or a struct dcps_small_state, by what its head says. */
+static int read_state(FILE *file, struct dcps_lent *s)
+{
+    return fread(s->head, DCPS_HEAD_BYTES, 1, file) == 1 && (s->pens_bytes = dcps_head_pens_bytes(s->head)) != 0 &&
+           fread(s->pens, s->pens_bytes, 1, file) == 1 && fread(s->writers, DCPS_WRITERS_BYTES, 1, file) == 1 &&
+           fread(s->lost, DCPS_LOST_BYTES, 1, file) == 1 && fread(s->out, DCPS_OUT_BYTES, 1, file) == 1;
 }
 
 static void print_answer(const uint8_t *a)
@@ -247,6 +263,25 @@ static void print_read(const uint8_t *a)
     printf(" %" PRIu32 " %" PRIu32 " %" PRIu32 "\n", dcps_read_fraction(a), dcps_read_remainder(a), dcps_read_wire_nanos(a));
 }
 
+/* A head from before heads had the number of places is carried over, once. A head with more instances than places leads to no
+ * record behind the pens that go with it, and one with another number of places to none. */
+static int heads(void)
+{
+    static const uint16_t places[] = {0, 31, 32, 33, 127, 128, 129, 0x2000, 0xffff};
+    static const size_t records[] = {0, 0, 32, 0, 0, 128, 0, 0, 0};
+    uint8_t head[DCPS_HEAD_BYTES];
+    size_t i;
+    memset(head, 0xff, sizeof head);
+    for (i = 0; i < sizeof places / sizeof *places; i++) {
+        dcps_put_u16(head + DCPS_HEAD_PLACES, places[i]);
+        if (dcps_instance_records(head) != records[i] || dcps_head_pens_bytes(head) != records[i] * DCPS_INSTANCE_BYTES)
+            return 1;
+        if (dcps_carry_head(head) != (places[i] == 0) || dcps_head_places(head) != (places[i] ? places[i] : 128))
+            return 1;
+    }
+    return 0;
+}
+
 /* A kind that is none is refused, and a body may use the answer again from which the number of turns came. */
 static int traps(void)
 {
@@ -264,12 +299,13 @@ static int traps(void)
 
 int main(int count, char **words)
 {
-    static struct dcps_state state;
+    static struct dcps_state bytes;
+    struct dcps_lent state = dcps_state_lent(&bytes);
     uint8_t answer[DCPS_ANSWER_BYTES];
     FILE *file;
     if (count == 2 && strcmp(words[1], "sheets") == 0) {
         print_sheets();
-        return traps();
+        return traps() || heads();
     }
     file = count == 3 ? fopen(words[2], "rb") : NULL;
     if (!file) {
@@ -277,8 +313,8 @@ int main(int count, char **words)
         return 2;
     }
     if (strcmp(words[1], "state") == 0) {
-        if (fread(&state, sizeof state, 1, file) == 1)
-            print_state(&state);
+        if (read_state(file, &state))
+            print_state(state);
     } else if (strcmp(words[1], "answers") == 0) {
         while (fread(answer, DCPS_ANSWER_BYTES, 1, file) == 1)
             print_answer(answer);

@@ -1,5 +1,5 @@
-/* The same calls, keys and stamps with every buffer at each address modulo 16, and in threads of their own: the same states,
- * answers, hashes and fractions. */
+/* The same calls, keys and stamps with every buffer at each address modulo 16, on states of either size, and in threads of
+ * their own: the same states, answers, hashes and fractions. */
 #define _POSIX_C_SOURCE 200809L
 #include <pthread.h>
 #include <stdio.h>
@@ -8,6 +8,7 @@
 #include "dcps_inline.h"
 
 #define CALLS 200
+#define RUNS 17 /* of each size */
 #define HALF 500000u /* of a millisecond, in nanoseconds */
 
 struct run {
@@ -16,10 +17,18 @@ struct run {
     uint8_t keys[CALLS][DCPS_READ_BYTES];
     uint8_t fractions[CALLS][DCPS_READ_BYTES];
     uint8_t nanos[CALLS][DCPS_READ_BYTES];
-    size_t shift;
+    size_t shift, pens_bytes;
 };
 
-static struct run runs[17];
+static struct run runs[2 * RUNS];
+
+/* Head and buffers of a run, one behind the other. */
+static struct dcps_lent state_of(struct run *run)
+{
+    uint8_t *head = run->bytes + run->shift, *pens = head + DCPS_HEAD_BYTES, *writers = pens + run->pens_bytes;
+    uint8_t *lost = writers + DCPS_WRITERS_BYTES;
+    return dcps_lent_of(head, pens, run->pens_bytes, writers, lost, lost + DCPS_LOST_BYTES);
+}
 
 /* A sheet that depends on its number alone, of any code. */
 static void fill(uint8_t *sheet, unsigned number)
@@ -42,13 +51,13 @@ static void fill(uint8_t *sheet, unsigned number)
 static void *make(void *pointer)
 {
     struct run *run = (struct run *)pointer;
-    struct dcps_state *state = (struct dcps_state *)(void *)(run->bytes + run->shift); /* of bytes alone: no alignment */
-    uint8_t *sheet = run->bytes + run->shift + sizeof *state, *answer = sheet + DCPS_SHEET_BYTES;
+    struct dcps_lent state = state_of(run);
+    uint8_t *sheet = state.out + DCPS_OUT_BYTES, *answer = sheet + DCPS_SHEET_BYTES;
     unsigned number;
-    dcps_state_fresh(state);
+    dcps_lent_fresh(state);
     for (number = 0; number < CALLS; number++) {
         fill(sheet, number);
-        dcps_state_call(state, sheet, answer);
+        dcps_lent_call(state, sheet, answer);
         memcpy(run->answers[number], answer, DCPS_ANSWER_BYTES);
         dcps_key_hash(sheet, number, number % 2 ? DCPS_KEY_LARGEST_BYTES : DCPS_KEY_BYTES, answer, DCPS_READ_BYTES);
         memcpy(run->keys[number], answer, DCPS_READ_BYTES);
@@ -60,32 +69,41 @@ static void *make(void *pointer)
     return NULL;
 }
 
+/* Answers as those of the first run, and head and buffers as those of the first of its size. */
+static int same(const struct run *run, const struct run *first_of_size)
+{
+    return memcmp(run->answers, runs[0].answers, sizeof run->answers) == 0 &&
+           memcmp(run->keys, runs[0].keys, sizeof run->keys) == 0 &&
+           memcmp(run->fractions, runs[0].fractions, sizeof run->fractions) == 0 &&
+           memcmp(run->nanos, runs[0].nanos, sizeof run->nanos) == 0 &&
+           memcmp(run->bytes + run->shift, first_of_size->bytes,
+                  sizeof(struct dcps_state) - DCPS_PENS_BYTES + run->pens_bytes) == 0;
+}
+
 int main(void)
 {
-    pthread_t threads[17];
+    pthread_t threads[2 * RUNS];
     size_t i, accepted = 0, keys = 0, stamps = 0;
-    for (i = 0; i < 17; i++) {
-        runs[i].shift = i % 16;
+    for (i = 0; i < 2 * RUNS; i++) {
+        runs[i].shift = i % RUNS % 16;
+        runs[i].pens_bytes = i < RUNS ? DCPS_PENS_BYTES : DCPS_SMALL_PENS_BYTES;
         if (pthread_create(&threads[i], NULL, make, &runs[i]) != 0)
             abort();
     }
-    for (i = 0; i < 17; i++)
+    for (i = 0; i < 2 * RUNS; i++)
         pthread_join(threads[i], NULL);
     for (i = 0; i < CALLS; i++) {
         accepted += runs[0].answers[i][DCPS_ANSWER_NUMBER] == DCPS_ACCEPTED;
         keys += dcps_read_number(runs[0].keys[i]) == DCPS_ACCEPTED;
         stamps += dcps_read_wire_nanos(runs[0].nanos[i]) == i * 11 * HALF;
     }
-    for (i = 1; i < 17; i++)
-        if (memcmp(runs[i].answers, runs[0].answers, sizeof runs[i].answers) != 0 ||
-            memcmp(runs[i].keys, runs[0].keys, sizeof runs[i].keys) != 0 ||
-            memcmp(runs[i].fractions, runs[0].fractions, sizeof runs[i].fractions) != 0 ||
-            memcmp(runs[i].nanos, runs[0].nanos, sizeof runs[i].nanos) != 0 ||
-            memcmp(runs[i].bytes + runs[i].shift, runs[0].bytes, sizeof(struct dcps_state)) != 0) {
+    for (i = 1; i < 2 * RUNS; i++)
+        if (!same(&runs[i], &runs[i / RUNS * RUNS])) {
             fprintf(stderr, "unaligned: another result at %zu\n", i);
             return 1;
         }
-    printf("unaligned: %zu of %d calls and %zu keys accepted, %zu stamps recovered, the same at each address modulo 16, in 17 threads\n",
-           accepted, CALLS, keys, stamps);
+    printf("unaligned: %zu of %d calls and %zu keys accepted, %zu stamps recovered, the same at each address modulo 16, with 32 and "
+           "128 places, in %d threads\n",
+           accepted, CALLS, keys, stamps, 2 * RUNS);
     return accepted < CALLS / 2 || keys < CALLS / 2 || stamps < CALLS / 2;
 }

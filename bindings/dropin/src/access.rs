@@ -1,10 +1,15 @@
 //! Sets and gets the state of a tracker, as `src/append` of the oracle does of ZeroDDS's: through the bytes of `State`, laid
 //! out by the oracle's reading.
 
-use dcps::{Refusal, SharedState, State};
+use dcps::{Places, Refusal, SharedState, State};
 use lists::Image;
 use reading::{Head, State as Records};
-use std::cell::RefCell;
+use std::cell::{Cell, RefCell};
+
+/// No records, with the places that are set.
+fn fresh() -> Records {
+    Records::fresh(PLACES.get().count() as u16)
+}
 
 /// The state of records; they come from one that is well formed.
 fn laid_out(mut records: Records) -> State {
@@ -13,9 +18,10 @@ fn laid_out(mut records: Records) -> State {
     records.head.lost = records.lost.len() as u32;
     let image = Image::of_state(&records);
     let head: [u8; 64] = image.head.bytes();
+    let places = Places::of_head(&head).expect("32 or 128");
     State::from_parts(
         &head,
-        image.pens.first_chunk().expect("as long"),
+        &image.pens[..places.pens_bytes()],
         image.writers.first_chunk().expect("as long"),
         image.lost.first_chunk().expect("as long"),
     )
@@ -25,6 +31,14 @@ fn laid_out(mut records: Records) -> State {
 thread_local! {
     /// The states that were set last: of the instances, of the writers.
     static SET: RefCell<[SharedState; 2]> = RefCell::default();
+    /// For how many instances the next ones have places.
+    static PLACES: Cell<Places> = const { Cell::new(Places::Large) };
+}
+
+/// For how many instances the trackers have places that are set from here on. The driver does not say, as ZeroDDS has room
+/// for any number.
+pub fn set_places(places: Places) {
+    PLACES.set(places);
 }
 
 /// Why the latest call on the trackers set last was refused. The driver has no place for it, as ZeroDDS refuses nothing.
@@ -33,13 +47,13 @@ pub fn take_refusal() -> Option<Refusal> {
 }
 
 pub mod instances {
-    use super::{Records, SET, laid_out};
+    use super::{SET, fresh, laid_out};
     use dcps::instance_tracker::{InstanceState, InstanceTracker, KeyHash};
     use dcps::{InstanceStateKind, Time};
     use reading::layout::{self, Instance, Kind};
 
     pub fn set(tracker: &InstanceTracker, instances: Vec<(KeyHash, InstanceState)>) {
-        let mut records = Records::fresh();
+        let mut records = fresh();
         let next = instances.iter().map(|(_, s)| s.handle.as_raw() + 1).max();
         records.head.next_handle = next.unwrap_or(1);
         records.instances = instances.into_iter().map(|(key, s)| record(key, s)).collect();
@@ -89,7 +103,7 @@ pub mod instances {
 }
 
 pub mod liveliness {
-    use super::{Head, Records, SET, laid_out};
+    use super::{Head, SET, fresh, laid_out};
     use dcps::liveliness_tracker::LivelinessTracker;
     use dcps::{LivelinessKind, SharedState, WriterLiveliness, WriterState};
     use reading::layout::{self, WriterKind};
@@ -122,7 +136,7 @@ pub mod liveliness {
     }
 
     pub fn set(held: &Held) -> LivelinessTracker {
-        let mut records = Records::fresh();
+        let mut records = fresh();
         records.head = Head {
             alive: held.alive as u32,
             not_alive: held.not_alive as u32,

@@ -8,7 +8,7 @@ mod driver;
 pub use driver::{Original, Turn, handle_of, two_handles};
 
 mod access;
-pub use access::take_refusal;
+pub use access::{set_places, take_refusal};
 
 /// The handles, with the counter's access that the driver asks for.
 pub mod instance_handle {

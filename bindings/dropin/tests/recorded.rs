@@ -1,7 +1,8 @@
 //! The recorded lists, and generated ones, through the driver over our trackers: answers, Out, head and buffers are those
 //! recorded. Calls refused as 1 to 8 are not the driver's, as ZeroDDS knows no such refusal; the reading answers them.
 
-use dropin::{Original, take_refusal};
+use dcps::Places;
+use dropin::{Original, set_places, take_refusal};
 use lists::{format, replay, run};
 use reading::{Answer, Head, Lent, Sheet, State};
 
@@ -20,7 +21,10 @@ impl Beside {
     fn at(&mut self, state: State) -> Original {
         match self.trackers.take() {
             Some((left, trackers)) if left == state => trackers,
-            _ => Original::at(&state).expect("ours are there"),
+            _ => {
+                set_places(Places::from_count(state.head.places.into()).expect("32 or 128"));
+                Original::at(&state).expect("ours are there")
+            }
         }
     }
 

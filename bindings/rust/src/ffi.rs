@@ -1,8 +1,8 @@
-//! The C boundary, as include/dcps.h has it. Fixed lengths here are why no call of this crate can be refused as 1.
+//! The C boundary, as include/dcps.h has it. No call on a state can be refused as 1: all lengths but that of pens are fixed here,
+//! and that one was judged when the state was made.
 
 use crate::layout::{
-    array_at, i32_at, u32_at, u64_at, ANSWER_BYTES, HEAD_BYTES, OUT_BYTES, PENS_BYTES, READ_BYTES,
-    SHEET_BYTES,
+    array_at, i32_at, u32_at, u64_at, ANSWER_BYTES, HEAD_BYTES, OUT_BYTES, READ_BYTES, SHEET_BYTES,
 };
 use crate::state::{refusal, Lent};
 use crate::{InstanceHandle, KeyHash, Refusal, Time, WireFraction};
@@ -36,7 +36,7 @@ pub(crate) fn call(lent: Lent<'_>, sheet: &[u8; SHEET_BYTES]) -> (u32, [u8; ANSW
     (number, answer)
 }
 
-/// Head and buffers become those of the fresh state.
+/// Head and buffers become those of the fresh state; its places are those of pens.
 pub(crate) fn fresh(lent: Lent<'_>) -> u32 {
     // SAFETY: as in `call`.
     unsafe {
@@ -120,19 +120,17 @@ macro_rules! reads {
     };
 }
 
-type Pens = [u8; PENS_BYTES];
-
 reads! {
     filter = dcps_should_deliver_under_time_based_filter(
-        pens: &Pens; high: u64, low: u64, sec: i32, nanosec: u32, min_separation: u64);
+        pens: &[u8]; high: u64, low: u64, sec: i32, nanosec: u32, min_separation: u64);
     order = dcps_should_deliver_under_destination_order(
-        pens: &Pens; high: u64, low: u64, sec: i32, nanosec: u32, by_source: u8);
-    last_delivered_ts = dcps_last_delivered_ts(pens: &Pens; high: u64, low: u64);
-    next_handle_after = dcps_next_handle_after(pens: &Pens; previous: u64);
-    handle_at_position = dcps_handle_at_position(pens: &Pens; position: usize);
-    holder_in_force = dcps_holder_in_force(pens: &Pens; high: u64, low: u64);
-    writer_lookup = dcps_writer_lookup(pens: &Pens; high: u64, low: u64);
-    would_leave_writerless = dcps_would_leave_writerless(pens: &Pens, gone: &[u8]; view_states: u32);
+        pens: &[u8]; high: u64, low: u64, sec: i32, nanosec: u32, by_source: u8);
+    last_delivered_ts = dcps_last_delivered_ts(pens: &[u8]; high: u64, low: u64);
+    next_handle_after = dcps_next_handle_after(pens: &[u8]; previous: u64);
+    handle_at_position = dcps_handle_at_position(pens: &[u8]; position: usize);
+    holder_in_force = dcps_holder_in_force(pens: &[u8]; high: u64, low: u64);
+    writer_lookup = dcps_writer_lookup(pens: &[u8]; high: u64, low: u64);
+    would_leave_writerless = dcps_would_leave_writerless(pens: &[u8], gone: &[u8]; view_states: u32);
     changes = dcps_changes(head: &[u8; HEAD_BYTES];);
     key_hash = dcps_key_hash(serialized: &[u8]; largest: u64);
     wire_fraction = dcps_wire_fraction(; nanosec: u32);
@@ -140,7 +138,7 @@ reads! {
 }
 
 pub(crate) fn left_writerless(
-    pens: &Pens,
+    pens: &[u8],
     gone: &[u8],
     view_states: u32,
     out: &mut [u8; OUT_BYTES],

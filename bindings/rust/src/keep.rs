@@ -5,7 +5,8 @@
 //! its bytes, then, once they are synced, its header. Whenever that is cut, the other slot is whole: [`Keeper::load`]
 //! gives the state of the last save that ended or of the one that was cut, and never anything else.
 //!
-//! The area is that of examples/c/dcps_keep.h, whose comment has the layout. The checksum tells a cut write, not a
+//! The area is that of examples/c/dcps_keep.h, whose comment has the layout. It keeps states of one size, which any whole
+//! slot tells ([`Keeper::places`]); [`Keeper::start`] makes it one of another. The checksum tells a cut write, not a
 //! malicious one.
 //!
 #![cfg_attr(feature = "alloc", doc = "```")]
@@ -16,8 +17,13 @@
 //! let mut area = vec![0; AREA_BYTES];
 //! let mut keeper = Keeper::new(&mut area[..]);
 //! let mut state = State::new();
-//! if let Err(KeepError::NoneWhole { .. }) = keeper.load(&mut state) {
-//!     keeper.start(&state)?;
+//! match keeper.load(&mut state) {
+//!     Ok(_) => {}
+//!     // Nothing was kept.
+//!     Err(KeepError::NoneWhole { damaged: [false, false] }) => keeper.start(&state)?,
+//!     // `keeper.places()` tells how many; the area stays as it is.
+//!     Err(KeepError::OtherPlaces) => return Err(KeepError::OtherPlaces),
+//!     Err(error) => return Err(error),
 //! }
 //! state.register([1; 16], b"serial 1", None).expect("there is room");
 //! keeper.save(&state)?;
@@ -28,24 +34,37 @@
 //! # Ok::<(), KeepError<dcps::keep::TooShort>>(())
 //! ```
 
-use crate::layout::{put, u64_at, HEAD_BYTES, LOST_BYTES, PENS_BYTES, WRITERS_BYTES};
+use crate::layout::{put, u64_at, HEAD_BYTES, LOST_BYTES, WRITERS_BYTES};
 use crate::state::{Buffers, Seen};
-use crate::{InstanceHandle, State};
+use crate::{carry_head, InstanceHandle, Places, State};
 use core::fmt;
 
 const HEADER_BYTES: usize = 64;
 const MAGIC: &[u8; 8] = b"dcpskeep";
 
-/// The length of a slot.
-pub const SLOT_BYTES: usize = HEADER_BYTES + HEAD_BYTES + PENS_BYTES + WRITERS_BYTES + LOST_BYTES;
-/// The length of an area.
-pub const AREA_BYTES: usize = 2 * SLOT_BYTES;
+/// The length of a slot of states with 128 places.
+pub const SLOT_BYTES: usize = slot_bytes(Places::Large);
+/// The length of an area of states with 128 places.
+pub const AREA_BYTES: usize = area_bytes(Places::Large);
+
+/// The length of a slot of states with so many places.
+#[must_use]
+pub const fn slot_bytes(places: Places) -> usize {
+    HEADER_BYTES + HEAD_BYTES + places.pens_bytes() + WRITERS_BYTES + LOST_BYTES
+}
+
+/// The length of an area of states with so many places.
+#[must_use]
+pub const fn area_bytes(places: Places) -> usize {
+    2 * slot_bytes(places)
+}
 
 /// Where an area is.
 pub trait Area {
     /// Why it could not be read, written or synced.
     type Error;
-    /// Reads bytes; zeros where the area was never written.
+    /// Reads bytes; zeros where the area was never written. Behind its end, where a state of the larger size is looked for,
+    /// an error or zeros.
     fn read(&mut self, at: usize, bytes: &mut [u8]) -> Result<(), Self::Error>;
     /// Writes bytes.
     fn write(&mut self, at: usize, bytes: &[u8]) -> Result<(), Self::Error>;
@@ -53,13 +72,13 @@ pub trait Area {
     fn sync(&mut self) -> Result<(), Self::Error>;
 }
 
-/// An area in memory of fewer than [`AREA_BYTES`].
+/// An area in memory of fewer than [`area_bytes`].
 #[derive(Debug, Clone, Copy, PartialEq, Eq)]
 pub struct TooShort;
 
 impl fmt::Display for TooShort {
     fn fmt(&self, f: &mut fmt::Formatter<'_>) -> fmt::Result {
-        write!(f, "the area has fewer than {AREA_BYTES} bytes")
+        f.write_str("the area is too short for two slots")
     }
 }
 
@@ -134,6 +153,8 @@ pub enum KeepError<E> {
         /// Which are damaged; one that was never written is not.
         damaged: [bool; 2],
     },
+    /// The area keeps states of another number of places.
+    OtherPlaces,
     /// The area could not be read, written or synced.
     Area(E),
 }
@@ -150,6 +171,7 @@ impl<E: fmt::Display> fmt::Display for KeepError<E> {
             Self::NoneWhole { .. } => {
                 f.write_str("neither slot is whole: start from a fresh state or from a copy")
             }
+            Self::OtherPlaces => f.write_str("the area keeps states of another number of places"),
             Self::Area(error) => error.fmt(f),
         }
     }
@@ -161,6 +183,7 @@ impl<E: fmt::Debug + fmt::Display> core::error::Error for KeepError<E> {}
 #[derive(Debug)]
 pub struct Keeper<A> {
     area: A,
+    places: Option<Places>,
     slot: usize,
     sequence: u64,
 }
@@ -174,13 +197,60 @@ enum Slot {
 impl<A: Area> Keeper<A> {
     /// Of an area that is to be loaded or started.
     pub fn new(area: A) -> Self {
-        Self { area, slot: 1, sequence: 0 }
+        Self { area, places: None, slot: 1, sequence: 0 }
     }
 
-    /// The state goes to the older slot; on an error the newest whole one stays, and saving may be tried again.
+    /// How many places the states have that the area keeps, to load one of them; none where no slot is whole.
+    pub fn places(&mut self) -> Result<Option<Places>, A::Error> {
+        self.area.read(0, &mut [0; HEADER_BYTES])?;
+        Ok(self.kept())
+    }
+
+    /// By slot 0, or else by slot 1 of either size.
+    fn kept(&mut self) -> Option<Places> {
+        if let Some(places) = self.told(0) {
+            return Some(places);
+        }
+        let slot_1 = |places: &Places| self.told(slot_bytes(*places)) == Some(*places);
+        Places::ALL.into_iter().find(slot_1)
+    }
+
+    /// The places of the slot that begins there, by its own head, carried over: only where it is whole at that length,
+    /// since one damaged bit makes 0, which is carried over to 128, of 32. A slot that cannot be read, as one behind the
+    /// end of the area, tells none.
+    fn told(&mut self, begin: usize) -> Option<Places> {
+        let (mut header, mut head) = ([0; HEADER_BYTES], [0; HEAD_BYTES]);
+        self.area.read(begin, &mut header).ok()?;
+        self.area.read(begin + HEADER_BYTES, &mut head).ok()?;
+        carry_head(&mut head);
+        let places = Places::of_head(&head)?;
+        let sum = self.sum_at(begin, marked(&header)?, places).ok()?;
+        (sum == u64_at(&header, 16)).then_some(places)
+    }
+
+    /// The checksum of a slot, where no state is at hand to read it to.
+    fn sum_at(&mut self, begin: usize, sequence: u64, places: Places) -> Result<u64, A::Error> {
+        let (mut at, end) = (begin + HEADER_BYTES, begin + slot_bytes(places));
+        let (mut some, mut sum) = ([0; 512], folded(0, &sequence.to_be_bytes()));
+        while at < end {
+            let length = some.len().min(end - at);
+            self.area.read(at, &mut some[..length])?;
+            sum = folded(sum, &some[..length]);
+            at += length;
+        }
+        Ok(sum)
+    }
+
+    /// The state goes to the older slot; on an error the newest whole one stays, and saving may be tried again. It has as
+    /// many places as the one that was loaded or started with.
     pub fn save<B: Buffers>(&mut self, state: &State<B>) -> Result<(), KeepError<A::Error>> {
         let (slot, sequence, seen) = (1 - self.slot, self.sequence + 1, state.seen());
-        let mut at = slot * SLOT_BYTES + HEADER_BYTES;
+        let places = state.places();
+        if self.places.is_some_and(|kept| kept != places) {
+            return Err(KeepError::OtherPlaces);
+        }
+        let begin = slot * slot_bytes(places);
+        let mut at = begin + HEADER_BYTES;
         for part in parts(&seen) {
             self.area.write(at, part)?;
             at += part.len();
@@ -190,28 +260,54 @@ impl<A: Area> Keeper<A> {
         put(&mut header, 0, MAGIC);
         put(&mut header, 8, &sequence.to_be_bytes());
         put(&mut header, 16, &sum(sequence, &seen).to_be_bytes());
-        self.area.write(slot * SLOT_BYTES, &header)?;
+        self.area.write(begin, &header)?;
         self.area.sync()?;
-        (self.slot, self.sequence) = (slot, sequence);
+        (self.places, self.slot, self.sequence) = (Some(places), slot, sequence);
         Ok(())
     }
 
-    /// A new area, or one to be given up: both headers become zero, and the state is saved.
+    /// A new area, or one to be given up, also one of another number of places: no slot of either size stays whole, and
+    /// the state is saved.
     pub fn start<B: Buffers>(&mut self, state: &State<B>) -> Result<(), KeepError<A::Error>> {
-        for slot in 0..2 {
-            self.area.write(slot * SLOT_BYTES, &[0; HEADER_BYTES])?;
+        // An area that is too short is left as it is.
+        self.area.read(area_bytes(state.places()) - 1, &mut [0])?;
+        for places in Places::ALL {
+            // One that cannot be read, as behind the end of the area, cannot be loaded either.
+            let mut header = [0; HEADER_BYTES];
+            let read = self.area.read(slot_bytes(places), &mut header);
+            if read.is_ok() && header != [0; HEADER_BYTES] {
+                self.area.write(slot_bytes(places), &[0; HEADER_BYTES])?;
+            }
         }
+        self.area.write(0, &[0; HEADER_BYTES])?;
         self.area.sync()?;
-        (self.slot, self.sequence) = (1, 0);
+        (self.places, self.slot, self.sequence) = (None, 1, 0);
         self.save(state)
     }
 
-    /// The newest slot that is whole: its checksum fits, and the library takes its state. On an error the state is the
-    /// fresh one.
+    /// The newest slot that is whole: its checksum fits, and the library takes its state. A head from before heads had the
+    /// number of places is carried over ([`carry_head`]). On an error the state is the fresh one.
     pub fn load<B: Buffers>(
         &mut self,
         state: &mut State<B>,
     ) -> Result<Loaded, KeepError<A::Error>> {
+        let loaded = self.load_newest(state);
+        if loaded.is_err() {
+            state.make_fresh();
+        }
+        loaded
+    }
+
+    fn load_newest<B: Buffers>(
+        &mut self,
+        state: &mut State<B>,
+    ) -> Result<Loaded, KeepError<A::Error>> {
+        let kept = self.kept();
+        if kept.is_some_and(|kept| kept != state.places()) {
+            // So that a save of this size is refused too.
+            self.places = kept;
+            return Err(KeepError::OtherPlaces);
+        }
         let slots = [self.try_slot(0, state)?, self.try_slot(1, state)?];
         let sequence = |slot: &Slot| if let Slot::Whole(number) = slot { *number } else { 0 };
         let [first, second] = [sequence(&slots[0]), sequence(&slots[1])];
@@ -221,10 +317,9 @@ impl<A: Area> Keeper<A> {
         if first.max(second) == 0
             || slot == 0 && !matches!(self.try_slot(0, state)?, Slot::Whole(_))
         {
-            state.make_fresh();
             return Err(KeepError::NoneWhole { damaged });
         }
-        (self.slot, self.sequence) = (slot, first.max(second));
+        (self.places, self.slot, self.sequence) = (Some(state.places()), slot, first.max(second));
         let damaged = damaged[1 - slot].then_some(1 - slot);
         Ok(Loaded { slot, sequence: self.sequence, damaged })
     }
@@ -234,16 +329,16 @@ impl<A: Area> Keeper<A> {
         slot: usize,
         state: &mut State<B>,
     ) -> Result<Slot, A::Error> {
+        let begin = slot * slot_bytes(state.places());
         let mut header = [0; HEADER_BYTES];
-        self.area.read(slot * SLOT_BYTES, &mut header)?;
+        self.area.read(begin, &mut header)?;
         if header == [0; HEADER_BYTES] {
             return Ok(Slot::Empty);
         }
-        let sequence = u64_at(&header, 8);
-        if header[..8] != MAGIC[..] || sequence == 0 || header[24..].iter().any(|byte| *byte != 0) {
+        let Some(sequence) = marked(&header) else {
             return Ok(Slot::Damaged);
-        }
-        let mut at = slot * SLOT_BYTES + HEADER_BYTES;
+        };
+        let mut at = begin + HEADER_BYTES;
         let lent = state.lent();
         for part in
             [&mut lent.head[..], &mut lent.pens[..], &mut lent.writers[..], &mut lent.lost[..]]
@@ -251,8 +346,9 @@ impl<A: Area> Keeper<A> {
             self.area.read(at, part)?;
             at += part.len();
         }
-        let whole = u64_at(&header, 16) == sum(sequence, &state.seen())
-            && state.mark_view_seen(InstanceHandle::NIL).is_ok();
+        let fits = u64_at(&header, 16) == sum(sequence, &state.seen());
+        carry_head(state.lent().head);
+        let whole = fits && state.mark_view_seen(InstanceHandle::NIL).is_ok();
         Ok(if whole { Slot::Whole(sequence) } else { Slot::Damaged })
     }
 
@@ -266,12 +362,21 @@ fn parts<'a>(seen: &Seen<'a>) -> [&'a [u8]; 4] {
     [seen.head, seen.pens, seen.writers, seen.lost]
 }
 
+/// The sequence number of a header that is as a save writes it, whatever its checksum is of.
+fn marked(header: &[u8; HEADER_BYTES]) -> Option<u64> {
+    let sequence = u64_at(header, 8);
+    let zeros = header[24..].iter().all(|byte| *byte == 0);
+    (header[..8] == MAGIC[..] && sequence != 0 && zeros).then_some(sequence)
+}
+
 /// Of the sequence number and the state, so that a slot with the number of another is not whole.
 fn sum(sequence: u64, seen: &Seen<'_>) -> u64 {
-    let words = parts(seen).into_iter().flat_map(|part| part.as_chunks().0);
-    let words = words.map(|word| u64::from_be_bytes(*word));
-    core::iter::once(sequence).chain(words).fold(0, |sum: u64, word| {
-        let mixed = (sum ^ word).wrapping_mul(0x9e37_79b9_7f4a_7c15);
+    parts(seen).into_iter().fold(folded(0, &sequence.to_be_bytes()), folded)
+}
+
+fn folded(sum: u64, bytes: &[u8]) -> u64 {
+    bytes.as_chunks().0.iter().fold(sum, |sum, word| {
+        let mixed = (sum ^ u64::from_be_bytes(*word)).wrapping_mul(0x9e37_79b9_7f4a_7c15);
         mixed ^ mixed >> 32
     })
 }

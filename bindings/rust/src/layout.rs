@@ -1,10 +1,9 @@
-//! Lengths of the buffers, and numbers in bytes, most significant byte first.
+//! Lengths of the buffers but pens, which [`Places`](crate::Places) has, and numbers in bytes, most significant byte first.
 
 use crate::InstanceHandle;
 
 pub(crate) const HEAD_BYTES: usize = 64;
 pub(crate) const SHEET_BYTES: usize = 256;
-pub(crate) const PENS_BYTES: usize = 65_536;
 pub(crate) const WRITERS_BYTES: usize = 5_120;
 pub(crate) const LOST_BYTES: usize = 4_096;
 pub(crate) const OUT_BYTES: usize = 4_096;

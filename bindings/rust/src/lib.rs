@@ -26,6 +26,7 @@ pub mod keep;
 mod key_hash;
 mod layout;
 mod liveliness;
+mod places;
 mod reads;
 mod refusal;
 mod sheet;
@@ -40,6 +41,7 @@ pub use {
     answer::Answer,
     joined::{Admission, Sample},
     key_hash::{key_hash, KEY_LARGEST_BYTES},
+    places::{carry_head, Places},
     reads::Walker,
     refusal::Refusal,
     sheet::Sheet,

@@ -17,7 +17,7 @@ use crate::{InstanceHandle, KeyHash, LivelinessChangedStatus, Refusal, State, Ti
 /// The handles of a state in the order of their keys, of [`State::walk`].
 #[derive(Debug, Clone)]
 pub struct Walker<'a> {
-    pens: &'a [u8; 65_536],
+    pens: &'a [u8],
     position: usize,
 }
 

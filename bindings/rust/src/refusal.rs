@@ -6,7 +6,7 @@ use core::fmt;
 /// Why a call was refused. A refused call leaves the state as it was.
 ///
 /// Numbers and words are those of the scope document's section 8, and those that requests added to it;
-/// of several that apply, the lowest answers, but 15 before 14.
+/// of several that apply, the lowest answers, but 3 for the head's number of places before 1, and 15 before 14.
 ///
 /// ```
 /// use dcps::{LivelinessKind, Refusal, State};
@@ -22,12 +22,14 @@ use core::fmt;
 #[derive(Debug, Clone, Copy, PartialEq, Eq, Hash)]
 #[non_exhaustive]
 pub enum Refusal {
-    /// 1: a buffer length other than stated. Only reads that take a list of GUIDs can meet it here.
+    /// 1: a buffer length other than stated. Only pens that a state is made of can meet it, where they are not as
+    /// long as the head's places ask for, or, in [`State::fresh_over`](crate::State::fresh_over), of neither length;
+    /// and reads that take a list of GUIDs.
     BufferLength,
     /// 2: unknown code. Only [`State::raw_call`](crate::State::raw_call) can meet it.
     UnknownCode,
-    /// 3: not well formed. Only bytes that a state is made of can meet it, in
-    /// [`State::from_parts`](crate::State::from_parts) and [`State::over`](crate::State::over).
+    /// 3: not well formed, or a head with another number of places than 32 or 128. Only bytes that a state is made
+    /// of can meet it, in [`State::from_parts`](crate::State::from_parts) and [`State::over`](crate::State::over).
     NotWellFormed,
     /// 4: nanoseconds of 10^9 or more, in a used time or in [`wire_fraction`](crate::wire_fraction).
     Nanoseconds,
@@ -39,7 +41,7 @@ pub enum Refusal {
     Kind,
     /// 8: acknowledge taking count minus change beyond ±2^30.
     Acknowledged,
-    /// 9: new instance, 128 there.
+    /// 9: new instance, all places taken: 32 or 128 are there, as the state has [`Places`](crate::Places).
     InstancesFull,
     /// 10: new writer, 16 in that instance's set.
     WriterSetFull,
@@ -128,7 +130,7 @@ impl Refusal {
             Self::HolderLength => "holder above 144",
             Self::Kind => "kind 3 in matched",
             Self::Acknowledged => "acknowledge taking count minus change beyond ±2^30",
-            Self::InstancesFull => "new instance, 128 there",
+            Self::InstancesFull => "new instance, all places taken",
             Self::WriterSetFull => "new writer, 16 in that instance's set",
             Self::WritersFull => "new GUID, 128 writer records",
             Self::LostFull => "expiries beyond 256 in Lost",

@@ -2,11 +2,11 @@
 
 use crate::ffi;
 use crate::layout::{array_at, guids, handles, i32_at, u32_at, u64_at, ANSWER_BYTES, GUID_BYTES};
-use crate::{Answer, InstanceHandle, Refusal, Sheet};
+use crate::{Answer, InstanceHandle, Places, Refusal, Sheet};
 use core::fmt;
 #[cfg(feature = "alloc")]
 use {
-    crate::layout::{HEAD_BYTES, LOST_BYTES, OUT_BYTES, PENS_BYTES, WRITERS_BYTES},
+    crate::layout::{HEAD_BYTES, LOST_BYTES, OUT_BYTES, WRITERS_BYTES},
     crate::Vec,
     alloc::boxed::Box,
 };
@@ -16,7 +16,8 @@ use {
 /// Calls take `&mut self` where ZeroDDS has a lock inside; who shares a state puts it behind one, as
 /// [`InstanceTracker`](crate::InstanceTracker) does. A refused call leaves the state as it was.
 ///
-/// The bytes are its own, on the heap ([`State::new`]), or borrowed ([`State::fresh_over`], [`State::over`]).
+/// It has places for 128 instances or for 32 ([`Places`]). The bytes are its own, on the heap ([`State::new`],
+/// [`State::with_places`]), or borrowed ([`State::fresh_over`], [`State::over`]).
 ///
 /// ```
 /// use dcps::{InstanceStateKind, State, Time};
@@ -44,23 +45,23 @@ pub struct State<B> {
 /// Head and buffers where they are, and Out, which is no part of the state: it keeps the list of an earlier call.
 ///
 /// ```
-/// use dcps::{Lent, Sheet, State};
+/// use dcps::{Lent, Places, Sheet, State};
 ///
-/// let (mut head, mut pens, mut writers) = ([0; 64], vec![0; 65_536], [0; 5_120]);
+/// let (mut head, mut pens, mut writers) = ([0; 64], [0; 16_384], [0; 5_120]);
 /// let (mut lost, mut out) = ([0; 4_096], [0; 4_096]);
-/// let pens = pens.as_mut_slice().try_into().expect("65,536 bytes");
-/// let lent = Lent { head: &mut head, pens, writers: &mut writers, lost: &mut lost, out: &mut out };
-/// let mut state = State::fresh_over(lent);
+/// let (writers, lost, out) = (&mut writers, &mut lost, &mut out);
+/// // Pens of 65,536 bytes would be places for 128 instances.
+/// let mut state = State::fresh_over(Lent { head: &mut head, pens: &mut pens, writers, lost, out })?;
 /// state.call(&Sheet::register(&[1; 16], b"serial 1", None))?;
-/// assert_eq!(state.len(), 1);
+/// assert_eq!((state.len(), state.places()), (1, Places::Small));
 /// # Ok::<(), dcps::Refusal>(())
 /// ```
 #[derive(Debug)]
 pub struct Lent<'a> {
     /// The counts.
     pub head: &'a mut [u8; 64],
-    /// The instances' records.
-    pub pens: &'a mut [u8; 65_536],
+    /// The instances' records: 16,384 bytes or 65,536.
+    pub pens: &'a mut [u8],
     /// The writers' records.
     pub writers: &'a mut [u8; 5_120],
     /// The writers that expired.
@@ -74,8 +75,8 @@ pub struct Lent<'a> {
 pub struct Seen<'a> {
     /// The counts.
     pub head: &'a [u8; 64],
-    /// The instances' records.
-    pub pens: &'a [u8; 65_536],
+    /// The instances' records: 16,384 bytes or 65,536.
+    pub pens: &'a [u8],
     /// The writers' records.
     pub writers: &'a [u8; 5_120],
     /// The writers that expired.
@@ -111,31 +112,47 @@ impl Buffers for Lent<'_> {
     }
 }
 
-/// Bytes of a [`State`]'s own, 78,912 of them on the heap.
+/// Bytes of a [`State`]'s own on the heap: 78,912, or 29,760 of one with 32 places.
 #[cfg(feature = "alloc")]
 #[derive(Clone)]
-pub struct Owned(Box<Bytes>);
+pub struct Owned {
+    pens: Box<[u8]>,
+    others: Box<Others>,
+}
 
+/// The buffers whose length is always the same.
 #[cfg(feature = "alloc")]
 #[derive(Clone)]
-struct Bytes {
+struct Others {
     head: [u8; HEAD_BYTES],
-    pens: [u8; PENS_BYTES],
     writers: [u8; WRITERS_BYTES],
     lost: [u8; LOST_BYTES],
     out: [u8; OUT_BYTES],
 }
 
 #[cfg(feature = "alloc")]
+impl Owned {
+    fn new(pens: Box<[u8]>) -> Self {
+        let others = Others {
+            head: [0; HEAD_BYTES],
+            writers: [0; WRITERS_BYTES],
+            lost: [0; LOST_BYTES],
+            out: [0; OUT_BYTES],
+        };
+        Self { pens, others: Box::new(others) }
+    }
+}
+
+#[cfg(feature = "alloc")]
 impl Buffers for Owned {
     fn lent(&mut self) -> Lent<'_> {
-        let Bytes { head, pens, writers, lost, out } = &mut *self.0;
-        Lent { head, pens, writers, lost, out }
+        let Others { head, writers, lost, out } = &mut *self.others;
+        Lent { head, pens: &mut self.pens, writers, lost, out }
     }
 
     fn seen(&self) -> Seen<'_> {
-        let Bytes { head, pens, writers, lost, out } = &*self.0;
-        Seen { head, pens, writers, lost, out }
+        let Others { head, writers, lost, out } = &*self.others;
+        Seen { head, pens: &self.pens, writers, lost, out }
     }
 }
 
@@ -163,11 +180,13 @@ pub struct Head {
     pub changes: u64,
     /// The writer that did so last.
     pub last_writer: Option<[u8; 16]>,
+    /// For how many instances there are places.
+    pub places: Places,
 }
 
 #[cfg(feature = "alloc")]
 impl State {
-    /// A fresh state: no instance, no writer, and 1 the next handle.
+    /// A fresh state: no instance, no writer, and 1 the next handle; with places for 128 instances.
     ///
     /// ```
     /// let state = dcps::State::new();
@@ -176,20 +195,29 @@ impl State {
     /// ```
     #[must_use]
     pub fn new() -> Self {
-        let mut buffers = Owned(Box::new(Bytes {
-            head: [0; HEAD_BYTES],
-            pens: [0; PENS_BYTES],
-            writers: [0; WRITERS_BYTES],
-            lost: [0; LOST_BYTES],
-            out: [0; OUT_BYTES],
-        }));
-        let number = ffi::fresh(buffers.lent());
-        debug_assert_eq!(number, 0, "only lengths are refused");
-        Self { buffers }
+        Self::with_places(Places::Large)
+    }
+
+    /// A fresh state with places for so many instances.
+    ///
+    /// ```
+    /// use dcps::{Places, State};
+    /// let state = State::with_places(Places::Small);
+    /// assert_eq!((state.places().count(), state.parts().1.len()), (32, 16_384));
+    /// ```
+    #[must_use]
+    pub fn with_places(places: Places) -> Self {
+        let pens = alloc::vec![0; places.pens_bytes()];
+        let mut state = Self { buffers: Owned::new(pens.into_boxed_slice()) };
+        state.make_fresh();
+        state
     }
 
     /// The state of the bytes that another one gave by [`Self::parts`]; refused as 3 where they are
-    /// not well formed.
+    /// not well formed, and as 1 where pens are not as long as the head's places ask for.
+    ///
+    /// A head kept from before heads had the number of places is refused as 3:
+    /// [`carry_head`](crate::carry_head) first.
     ///
     /// ```
     /// use dcps::{Refusal, State};
@@ -204,30 +232,31 @@ impl State {
     /// ```
     pub fn from_parts(
         head: &[u8; 64],
-        pens: &[u8; 65_536],
+        pens: &[u8],
         writers: &[u8; 5_120],
         lost: &[u8; 4_096],
     ) -> Result<Self, Refusal> {
-        let mut state = Self::new();
-        let lent = state.buffers.lent();
+        let mut buffers = Owned::new(pens.into());
+        let lent = buffers.lent();
         *lent.head = *head;
-        *lent.pens = *pens;
         *lent.writers = *writers;
         *lent.lost = *lost;
-        state.judged()
+        Self { buffers }.judged()
     }
 }
 
 impl<'a> State<Lent<'a>> {
-    /// A fresh state in borrowed bytes, whatever they held.
-    #[must_use]
-    pub fn fresh_over(mut lent: Lent<'a>) -> Self {
-        let number = ffi::fresh(lent.lent());
-        debug_assert_eq!(number, 0, "only lengths are refused");
-        Self { buffers: lent }
+    /// A fresh state in borrowed bytes, whatever they held, with as many places as pens have; refused as 1
+    /// where that is neither 32 nor 128.
+    pub fn fresh_over(mut lent: Lent<'a>) -> Result<Self, Refusal> {
+        match refusal(ffi::fresh(lent.lent())) {
+            None => Ok(Self { buffers: lent }),
+            Some(refusal) => Err(refusal),
+        }
     }
 
-    /// The state that borrowed bytes hold; refused as 3 where they are not well formed.
+    /// The state that borrowed bytes hold; refused as 3 where they are not well formed, and as 1 where pens
+    /// are not as long as the head's places ask for.
     ///
     /// A call is not atomic: bytes in which a process ended in the middle of one may be well formed and
     /// still wrong. [`keep`](crate::keep) is for those that have to outlive it.
@@ -252,7 +281,7 @@ impl<B: Buffers> State<B> {
     /// assert!(pens.iter().all(|byte| *byte == 0));
     /// ```
     #[must_use]
-    pub fn parts(&self) -> (&[u8; 64], &[u8; 65_536], &[u8; 5_120], &[u8; 4_096]) {
+    pub fn parts(&self) -> (&[u8; 64], &[u8], &[u8; 5_120], &[u8; 4_096]) {
         let seen = self.seen();
         (seen.head, seen.pens, seen.writers, seen.lost)
     }
@@ -270,6 +299,18 @@ impl<B: Buffers> State<B> {
     #[must_use]
     pub fn out(&self) -> &[u8; 4_096] {
         self.seen().out
+    }
+
+    /// For how many instances it has places.
+    #[must_use]
+    pub fn places(&self) -> Places {
+        // The library took head and pens, so pens have one of two lengths.
+        let small = self.seen().pens.len() == Places::Small.pens_bytes();
+        if small {
+            Places::Small
+        } else {
+            Places::Large
+        }
     }
 
     /// The counts of the head.
@@ -294,10 +335,11 @@ impl<B: Buffers> State<B> {
             next_handle: InstanceHandle::from_raw(u64_at(b, 32)),
             changes: u64_at(b, 40),
             last_writer: (b[29] != 0).then(|| array_at(b, 48)),
+            places: self.places(),
         }
     }
 
-    /// The fresh state again, whatever it held.
+    /// The fresh state of its places, whatever it held.
     pub(crate) fn make_fresh(&mut self) {
         let number = ffi::fresh(self.buffers.lent());
         debug_assert_eq!(number, 0, "only lengths are refused");
@@ -388,7 +430,7 @@ impl<B: Buffers, C: Buffers> PartialEq<State<C>> for State<B> {
 
 impl<B: Buffers> Eq for State<B> {}
 
-/// The records in words, not the 78,912 bytes.
+/// The records in words, not the bytes.
 impl<B: Buffers> fmt::Debug for State<B> {
     fn fmt(&self, f: &mut fmt::Formatter<'_>) -> fmt::Result {
         let mut text = f.debug_struct("State");

@@ -5,7 +5,7 @@
 
 use crate::{
     Answer, InstanceHandle, InstanceState, InstanceStateKind, KeyHash, LivelinessChangedStatus,
-    LivelinessKind, Refusal, Sheet, State, Time,
+    LivelinessKind, Places, Refusal, Sheet, State, Time,
 };
 use std::collections::BTreeMap;
 use std::sync::{Arc, Mutex, MutexGuard};
@@ -101,10 +101,29 @@ struct Shared {
 }
 
 impl SharedState {
-    /// A fresh state.
+    /// A fresh state, with places for 128 instances.
     #[must_use]
     pub fn new() -> Self {
         Self::default()
+    }
+
+    /// A fresh state with places for so many instances.
+    ///
+    /// ```
+    /// use dcps::{Places, Refusal, SharedState};
+    ///
+    /// let instances = SharedState::with_places(Places::Small).instances();
+    /// let handles: Vec<_> = (0..33).map(|key| instances.register([key; 16], Vec::new(), None)).collect();
+    /// assert!(!handles[31].is_nil() && handles[32].is_nil());
+    /// assert_eq!(instances.take_refusal(), Some(Refusal::InstancesFull));
+    /// ```
+    #[must_use]
+    pub fn with_places(places: Places) -> Self {
+        State::with_places(places).into()
+    }
+
+    fn of(state: State, allocator: Option<Arc<InstanceHandleAllocator>>) -> Self {
+        Self(Arc::new(Shared { state: state.into(), refused: Mutex::default(), allocator }))
     }
 
     /// The state, locked: for joined calls, for its bytes, and for calls whose refusal is to be seen.
@@ -160,7 +179,7 @@ impl SharedState {
 
 impl From<State> for SharedState {
     fn from(state: State) -> Self {
-        Self(Arc::new(Shared { state: Mutex::new(state), ..Shared::default() }))
+        Self::of(state, None)
     }
 }
 
@@ -186,7 +205,7 @@ pub struct InstanceTracker {
 
 /// Making one.
 impl InstanceTracker {
-    /// A tracker with a state of its own.
+    /// A tracker with a state of its own, with places for 128 instances. [`SharedState::with_places`] has others.
     #[must_use]
     pub fn new() -> Self {
         Self::default()
@@ -195,8 +214,16 @@ impl InstanceTracker {
     /// A tracker that draws its handles from an allocator.
     #[must_use]
     pub fn with_allocator(allocator: Arc<InstanceHandleAllocator>) -> Self {
-        let shared = Shared { allocator: Some(allocator), ..Shared::default() };
-        Self { shared: SharedState(Arc::new(shared)) }
+        Self::with_allocator_and_places(allocator, Places::Large)
+    }
+
+    /// The same, with places for so many instances.
+    #[must_use]
+    pub fn with_allocator_and_places(
+        allocator: Arc<InstanceHandleAllocator>,
+        places: Places,
+    ) -> Self {
+        Self { shared: SharedState::of(State::with_places(places), Some(allocator)) }
     }
 
     /// A second tracker of the same instances.

@@ -1,6 +1,6 @@
-//! A state over borrowed buffers, by what the crate has without its features: no heap, no lock.
+//! A state over borrowed buffers, of either size, by what the crate has without its features: no heap, no lock.
 
-use dcps::{InstanceStateKind, Lent, Refusal, Sample, Sheet, State, Time};
+use dcps::{carry_head, InstanceStateKind, Lent, Places, Refusal, Sample, Sheet, State, Time};
 use std::time::Duration;
 
 struct Memory {
@@ -22,16 +22,20 @@ impl Memory {
         }
     }
 
-    fn lent(&mut self) -> Lent<'_> {
+    fn lent(&mut self, places: Places) -> Lent<'_> {
+        self.lent_bytes(places.pens_bytes())
+    }
+
+    fn lent_bytes(&mut self, length: usize) -> Lent<'_> {
         let Self { head, pens, writers, lost, out } = self;
-        Lent { head, pens, writers, lost, out }
+        Lent { head, pens: &mut pens[..length], writers, lost, out }
     }
 }
 
-#[test]
-fn calls_and_lists() -> Result<(), Refusal> {
+fn calls_and_lists(places: Places) -> Result<(), Refusal> {
     let mut memory = Memory::new();
-    let mut state = State::fresh_over(memory.lent());
+    let mut state = State::fresh_over(memory.lent(places))?;
+    assert_eq!((state.places(), state.head().places), (places, places));
     let (second, at) = (Duration::from_secs(1), |sec| Time { sec, nanosec: 0 });
     let kind = dcps::LivelinessKind::Automatic;
     assert!(state.matched([9; 16], kind, Some(second), second)?);
@@ -51,17 +55,60 @@ fn calls_and_lists() -> Result<(), Refusal> {
     }
     // The bytes are the caller's: another state takes them up.
     let handle = state.call(&Sheet::register(&[3; 16], b"", None))?.handle;
-    let again = State::over(memory.lent())?;
-    assert_eq!(again.lookup(&[3; 16]), Some(handle));
+    let again = State::over(memory.lent(places))?;
+    assert_eq!((again.lookup(&[3; 16]), again.places()), (Some(handle), places));
     Ok(())
 }
 
 #[test]
+fn of_either_size() {
+    for places in Places::ALL {
+        assert_eq!(calls_and_lists(places), Ok(()));
+    }
+}
+
+#[test]
 fn damage_is_refused() {
+    for places in Places::ALL {
+        let mut memory = Memory::new();
+        let refused = |memory: &mut Memory| State::over(memory.lent(places)).err();
+        assert_eq!(refused(&mut memory), Some(Refusal::NotWellFormed));
+        assert!(State::fresh_over(memory.lent(places)).is_ok_and(|state| state.is_empty()));
+        assert_eq!(refused(&mut memory), None);
+        memory.pens[places.pens_bytes() - 1] = 1;
+        assert_eq!(refused(&mut memory), Some(Refusal::NotWellFormed));
+    }
+}
+
+/// Pens that are not the head's are refused as 1, a head with another number of places before that as 3.
+#[test]
+fn lengths() {
     let mut memory = Memory::new();
-    assert_eq!(State::over(memory.lent()).err(), Some(Refusal::NotWellFormed));
-    let fresh = State::fresh_over(memory.lent());
-    assert!(fresh.is_empty());
-    memory.pens[65_535] = 1;
-    assert_eq!(State::over(memory.lent()).err(), Some(Refusal::NotWellFormed));
+    for length in [0, 512, 16_383, 16_385, 32_768, 65_535] {
+        let fresh = State::fresh_over(memory.lent_bytes(length));
+        assert_eq!(fresh.err(), Some(Refusal::BufferLength), "{length}");
+    }
+    assert_eq!(memory.head, [1; 64]);
+    for (own, other) in [(Places::Small, Places::Large), (Places::Large, Places::Small)] {
+        memory = Memory::new();
+        memory.pens.fill(0);
+        assert!(State::fresh_over(memory.lent(own)).is_ok());
+        assert_eq!(State::over(memory.lent(other)).err(), Some(Refusal::BufferLength));
+        memory.head[31] += 1;
+        assert_eq!(State::over(memory.lent(other)).err(), Some(Refusal::NotWellFormed));
+        memory.head[31] -= 1;
+        assert!(State::over(memory.lent(own)).is_ok());
+    }
+}
+
+/// A head from before heads had the number of places goes with 65,536 bytes.
+#[test]
+fn a_head_from_before() {
+    let mut memory = Memory::new();
+    assert!(State::fresh_over(memory.lent(Places::Large)).is_ok());
+    memory.head[30..32].fill(0);
+    assert_eq!(State::over(memory.lent(Places::Large)).err(), Some(Refusal::NotWellFormed));
+    assert!(carry_head(&mut memory.head) && !carry_head(&mut memory.head));
+    assert_eq!(State::over(memory.lent(Places::Small)).err(), Some(Refusal::BufferLength));
+    assert!(State::over(memory.lent(Places::Large)).is_ok());
 }

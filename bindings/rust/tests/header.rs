@@ -1,7 +1,7 @@
 //! src/c.rs, the one declaration of the library's functions in Rust, and include/dcps.h have the same functions, with the
 //! same arguments in the same order; the header's numbers are this crate's.
 
-use dcps::{Refusal, Sheet};
+use dcps::{Places, Refusal, Sheet};
 
 const HEADER: &str = include_str!("../../../include/dcps.h");
 const DECLARED: &str = include_str!("../src/c.rs");
@@ -102,7 +102,18 @@ fn codes_and_refusals() {
     assert_eq!(number("DCPS_REFUSED_HANDLES"), Refusal::HandlesSpent.number().into());
     assert_eq!(number("DCPS_REFUSED_KEY_LENGTH"), Refusal::KeyLength.number().into());
     assert_eq!(number("DCPS_REFUSED_LARGEST_SIZE"), Refusal::LargestSize.number().into());
-    assert_eq!(number("DCPS_PENS_BYTES"), 65_536);
+}
+
+/// The two sizes.
+#[test]
+fn places() {
+    for (places, small) in [(Places::Small, "SMALL_"), (Places::Large, "")] {
+        let of = |name| number(&format!("DCPS_{small}{name}")) as usize;
+        assert_eq!(of("INSTANCE_PLACES"), places.count());
+        assert_eq!(of("PENS_BYTES"), places.pens_bytes());
+        assert_eq!(of("PENS_BYTES"), places.count() * number("DCPS_INSTANCE_BYTES") as usize);
+    }
+    assert_eq!(number("DCPS_HEAD_PLACES"), 30);
 }
 
 /// The largest size that the header says can be stated is that of the library.

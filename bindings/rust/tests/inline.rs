@@ -1,11 +1,11 @@
 //! Every builder and accessor of include/dcps_inline.h against this crate: examples/c/layout.c prints what C makes and reads,
 //! and each line is the one that is written here from Rust. The keepers of C and Rust read each other's areas.
 
-use dcps::keep::{Keeper, AREA_BYTES};
+use dcps::keep::{area_bytes, Keeper};
 use dcps::{
     wire_fraction, wire_nanos, Answer, Instance, InstanceHandle, InstanceStateKind,
-    LivelinessChangedStatus, LivelinessKind, Refusal, Sample, Sheet, State, Time, WireFraction,
-    WriterLiveliness, WriterState, REMAINDER_UNKNOWN,
+    LivelinessChangedStatus, LivelinessKind, Places, Refusal, Sample, Sheet, State, Time,
+    WireFraction, WriterLiveliness, WriterState, REMAINDER_UNKNOWN,
 };
 use std::fmt::Write;
 use std::path::{Path, PathBuf};
@@ -229,8 +229,8 @@ fn writer(w: &WriterState) -> String {
 }
 
 /// A state with every field somewhere, and three handles in Out.
-fn state() -> Result<State, Refusal> {
-    let mut state = State::new();
+fn state(places: Places) -> Result<State, Refusal> {
+    let mut state = State::with_places(places);
     let (second, at) = (Duration::from_secs(1), |sec| Time { sec, nanosec: 3 });
     let kinds = [
         LivelinessKind::Automatic,
@@ -257,14 +257,13 @@ fn state() -> Result<State, Refusal> {
     Ok(state)
 }
 
-#[test]
-fn head_and_records() {
-    let state = state().expect("all accepted");
+fn head_and_records(places: Places) {
+    let state = state(places).expect("all accepted");
     let (head, pens, writers, lost) = state.parts();
     let bytes = [&head[..], pens, writers, lost, state.out()].concat();
     let h = state.head();
     let mut expected = vec![format!(
-        "head {} {} {} {} {} {} {} {} {} {}",
+        "head {} {} {} {} {} {} {} {} {} {} {} {}",
         h.instance_count,
         h.writer_count,
         h.lost_count,
@@ -272,6 +271,8 @@ fn head_and_records() {
         h.not_alive,
         h.alive_change,
         h.not_alive_change,
+        h.places.count(),
+        pens.len(),
         h.next_handle.as_raw(),
         h.changes,
         optional(h.last_writer.as_ref().map(|guid| &guid[..]))
@@ -282,6 +283,11 @@ fn head_and_records() {
     expected.extend(state.listed_handles(3).map(|handle| format!("out {}", handle.as_raw())));
     assert_eq!(printed("state", &bytes), expected);
     assert!(expected.len() > 14, "{expected:?}");
+}
+
+#[test]
+fn heads_and_records() {
+    Places::ALL.into_iter().for_each(head_and_records);
 }
 
 fn answer(number: u8, a: &Answer) -> String {
@@ -365,7 +371,7 @@ fn answers_of_reads(state: &State) -> [u8; 24 * 9] {
 
 #[test]
 fn reads() {
-    let (state, guid) = (state().expect("all accepted"), [1; 16]);
+    let (state, guid) = (state(Places::Large).expect("all accepted"), [1; 16]);
     let last = state.last_delivered_ts(&[2; 16]).expect("well formed").expect("delivered");
     let next = state.next_handle_after(InstanceHandle::from_raw(1)).expect("well formed");
     let next = next.expect("there are more").as_raw();
@@ -400,26 +406,56 @@ fn reads() {
 }
 
 /// A keeper's area by the layout that dcps_keep.h gives in words.
-#[test]
-fn keepers_of_c_and_rust() {
-    let state = state().expect("all accepted");
-    let mut area = vec![0; AREA_BYTES];
+fn keepers_of_c_and_rust(keep_call: &Path, places: Places) {
+    let state = state(places).expect("all accepted");
+    let mut area = vec![0; area_bytes(places)];
     let mut keeper = Keeper::new(&mut area[..]);
     keeper.start(&state).expect("memory");
     let (head, pens, writers, lost) = state.parts();
-    assert_eq!(area[..8], *b"dcpskeep");
-    assert_eq!(area[64..128], head[..]);
-    assert_eq!(area[128..65_664], pens[..]);
-    assert_eq!(area[65_664..70_784], writers[..]);
-    assert_eq!(area[70_784..74_880], lost[..]);
+    let kept = [&head[..], pens, writers, lost].concat();
+    let (writers_at, lost_at, slot) = match places {
+        Places::Small => (16_512, 21_632, 25_728),
+        Places::Large => (65_664, 70_784, 74_880),
+    };
+    assert_eq!((&area[..8], area.len()), (&b"dcpskeep"[..], 2 * slot));
+    assert!(area[64..slot] == kept && area[64..128] == *head && area[128..writers_at] == *pens);
+    assert!(area[writers_at..lost_at] == *writers && area[lost_at..slot] == *lost);
     let file = Path::new(env!("CARGO_TARGET_TMPDIR")).join("area.bin");
     std::fs::write(&file, &area).expect("the directory of tests can be written");
     // C loads what Rust saved, makes a call and saves it to the other slot.
-    let words = lines(&program("keep_call"), &[file.to_str().expect("a name")]);
-    assert_eq!(words, ["loaded 1, saved 2"]);
+    let words = lines(keep_call, &[file.to_str().expect("a name")]);
+    assert_eq!(words, [format!("loaded 1 with {} places, saved 2", places.count())]);
     let mut area = std::fs::read(&file).expect("written by C");
-    let mut again = State::new();
+    assert_eq!(area.len(), 2 * slot);
+    let mut again = State::with_places(places);
     let loaded = Keeper::new(&mut area[..]).load(&mut again).expect("whole");
     assert_eq!((loaded.slot, loaded.sequence, loaded.damaged), (1, 2, None));
     assert_eq!(again.head().instance_count, state.head().instance_count + 1);
+    damaged_before_c(keep_call, &file, (area, slot), places);
+}
+
+/// C goes on from slot 1 where the number of places in slot 0 is damaged by a bit, and with both slots damaged it starts
+/// nothing anew.
+fn damaged_before_c(
+    keep_call: &Path,
+    file: &Path,
+    (mut area, slot): (Vec<u8>, usize),
+    places: Places,
+) {
+    area[64 + 31] ^= 32;
+    area[slot + 5_000] ^= 1;
+    std::fs::write(file, &area).expect("the directory of tests can be written");
+    let refused = Command::new(keep_call).arg(file).output().expect("it runs");
+    assert!(!refused.status.success() && refused.stderr.starts_with(b"neither slot is whole"));
+    assert!(std::fs::read(file).expect("left by C") == area);
+    area[slot + 5_000] ^= 1;
+    std::fs::write(file, &area).expect("the directory of tests can be written");
+    let words = lines(keep_call, &[file.to_str().expect("a name")]);
+    assert_eq!(words, [format!("loaded 2 with {} places, saved 3", places.count())]);
+}
+
+#[test]
+fn keepers() {
+    let keep_call = program("keep_call");
+    Places::ALL.into_iter().for_each(|places| keepers_of_c_and_rust(&keep_call, places));
 }

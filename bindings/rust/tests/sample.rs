@@ -1,10 +1,11 @@
 //! The recorded lists (docs/LISTS.md) through `raw_call`: number, answer, head, buffers and Out are the recorded
 //! ones. Calls with other lengths are left to program `replay`, as this crate cannot make them.
 
-use dcps::{Answer, InstanceHandle, InstanceStateKind, LivelinessChangedStatus, Refusal, State};
+use dcps::{
+    Answer, InstanceHandle, InstanceStateKind, LivelinessChangedStatus, Places, Refusal, State,
+};
 
 const SAMPLE: &[u8] = include_bytes!("../../../oracle/lists/sample.bin");
-const LENGTHS: [u32; 5] = [256, 4_096, 65_536, 5_120, 4_096];
 
 fn number<const N: usize>(b: &[u8], at: usize) -> u64 {
     b[at..at + N].iter().fold(0, |n, byte| n << 8 | u64::from(*byte))
@@ -52,7 +53,7 @@ fn answer(b: &[u8]) -> Answer {
 /// Head and buffers of a list, which its records may also damage.
 struct Bytes {
     head: [u8; 64],
-    pens: Box<[u8; 65_536]>,
+    pens: Vec<u8>,
     writers: [u8; 5_120],
     lost: [u8; 4_096],
 }
@@ -60,12 +61,12 @@ struct Bytes {
 impl Bytes {
     fn of(state: &State) -> Self {
         let (head, pens, writers, lost) = state.parts();
-        Self { head: *head, pens: Box::new(*pens), writers: *writers, lost: *lost }
+        Self { head: *head, pens: pens.to_vec(), writers: *writers, lost: *lost }
     }
 
     fn buffer(&mut self, which: u8) -> &mut [u8] {
         match which {
-            0 => &mut self.pens[..],
+            0 => &mut self.pens,
             1 => &mut self.writers,
             _ => &mut self.lost,
         }
@@ -88,25 +89,25 @@ enum Tried {
     OtherLengths,
 }
 
-fn call(state: &mut Result<State, Refusal>, b: &[u8]) -> Tried {
-    let lengths = [
-        number::<2>(b, 0),
-        number::<2>(b, 2),
-        number::<4>(b, 4),
-        number::<2>(b, 8),
-        number::<2>(b, 10),
-    ];
-    if lengths != LENGTHS.map(u64::from) {
+/// Whether the lengths of sheet, Out, pens, writers and Lost are those of a state with so many places.
+fn stated(places: Places, b: &[u8]) -> bool {
+    let pens = places.pens_bytes() as u64;
+    let [sheet, out, writers, lost] = [0, 2, 8, 10].map(|at| number::<2>(b, at));
+    [sheet, out, number::<4>(b, 4), writers, lost] == [256, 4_096, pens, 5_120, 4_096]
+}
+
+fn call(list: &mut List, b: &[u8]) -> Tried {
+    if !stated(list.places, b) {
         return Tried::OtherLengths;
     }
     let sheet: &[u8; 256] = b[184..440].try_into().expect("256 bytes");
     let recorded = Refusal::from_number(b[48]);
-    let state = match state {
+    let state = match &mut list.state {
         Ok(state) => state,
         Err(refusal) => {
-            // Damaged, so there is no state to call; an unknown code is refused before that is looked at.
-            assert_eq!(*refusal, Refusal::NotWellFormed);
-            assert!(matches!(recorded, Some(Refusal::UnknownCode | Refusal::NotWellFormed)));
+            // Damaged, so there is no state to call. An unknown code is refused before that is looked at.
+            let code = *refusal == Refusal::NotWellFormed && recorded == Some(Refusal::UnknownCode);
+            assert!(code || recorded == Some(*refusal), "{refusal}, recorded {recorded:?}");
             return Tried::Damaged;
         }
     };
@@ -121,36 +122,50 @@ fn call(state: &mut Result<State, Refusal>, b: &[u8]) -> Tried {
     Tried::Made
 }
 
+/// What the records make of a list: its places, its bytes, and the state where they are not damaged.
+struct List {
+    places: Places,
+    bytes: Bytes,
+    state: Result<State, Refusal>,
+}
+
+impl List {
+    fn fresh(places: Places) -> Self {
+        let state = State::with_places(places);
+        Self { places, bytes: Bytes::of(&state), state: Ok(state) }
+    }
+
+    /// Puts something into the bytes.
+    fn put(&mut self, put: impl FnOnce(&mut Bytes)) {
+        if let Ok(state) = &self.state {
+            self.bytes = Bytes::of(state);
+        }
+        put(&mut self.bytes);
+        self.state = self.bytes.state();
+    }
+}
+
 #[test]
 fn recorded_lists() {
-    let mut state = Ok(State::new());
-    let mut bytes = Bytes::of(&State::new());
-    let mut at = 0;
-    let mut tried = Vec::new();
+    let mut list = List::fresh(Places::Large);
+    let (mut at, mut tried, mut begun) = (0, Vec::new(), [0; 2]);
     while at < SAMPLE.len() {
         let length = number::<4>(SAMPLE, at + 4) as usize;
         let body = &SAMPLE[at + 8..at + 8 + length];
         match SAMPLE[at] {
+            1 => assert_eq!(number::<4>(body, 0), 2, "the version"),
             2 => {
-                state = Ok(State::new());
-                bytes = Bytes::of(&State::new());
+                let places = Places::from_count(number::<2>(body, 6) as usize);
+                list = List::fresh(places.expect("32 or 128"));
+                begun[list.places as usize] += 1;
             }
             3 => {
                 let from = number::<4>(body, 4) as usize;
-                if let Ok(state) = &state {
-                    bytes = Bytes::of(state);
-                }
-                bytes.buffer(body[0])[from..from + body.len() - 8].copy_from_slice(&body[8..]);
-                state = bytes.state();
+                let place = from..from + body.len() - 8;
+                list.put(|bytes| bytes.buffer(body[0])[place].copy_from_slice(&body[8..]));
             }
-            4 => {
-                if let Ok(state) = &state {
-                    bytes = Bytes::of(state);
-                }
-                bytes.head.copy_from_slice(body);
-                state = bytes.state();
-            }
-            5 => tried.push(call(&mut state, body)),
+            4 => list.put(|bytes| bytes.head.copy_from_slice(body)),
+            5 => tried.push(call(&mut list, body)),
             _ => {}
         }
         at += 8 + length;
@@ -161,4 +176,5 @@ fn recorded_lists() {
         "{made} calls as recorded; not made: {damaged} on damaged states, {other} of other lengths"
     );
     assert!(made > 3_000 && tried.len() as u64 == number::<4>(SAMPLE, 16));
+    assert!(begun.iter().all(|lists| *lists > 10), "lists of 32 and of 128 places: {begun:?}");
 }

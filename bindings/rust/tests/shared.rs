@@ -2,7 +2,7 @@
 
 use dcps::{
     InstanceHandle, InstanceHandleAllocator, InstanceStateKind, InstanceTracker, LivelinessKind,
-    LivelinessTracker, Refusal, Sample, SharedState, State, Time,
+    LivelinessTracker, Places, Refusal, Sample, SharedState, State, Time,
 };
 use std::sync::Arc;
 use std::time::Duration;
@@ -65,6 +65,22 @@ fn an_allocator_of_two() {
         assert!(tracker.register([1; 16], Vec::new(), None).is_nil());
         assert_eq!(tracker.take_refusal(), Some(Refusal::HandlesSpent));
         assert_eq!(spent.next(), next);
+    }
+}
+
+/// A full tracker of either size takes no handle from the allocator.
+#[test]
+fn as_many_as_places() {
+    for places in Places::ALL {
+        let allocator = Arc::new(InstanceHandleAllocator::new());
+        let tracker = InstanceTracker::with_allocator_and_places(Arc::clone(&allocator), places);
+        let count = places.count() as u8;
+        let handles = (0..count).map(|key| tracker.register([key; 16], Vec::new(), None).as_raw());
+        assert!(handles.eq(1..=count.into()));
+        assert!(tracker.register([count; 16], Vec::new(), None).is_nil());
+        assert_eq!(tracker.take_refusal(), Some(Refusal::InstancesFull));
+        assert_eq!((tracker.len(), allocator.next()), (places.count(), u64::from(count) + 1));
+        assert_eq!(tracker.shared().state().lock().places(), places);
     }
 }
 

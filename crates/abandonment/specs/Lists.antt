@@ -16,7 +16,7 @@ use Rattle.model.specs.Handles.{handle}
 use Rattle.model.specs.InstanceCalls.{Turned, refused}
 use Rattle.model.specs.InstanceRecord.{holderPlaces}
 use Rattle.model.specs.Instances.{hasKey, isAlive, writersIn}
-use Rattle.model.specs.State.{State, freshState, instancePlaces}
+use Rattle.model.specs.State.{State, freshState, largePlaces}
 use Rattle.model.specs.Tables.{find}
 use Rattle.model.specs.Times.{noTime}
 use Rattle.accounts.specs.InstanceAccounts.{Event}
@@ -88,7 +88,7 @@ departs writer = sheet 51 writer 0 0 0 false 0
 
 abbrev called : Option Call → Sheet → State → Turned
 called none s st = refused 2 st
-called (some c) s st = turn instancePlaces c s st
+called (some c) s st = turn largePlaces c s st
 
 abbrev calling : Sheet → State → Turned
 calling s st = called (callOfCode (s .code)) s st

@@ -1,7 +1,7 @@
 -- Demand 3: one claim on the whole list of calls.
---     demand3            for every list of sheets and Outs, from the fresh state: the final head and buffers are those of
---                        the accounts
---     demand3-128        the same of `callOf`, with 128 places
+--     demand3            for every list of sheets and Outs, from the fresh state with either number of places: the final
+--                        head and buffers are those of the accounts
+--     demand3-32, demand3-128      with 32 places, and with 128
 --     always-formed      each call of the list is lent a well-formed state: no run meets refusal 3
 --     after-fresh        what holds after any list
 --     instances-are, writers-are      the tables are the accounts not absent
@@ -25,13 +25,14 @@ use Rattle.model.specs.Handles.{handle}
 use Rattle.model.specs.InstanceCalls.{Turned}
 use Rattle.model.specs.Refusals.{lengthsOk, sheetRefusal}
 use Rattle.model.specs.Sheets.{sheetOf}
-use Rattle.model.specs.State.{Lent, State, headOf, layOut, pensOf, writersOf, lostOf, fresh, freshState, instanceKey, writerKey}
+use Rattle.model.specs.State.{Lent, State, figureOk, headOf, layOut, pensOf, writersOf, lostOf, fresh, freshState, instanceKey, writerKey}
 use Rattle.model.specs.WellFormed.{wellFormed}
 use Rattle.model.proofs.Tests.{both, split}
 use Rattle.model.proofs.StateLaws.{read-back, laid-valid, fresh-laid}
 use Rattle.accounts.specs.Accounts.{Accounts, absent, accepted, advance, accountsFrom, accountsOf, Lending, withOut, eventOf, next, final, history, SheetBytes, instancesIn, writersIn, Told, Demand3}
 use Rattle.accounts.specs.Ranges.{bound}
 use Rattle.accounts.proofs.InStep.{InStep, held-turn, held-valid, held-fits, held-fresh}
+use Rattle.accounts.proofs.Runs.{left-in, told-in}
 use Rattle.accounts.proofs.SheetLaws.{sheet-fits}
 use Rattle.accounts.proofs.Steps.{advanced}
 use Rattle.accounts.proofs.TurnLaws.{lookup, within-present, present-ext}
@@ -204,6 +205,7 @@ told-laid places st out acc m =
     let alive = alive-are (st .writers) (acc .writers .at) (v .rising) (v .agree) in
     let notAlive = not-alive-are (st .writers) (acc .writers .at) (v .rising) (v .agree) in
     record {
+      figure = refl;
       pens = ap (pensOf places) xs;
       writers = ap writersOf ws;
       lost = ap lostOf (v .lost);
@@ -224,18 +226,21 @@ pub told-after : (places : ℕ) (l : Lent) (acc : Accounts) → After places l a
 told-after places l acc m =
     subst (λ (k : Lent). Told places k acc) (sym (m .laid)) (told-laid places (m .state) (l .out) acc (m .held))
 
-pub demand3 : (places : ℕ) → Demand3 places (callIn places)
-demand3 places is out b = told-after places _ _ (after-fresh places is out b)
+pub demand3 : (places : ℕ) → figureOk places ≡ true → Demand3 places callOf
+demand3 places ok is out b = rw (left-in places ok is out, told-in places ok is out) (told-after places _ _ (after-fresh places is out b))
+
+pub demand3-32 : Demand3 32 callOf
+demand3-32 = demand3 32 refl
 
 pub demand3-128 : Demand3 128 callOf
-unfolding callOf
-demand3-128 is out b = demand3 128 is out b
+demand3-128 = demand3 128 refl
 
 -- ---- not vacuous: no call of a run meets refusal 3
 
-pub always-formed : (places : ℕ) (is : List Lending) (out new : List ℕ) → All SheetBytes is →
-    wellFormed places (withOut new (final (callIn places) is (fresh places out))) ≡ true
-always-formed places is out new b =
+pub always-formed : (places : ℕ) → figureOk places ≡ true → (is : List Lending) (out new : List ℕ) → All SheetBytes is →
+    wellFormed places (withOut new (final callOf is (fresh places out))) ≡ true
+always-formed places ok is out new b =
     let m = after-fresh places is out b in
-    ap (wellFormed places) (ap (withOut new) (m .laid) ∙ out-replaced places (m .state) _ new) ∙ formed places
+    ap (λ (l : Lent). wellFormed places (withOut new l)) (left-in places ok is out)
+    ∙ ap (wellFormed places) (ap (withOut new) (m .laid) ∙ out-replaced places (m .state) _ new) ∙ formed places
     (m .state) new _ (m .held)

@@ -2,7 +2,7 @@
 --     admitted-owner     for every list of calls: after outcome 0 of code 48 the account has the sheet's GUID and strength as
 --                        owner, and time 2 as owner_at; before, it was absent or code 16's rule let the writer through
 --     first-owner        the same of an absent key
---     admitted-owner-128, first-owner-128     of `callOf`, with 128 places
+--     admitted-owner-32, admitted-owner-128, first-owner-32, first-owner-128      with 32 places, and with 128
 -- Assumes nothing.
 use mathlib.Core.Bool.{true, false}
 use mathlib.Core.Option.{Option, none, some}
@@ -18,12 +18,14 @@ use Rattle.model.specs.Call.{callIn, callOf}
 use Rattle.model.specs.Calls.{joined}
 use Rattle.model.specs.Guids.{num}
 use Rattle.model.specs.InstanceCalls.{accepted as accepts}
+use Rattle.model.specs.State.{figureOk}
 use Rattle.model.specs.Instances.{started, takesOver, ownershipTried, admittedObserved, admittedNoted, writerNoted}
 use Rattle.accounts.specs.Accounts.{Accounts, accepted, advance}
 use Rattle.accounts.specs.FirstOwner.{OwnedBy, Owned, named, OwnsAdmitted, FirstOwner, AdmittedOwner}
 use Rattle.accounts.specs.InstanceAccounts.{Event, admitting}
 use Rattle.accounts.proofs.Answered.{Admitting, real-next}
 use Rattle.accounts.proofs.Demand3.{after-fresh}
+use Rattle.accounts.proofs.Runs.{told-in, after-in}
 
 -- ---- one account
 
@@ -61,17 +63,24 @@ owns-admitted e acc r is o = (r .3 zero, go (named e acc) refl)
 
 -- ---- every list
 
-pub admitted-owner : (places : ℕ) → AdmittedOwner places (callIn places)
-admitted-owner places is i out b c a o =
+admitted-in : (places : ℕ) → AdmittedOwner places (callIn places)
+admitted-in places is i out b c a o =
     owns-admitted _ _ (real-next places i _ _ c (after-fresh places is out b) (joined admit) a .admitted) a o
 
-pub first-owner : (places : ℕ) → FirstOwner places (callIn places)
-first-owner places is i out b c a o n = admitted-owner places is i out b c a o .1
+pub admitted-owner : (places : ℕ) → figureOk places ≡ true → AdmittedOwner places callOf
+admitted-owner places ok is i out b c = rw (after-in places ok is out i, told-in places ok is out) (admitted-in places is i out b c)
+
+pub first-owner : (places : ℕ) → figureOk places ≡ true → FirstOwner places callOf
+first-owner places ok is i out b c a o n = admitted-owner places ok is i out b c a o .1
+
+pub admitted-owner-32 : AdmittedOwner 32 callOf
+admitted-owner-32 = admitted-owner 32 refl
 
 pub admitted-owner-128 : AdmittedOwner 128 callOf
-unfolding callOf
-admitted-owner-128 is i out b c a o = admitted-owner 128 is i out b c a o
+admitted-owner-128 = admitted-owner 128 refl
+
+pub first-owner-32 : FirstOwner 32 callOf
+first-owner-32 = first-owner 32 refl
 
 pub first-owner-128 : FirstOwner 128 callOf
-unfolding callOf
-first-owner-128 is i out b c a o n = first-owner 128 is i out b c a o n
+first-owner-128 = first-owner 128 refl

@@ -11,6 +11,7 @@ pub mod EffectLaws
 pub mod WriterSound
 pub mod InstanceSound
 pub mod InStep
+pub mod Runs
 pub mod Demand3
 pub mod Refusals
 pub mod Answered

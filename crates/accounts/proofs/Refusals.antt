@@ -5,10 +5,10 @@
 --     only-busy          the number of a call of a list, whose sheet is in order
 --     nothing-else       it is 0, 8 in code 40 alone, or 9 to 13
 --     never-3            no call of a list is refused by 3
+--     ..-32, ..-128      each with 32 places, and with 128
 -- Assumes nothing.
 use mathlib.Core.Bool.{Bool, true, false, not, _&&_, _||_, cond}
 use mathlib.Core.List.{List, [], _∷_}
-use mathlib.Core.Logic.{_≢_}
 use mathlib.Core.Option.{Option, none, some}
 use mathlib.Core.Path.{_≡_, refl, sym, ap, _∙_, subst}
 use Prim.Native.Nat.{ℕ, _*_}
@@ -20,14 +20,13 @@ use lib.ListN.{length}
 use mir.Syntax.{w32}
 use mir.Val.{toZ}
 use Rattle.octets.specs.Bounds.{Bytes}
-use Rattle.octets.specs.Lay.{All}
 use Rattle.octets.proofs.LayLaws.{length-lay}
 use Rattle.model.specs.declared.AcknowledgeUse.{AcknowledgeUse}
 use Rattle.model.specs.declared.AcknowledgeUse.the-variants.{Nothing, Whole, Part}
 use Rattle.model.specs.declared.Guid.{Guid}
 use Rattle.model.specs.declared.Instance.{Instance}
 use Rattle.model.specs.declared.Sheet.{Sheet}
-use Rattle.model.specs.Call.{turn, settle, judged, coded, callIn}
+use Rattle.model.specs.Call.{Left, turn, settle, judged, coded, callIn, callOf}
 use Rattle.model.specs.declared.InstanceCall.{InstanceCall}
 use Rattle.model.specs.declared.TrackerCall.{TrackerCall}
 use Rattle.model.specs.declared.JoinedCall.{JoinedCall}
@@ -41,7 +40,7 @@ use Rattle.model.specs.Instances.{rule, limitedBy, hasKey}
 use Rattle.model.specs.Joined.{inOrder, passesFilter, sampled, admitted, admitWith, afterLoss, lossCall}
 use Rattle.model.specs.Refusals.{lengthsOk, timesUsed, clocksUsed, holderFits, kindOk, acknowledgeOk, nanosecondsOk, sheetRefusal}
 use Rattle.model.specs.Sheets.{sheetOf}
-use Rattle.model.specs.State.{Lent, State, fresh, instanceKey, layOut}
+use Rattle.model.specs.State.{Lent, State, figureOk, instanceKey, layOut}
 use Rattle.model.specs.Tables.{all, isSome, find}
 use Rattle.model.specs.WellFormed.{clockOk}
 use Rattle.model.specs.WriterRecord.{writerBytes}
@@ -53,12 +52,13 @@ use Rattle.model.proofs.InstanceLaws.{length-instance}
 use Rattle.model.proofs.StateLaws.{Fitting, read-back}
 use Rattle.model.proofs.TrackerLaws.{late-number}
 use Rattle.model.proofs.WriterLaws.{length-writer}
-use Rattle.accounts.specs.Accounts.{Accounts, accountsOf, Lending, withOut, next, final, history, SheetBytes}
-use Rattle.accounts.specs.Busy.{Ordered, lateNumber, acknowledges, allowed, busyInstance, busyTracker, busyMatch, busyExpire, busyAdmit, busyJoined, busy, inPart, busyAcknowledge}
+use Rattle.accounts.specs.Accounts.{Accounts, Lending, withOut}
+use Rattle.accounts.specs.Busy.{Ordered, lateNumber, acknowledges, allowed, busyInstance, busyTracker, busyMatch, busyExpire, busyAdmit, busyJoined, busy, inPart, busyAcknowledge, Never3, OnlyBusy, NothingElse}
 use Rattle.model.proofs.Tests.{split}
 use Rattle.accounts.proofs.Basics.{either, never}
 use Rattle.accounts.proofs.Demand3.{formed, out-replaced, After, after-fresh, instances-are, writers-are}
 use Rattle.accounts.proofs.InStep.{InStep, held-fits}
+use Rattle.accounts.proofs.Runs.{told-in, after-in}
 use Rattle.accounts.proofs.SheetLaws.{SheetFits, sheet-fits}
 use Rattle.accounts.proofs.TurnLaws.{any-lookup}
 use Rattle.accounts.proofs.WriterSound.{all-plain}
@@ -234,8 +234,6 @@ lent-anew : (places : ℕ) (i : Lending) {l : Lent} {acc : Accounts} (m : After 
     withOut (i .out) l ≡ layOut places (m .state) (i .out)
 lent-anew places i {l} m = ap (withOut (i .out)) (m .laid) ∙ out-replaced places (m .state) (l .out) (i .out)
 
--- after any list, a sheet of 256 bytes with an Out of 4,096, a valid code and all in order is refused by nothing but 8 and
--- 9 to 13, each where section 8 says on the accounts
 -- the number of a call on a state in step with the accounts
 pub held-busy : (places : ℕ) (sheet : List ℕ) (st : State) (out : List ℕ) (acc : Accounts) (c : Call) → Bytes sheet → length sheet ≡ 256 →
     length out ≡ 4096 → callOfCode (sheetOf sheet .code) ≡ some c → Ordered c (sheetOf sheet) → InStep places st acc →
@@ -243,16 +241,18 @@ pub held-busy : (places : ℕ) (sheet : List ℕ) (st : State) (out : List ℕ) 
 held-busy places sheet st out acc c bytes n o q d m =
     call-number places sheet st out acc c n o q m ∙ judged-busy places (sheetOf sheet) st acc (sheet-fits sheet bytes n) m c d
 
-pub only-busy : (places : ℕ) (is : List Lending) (out : List ℕ) (i : Lending) (c : Call) → All SheetBytes is →
-    SheetBytes i →
-    length (i .sheet) ≡ 256 → length (i .out) ≡ 4096 → callOfCode (sheetOf (i .sheet) .code) ≡ some c →
-    Ordered c (sheetOf (i .sheet)) →
-    next (callIn places) i (final (callIn places) is (fresh places out)) .answer .number
-    ≡ busy places c (sheetOf (i .sheet)) (accountsOf (history (callIn places) is (fresh places out)))
-only-busy places is out i c b bytes n o q d =
+pub only-busy : (places : ℕ) → figureOk places ≡ true → OnlyBusy places callOf
+only-busy places ok is out i c b bytes n o q d =
     let m = after-fresh places is out b in
-    ap (λ (l : Lent). callIn places (i .sheet) l .answer .number) (lent-anew places i m)
-    ∙ held-busy places (i .sheet) (m .state) (i .out) _ c bytes n o q d (m .held)
+    rw (after-in places ok is out i, told-in places ok is out)
+    (ap (λ (l : Lent). callIn places (i .sheet) l .answer .number) (lent-anew places i m)
+    ∙ held-busy places (i .sheet) (m .state) (i .out) _ c bytes n o q d (m .held))
+
+pub only-busy-32 : OnlyBusy 32 callOf
+only-busy-32 = only-busy 32 refl
+
+pub only-busy-128 : OnlyBusy 128 callOf
+only-busy-128 = only-busy 128 refl
 
 -- ---- which numbers there are
 
@@ -348,13 +348,19 @@ call-other places sheet st out acc m =
     (λ e. rw e (coded-other places (callOfCode (sheetOf sheet .code)) (sheetOf sheet) st out acc m))
     (λ e. rw e)
 
-pub never-3 : (places : ℕ) (is : List Lending) (out : List ℕ) (i : Lending) → All SheetBytes is →
-    next (callIn places) i (final (callIn places) is (fresh places out)) .answer .number ≢ 3
-never-3 places is out i b =
+pub never-3 : (places : ℕ) → figureOk places ≡ true → Never3 places callOf
+never-3 places ok is out i b =
     let m = after-fresh places is out b in
     eqb-false _ 3
-    (ap (λ (l : Lent). eqb (callIn places (i .sheet) l .answer .number) 3) (lent-anew places i m)
+    (ap (λ (r : Left). eqb (r .answer .number) 3) (after-in places ok is out i)
+    ∙ ap (λ (l : Lent). eqb (callIn places (i .sheet) l .answer .number) 3) (lent-anew places i m)
     ∙ call-other places (i .sheet) (m .state) (i .out) _ (m .held))
+
+pub never-3-32 : Never3 32 callOf
+never-3-32 = never-3 32 refl
+
+pub never-3-128 : Never3 128 callOf
+never-3-128 = never-3 128 refl
 
 -- ---- 8 stands in code 40 alone
 
@@ -375,13 +381,16 @@ judged-allowed places c s st o =
     (λ e. rw (passing s st c o, e, turn-late places c s st .is))
     (λ e. rw (passing s st c o, e, acknowledge-40 c s st e))
 
--- so such a sheet is refused by nothing but 8, in code 40 alone, and 9 to 13
-pub nothing-else : (places : ℕ) (is : List Lending) (out : List ℕ) (i : Lending) (c : Call) → All SheetBytes is →
-    length (i .sheet) ≡ 256 → length (i .out) ≡ 4096 → callOfCode (sheetOf (i .sheet) .code) ≡ some c →
-    Ordered c (sheetOf (i .sheet)) →
-    allowed c (next (callIn places) i (final (callIn places) is (fresh places out)) .answer .number) ≡ true
-nothing-else places is out i c b n o q d =
+pub nothing-else : (places : ℕ) → figureOk places ≡ true → NothingElse places callOf
+nothing-else places ok is out i c b n o q d =
     let m = after-fresh places is out b in
-    ap (λ (l : Lent). allowed c (callIn places (i .sheet) l .answer .number)) (lent-anew places i m)
+    ap (λ (r : Left). allowed c (r .answer .number)) (after-in places ok is out i)
+    ∙ ap (λ (l : Lent). allowed c (callIn places (i .sheet) l .answer .number)) (lent-anew places i m)
     ∙ ap (allowed c) (call-number places (i .sheet) (m .state) (i .out) _ c n o q (m .held))
     ∙ judged-allowed places c (sheetOf (i .sheet)) (m .state) d
+
+pub nothing-else-32 : NothingElse 32 callOf
+nothing-else-32 = nothing-else 32 refl
+
+pub nothing-else-128 : NothingElse 128 callOf
+nothing-else-128 = nothing-else 128 refl

@@ -149,6 +149,8 @@ writersIn acc = present 0 bound (acc .writers .at)
 
 -- what is claimed of the final head and buffers
 pub record Told (places : ℕ) (l : Lent) (acc : Accounts) : Type 0 where
+  -- the head says the number of places that was set when it was fresh
+  pub figure : l .head .places ≡ places
   -- pens and writers hold, in section 2's layout, exactly the accounts not absent
   pub pens : l .pens ≡ pensOf places (instancesIn acc)
   pub writers : l .writers ≡ writersOf (writersIn acc)

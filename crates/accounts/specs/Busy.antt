@@ -1,13 +1,17 @@
 -- Section 8 on the accounts: where a call whose sheet is in order is refused still, by 8 and by 9 to 13. Each is the number,
--- 0 for none.
+-- 0 for none. And the claims that a list's calls are refused so, and never as 3.
 use Prim.Native.Nat.{ℕ, _+_, _^_}
 use mathlib.Core.Path.{_≡_}
+use mathlib.Core.List.{List}
+use mathlib.Core.Logic.{_≢_}
+use mathlib.Core.Option.{some}
 use mathlib.Core.Bool.{Bool, true, false, not, _&&_, _||_, cond}
 use lib.Dec.{eqb, leb, ltb}
 use lib.IntN.{_+ℤ_}
 use lib.ListN.{length}
 use mir.Syntax.{w32}
 use mir.Val.{toZ}
+use Rattle.octets.specs.Lay.{All}
 use Rattle.model.specs.declared.AcknowledgeUse.{AcknowledgeUse}
 use Rattle.model.specs.declared.AcknowledgeUse.the-variants.{Nothing, Whole, Part}
 use Rattle.model.specs.declared.Sheet.{Sheet}
@@ -16,17 +20,20 @@ use Rattle.model.specs.declared.TrackerCall.{TrackerCall}
 use Rattle.model.specs.declared.JoinedCall.{JoinedCall}
 use Rattle.model.specs.declared.TrackerCall.the-variants.{Expire as expire}
 use Rattle.model.specs.declared.JoinedCall.the-variants.{Admit as admit, Lapse as lapse, Part as part, Depart as depart}
-use Rattle.model.specs.Calls.{Call, instances, tracker, joined}
+use Rattle.model.specs.Call.{Left}
+use Rattle.model.specs.Calls.{Call, instances, tracker, joined, callOfCode}
 use Rattle.model.specs.Guids.{num}
 use Rattle.model.specs.InstanceCalls.{crowds, reached}
 use Rattle.model.specs.Instances.{rule, startsBy, limitedBy}
 use Rattle.model.specs.Joined.{inOrder, passesFilter}
 use Rattle.model.specs.Refusals.{nanosecondsOk, timesUsed, clocksUsed, holderFits, kindOk}
+use Rattle.model.specs.Sheets.{sheetOf}
+use Rattle.model.specs.State.{Lent, fresh}
 use Rattle.model.specs.Tables.{all, isSome}
 use Rattle.model.specs.Times.{negative}
 use Rattle.model.specs.WellFormed.{clockOk, within}
 use Rattle.model.specs.Writers.{trackerRule, appends}
-use Rattle.accounts.specs.Accounts.{Accounts, instancesIn, writersIn}
+use Rattle.accounts.specs.Accounts.{Accounts, accountsOf, Lending, next, final, history, SheetBytes, instancesIn, writersIn}
 use Rattle.accounts.specs.WriterAccounts.{expiredIn, writersAfter}
 
 -- ---- a sheet in order: used times, clocks, leases and holder within 4 to 6 and, in code 32, kind not 3
@@ -134,3 +141,29 @@ abbrev pub busy : ℕ → Call → Sheet → Accounts → ℕ
 busy places (instances c) s acc = busyInstance places c s acc
 busy places (tracker c) s acc = busyTracker c s acc
 busy places (joined c) s acc = busyJoined places c s acc
+
+-- ---- the claims, on the next call after any list from the fresh state
+
+module _ (places : ℕ) (call : List ℕ → Lent → Left) where
+  abbrev pub after : Lending → List Lending → List ℕ → Left
+  after i is out = next call i (final call is (fresh places out))
+
+  -- none is refused by 3, whatever its sheet and Out
+  abbrev pub Never3 : Type 0
+  Never3 = (is : List Lending) (out : List ℕ) (i : Lending) → All SheetBytes is → after i is out .answer .number ≢ 3
+
+  -- with a sheet of 256 bytes in order, an Out of 4,096 and a valid code it is refused as the accounts say
+  abbrev pub OnlyBusy : Type 0
+  OnlyBusy =
+      (is : List Lending) (out : List ℕ) (i : Lending) (c : Call) → All SheetBytes is → SheetBytes i →
+      length (i .sheet) ≡ 256 → length (i .out) ≡ 4096 → callOfCode (sheetOf (i .sheet) .code) ≡ some c →
+      Ordered c (sheetOf (i .sheet)) →
+      after i is out .answer .number ≡ busy places c (sheetOf (i .sheet)) (accountsOf (history call is (fresh places out)))
+
+  -- so by nothing but 8, in code 40 alone, and 9 to 13
+  abbrev pub NothingElse : Type 0
+  NothingElse =
+      (is : List Lending) (out : List ℕ) (i : Lending) (c : Call) → All SheetBytes is →
+      length (i .sheet) ≡ 256 → length (i .out) ≡ 4096 → callOfCode (sheetOf (i .sheet) .code) ≡ some c →
+      Ordered c (sheetOf (i .sheet)) →
+      allowed c (after i is out .answer .number) ≡ true

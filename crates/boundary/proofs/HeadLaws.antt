@@ -5,7 +5,7 @@
 --     head-back       bytes that are laid out as a head are those of the head that is read
 -- Assumes nothing.
 use Prim.Native.Nat.{ℕ, zero, suc, _^_, _<_}
-use mathlib.Core.Bool.{Bool, true, _&&_, _||_}
+use mathlib.Core.Bool.{true, _&&_, _||_}
 use mathlib.Core.Path.{_≡_, refl, sym, ap, _∙_}
 use mathlib.Core.List.{List, [], append-nil}
 use native.Mathlib.Omega.{arith}
@@ -42,6 +42,7 @@ pub record FitsHead (h : Head) : Type 0 where
   pub notAliveChange : SFits w32 (h .«not_alive_change»)
   pub next : h .«next_handle» .0 < 256 ^ 8
   pub changes : h .changes < 256 ^ 8
+  pub places : h .places < 256 ^ 2
   pub last : FitsGuid (lastGuid (h .«last_writer»))
 
 pub length-head : (h : Head) → length (headBytes h) ≡ 64
@@ -61,7 +62,7 @@ last-back (Is g) = refl
 
 -- its fields are as they should be
 last-laid : (l : LastWriter) →
-    (ltb (lastPresent l) 2 && (eqb 0 0 && (eqb (lastPresent l) 1 || (eqb (lastGuid l .hi) 0 && eqb (lastGuid l .lo) 0)))) ≡ true
+    (ltb (lastPresent l) 2 && (eqb (lastPresent l) 1 || (eqb (lastGuid l .hi) 0 && eqb (lastGuid l .lo) 0))) ≡ true
 last-laid Nobody = refl
 last-laid (Is g) = refl
 
@@ -94,48 +95,44 @@ module _ (h : Head) (fits : FitsHead h) where
       let e5 : be 4 r 20 ≡ ofZ w32 (h .«alive_change») = field 5 in
       let e6 : be 4 r 24 ≡ ofZ w32 (h .«not_alive_change») = field 6 in
       let e7 : be 2 r 28 ≡ lastPresent (h .«last_writer») = field 7 in
+      let e8 : be 2 r 30 ≡ h .places = field 8 in
       let e9 : be 8 r 32 ≡ h .«next_handle» .0 = field 9 in
       let e10 : be 8 r 40 ≡ h .changes = field 10 in
       let e11 : be 8 r 48 ≡ lastGuid (h .«last_writer») .hi = field 11 in
       let e12 : be 8 r 56 ≡ lastGuid (h .«last_writer») .lo = field 12 in
-      rw (e0, e1, e2, e3, e4, e5, e6, e7, e9, e10, e11, e12, toZ-ofZ (fits .aliveChange), toZ-ofZ (fits .notAliveChange), last-back (h .«last_writer»))
+      rw (e0, e1, e2, e3, e4, e5, e6, e7, e8, e9, e10, e11, e12, toZ-ofZ (fits .aliveChange), toZ-ofZ (fits .notAliveChange), last-back (h .«last_writer»))
 
   bytes-laid : headLaid (headBytes h) ≡ true
   unfolding headLaid
   bytes-laid =
       let r : List ℕ = headBytes h in
       let e7 : be 2 r 28 ≡ lastPresent (h .«last_writer») = field 7 in
-      let e8 : be 2 r 30 ≡ 0 = field 8 in
       let e11 : be 8 r 48 ≡ lastGuid (h .«last_writer») .hi = field 11 in
       let e12 : be 8 r 56 ≡ lastGuid (h .«last_writer») .lo = field 12 in
-      rw (e7, e8, e11, e12) (last-laid (h .«last_writer»))
+      rw (e7, e11, e12) (last-laid (h .«last_writer»))
 
   pub head-forth : (headIn (headBytes h) ≡ h) × (headLaid (headBytes h) ≡ true)
   head-forth = (read-back, bytes-laid)
 
 -- ---- read, then laid out
 
--- what the bytes of a head say: its last writer and its spare are laid out again as they were
-record Again (n z : ℕ) (g : Guid) : Type 0 where
+-- what the bytes of a head say: its last writer is laid out again as it was
+record Again (n : ℕ) (g : Guid) : Type 0 where
   present : lastPresent (lastWriter n g) ≡ n
-  spare : z ≡ 0
   high : lastGuid (lastWriter n g) .hi ≡ g .hi
   low : lastGuid (lastWriter n g) .lo ≡ g .lo
 
-last-again : (n z : ℕ) (g : Guid) → n < 2 → z ≡ 0 → (eqb n 1 || (eqb (g .hi) 0 && eqb (g .lo) 0)) ≡ true → Again n z g
-last-again zero z g s e t =
+last-again : (n : ℕ) (g : Guid) → n < 2 → (eqb n 1 || (eqb (g .hi) 0 && eqb (g .lo) 0)) ≡ true → Again n g
+last-again zero g s t =
     let b = both (eqb (g .hi) 0) (eqb (g .lo) 0) t in
-    record { present = refl; spare = e; high = sym (eqb-true (g .hi) 0 (b .0)); low = sym (eqb-true (g .lo) 0 (b .1)) }
-last-again (suc zero) z g s e t = record { present = refl; spare = e; high = refl; low = refl }
-last-again (suc (suc n)) z g s e t = absurd (omega arith)
+    record { present = refl; high = sym (eqb-true (g .hi) 0 (b .0)); low = sym (eqb-true (g .lo) 0 (b .1)) }
+last-again (suc zero) g s t = record { present = refl; high = refl; low = refl }
+last-again (suc (suc n)) g s t = absurd (omega arith)
 
-again : (n z : ℕ) (g : Guid) →
-    (ltb n 2 && (eqb z 0 && (eqb n 1 || (eqb (g .hi) 0 && eqb (g .lo) 0)))) ≡ true → Again n z g
-again n z g e =
-    let w : Bool = eqb n 1 || (eqb (g .hi) 0 && eqb (g .lo) 0) in
-    let a = both (ltb n 2) (eqb z 0 && w) e in
-    let b = both (eqb z 0) w (a .1) in
-    last-again n z g (ltb-true n 2 (a .0)) (eqb-true z 0 (b .0)) (b .1)
+again : (n : ℕ) (g : Guid) → (ltb n 2 && (eqb n 1 || (eqb (g .hi) 0 && eqb (g .lo) 0))) ≡ true → Again n g
+again n g e =
+    let a = both (ltb n 2) (eqb n 1 || (eqb (g .hi) 0 && eqb (g .lo) 0)) e in
+    last-again n g (ltb-true n 2 (a .0)) (a .1)
 
 module _ (b : List ℕ) (bytes : Bytes b) (size : length b ≡ 64) where
   bits-again : (at : ℕ) → ofZ w32 (toZ w32 (be 4 b at)) ≡ be 4 b at
@@ -144,6 +141,6 @@ module _ (b : List ℕ) (bytes : Bytes b) (size : length b ≡ 64) where
   pub head-back : headLaid b ≡ true → headBytes (headIn b) ≡ b
   unfolding headBytes headIn headLaid
   head-back e =
-      let a : Again (be 2 b 28) (be 2 b 30) (guidAt b 48) = again (be 2 b 28) (be 2 b 30) (guidAt b 48) e in
+      let a : Again (be 2 b 28) (guidAt b 48) = again (be 2 b 28) (guidAt b 48) e in
       rw (bits-again 20, bits-again 24, a .present, a .high, a .low)
-      (rw (a .spare) at (fields-reads headWidths b bytes (omega arith)) ∙ take-all 64 b (omega arith))
+      (fields-reads headWidths b bytes (omega arith) ∙ take-all 64 b (omega arith))

@@ -3,10 +3,10 @@
 --     signed-back             a number that was read back from its bits
 --     nobody, somebody        the last writer by its presence
 --     head-read               a head from its fields
---     laid-many, laid-spare, laid-present, laid-high, laid-low    the test in the order of the code
+--     laid-many, laid-present, laid-high, laid-low    the test in the order of the code
 -- Assumes nothing.
 use Prim.Native.Nat.{ℕ, zero, suc, _≤_, _<_}
-use mathlib.Core.Bool.{Bool, true, false, _&&_, and-false}
+use mathlib.Core.Bool.{true, false, and-false}
 use mathlib.Core.Path.{_≡_, refl, sym, ap, _∙_}
 use mathlib.Core.List.{List}
 use borrow.Author.Tests.{le-ltb, lt-ltb, eq-eqb, ne-eqb}
@@ -39,10 +39,10 @@ some (suc n) g h = refl
 pub somebody : {n m : ℕ} {f g : Guid} → n ≡ m → (n ≡ 0 → ⊥) → f ≡ g → Is f ≡ lastWriter m g
 somebody {n} {m} {f} {g} e h q = rw (← e, q) (some n g h)
 
-pub head-read : (b : List ℕ) {i w l a m n c : ℕ} {x y : ℤ} {last : LastWriter} →
+pub head-read : (b : List ℕ) {i w l a m n c p : ℕ} {x y : ℤ} {last : LastWriter} →
     i ≡ be 4 b 0 → w ≡ be 4 b 4 → l ≡ be 4 b 8 → a ≡ be 4 b 12 → m ≡ be 4 b 16 →
     x ≡ toZ w32 (be 4 b 20) → y ≡ toZ w32 (be 4 b 24) → last ≡ lastWriter (be 2 b 28) (guidAt b 48) →
-    n ≡ be 8 b 32 → c ≡ be 8 b 40 →
+    n ≡ be 8 b 32 → c ≡ be 8 b 40 → p ≡ be 2 b 30 →
     _≡_ {A = Head}
     (record {
       «instance_count» = i;
@@ -55,32 +55,26 @@ pub head-read : (b : List ℕ) {i w l a m n c : ℕ} {x y : ℤ} {last : LastWri
       «not_alive_change» = y;
       «last_writer» = last;
       changes = c;
+      places = p;
     })
     (headIn b)
 unfolding headIn
-head-read b ei ew el ea em ex ey elast en ec = rw (ei, ew, el, ea, em, ex, ey, elast, en, ec)
+head-read b ei ew el ea em ex ey elast en ec ep = rw (ei, ew, el, ea, em, ex, ey, elast, en, ec, ep)
 
 module _ (b : List ℕ) where
   pub laid-many : {n : ℕ} → n ≡ be 2 b 28 → 2 ≤ n → false ≡ headLaid b
   unfolding headLaid
   laid-many {n} e h = rw (← e, le-ltb n 2 h)
 
-  pub laid-spare : {z : ℕ} → z ≡ be 2 b 30 → (z ≡ 0 → ⊥) → false ≡ headLaid b
+  pub laid-present : {n : ℕ} → n ≡ be 2 b 28 → n ≡ 1 → true ≡ headLaid b
   unfolding headLaid
-  laid-spare {z} e h = rw (← e, ne-eqb z 0 h) (sym (and-false (ltb (be 2 b 28) 2)))
-
-  pub laid-present : {n z : ℕ} → n ≡ be 2 b 28 → z ≡ be 2 b 30 → z ≡ 0 → n ≡ 1 → true ≡ headLaid b
-  unfolding headLaid
-  laid-present e f h k = rw (← e, ← f, h, k)
+  laid-present e k = rw (← e, k)
 
   pub laid-high : {n h : ℕ} → n ≡ be 2 b 28 → h ≡ be 8 b 48 → (n ≡ 1 → ⊥) → (h ≡ 0 → ⊥) → false ≡ headLaid b
   unfolding headLaid
   laid-high {n} {h} e f k l =
-      rw (← e, ← f, ne-eqb n 1 k, ne-eqb h 0 l)
-      (sym (ap (λ (t : Bool). ltb n 2 && t) (and-false (eqb (be 2 b 30) 0)) ∙ and-false (ltb n 2)))
+      rw (← e, ← f, ne-eqb n 1 k, ne-eqb h 0 l) (sym (and-false (ltb n 2)))
 
-  pub laid-low : {n z h l : ℕ} → n ≡ be 2 b 28 → z ≡ be 2 b 30 → h ≡ be 8 b 48 → l ≡ be 8 b 56 →
-      n < 2 → z ≡ 0 → (n ≡ 1 → ⊥) → h ≡ 0 → eqb l 0 ≡ headLaid b
+  pub laid-low : {n h l : ℕ} → n ≡ be 2 b 28 → h ≡ be 8 b 48 → l ≡ be 8 b 56 → n < 2 → (n ≡ 1 → ⊥) → h ≡ 0 → eqb l 0 ≡ headLaid b
   unfolding headLaid
-  laid-low {n} {z} {h} {l} e f g i small zeroed k high =
-      rw (← e, ← f, ← g, ← i, lt-ltb n 2 small, eq-eqb z 0 zeroed, ne-eqb n 1 k, eq-eqb h 0 high)
+  laid-low {n} {h} {l} e g i small k high = rw (← e, ← g, ← i, lt-ltb n 2 small, ne-eqb n 1 k, eq-eqb h 0 high)

@@ -34,7 +34,7 @@ lastWriter (suc n) g = Is g
 -- ---- the head (widths and values line by line)
 
 -- 0 instance count, 4 writer count, 8 lost count, 12 alive, 16 not alive, 20 alive change, 24 not alive change,
--- 28 last writer present, 30 spare, 32 next handle, 40 changes, 48 the last writer's GUID
+-- 28 last writer present, 30 instance places, 32 next handle, 40 changes, 48 the last writer's GUID
 abbrev pub headWidths : List ℕ
 headWidths =
     4 ∷ 4 ∷ 4 ∷ 4 ∷ 4
@@ -46,7 +46,7 @@ abbrev pub headValues : Head → List ℕ
 headValues h =
     h .«instance_count» ∷ h .«writer_count» ∷ h .«lost_count» ∷ h .alive ∷ h .«not_alive»
     ∷ ofZ w32 (h .«alive_change») ∷ ofZ w32 (h .«not_alive_change»)
-    ∷ lastPresent (h .«last_writer») ∷ 0 ∷ h .«next_handle» .0 ∷ h .changes
+    ∷ lastPresent (h .«last_writer») ∷ h .places ∷ h .«next_handle» .0 ∷ h .changes
     ∷ lastGuid (h .«last_writer») .hi ∷ lastGuid (h .«last_writer») .lo ∷ []
 
 -- the 64 bytes of a head
@@ -67,14 +67,13 @@ headIn b =
       «not_alive_change» = toZ w32 (be 4 b 24);
       «last_writer» = lastWriter (be 2 b 28) (guidAt b 48);
       changes = be 8 b 40;
+      places = be 2 b 30;
     }
 
--- 64 bytes are those of a head: presence is 0 or 1, the spare is 0, and an absent last writer has a zero GUID
+-- 64 bytes are those of a head: presence is 0 or 1, and an absent last writer has a zero GUID; its figure is judged apart
 unfoldable pub headLaid : List ℕ → Bool
 headLaid b =
-    ltb (be 2 b 28) 2
-    && (eqb (be 2 b 30) 0
-    && (eqb (be 2 b 28) 1 || (eqb (be 8 b 48) 0 && eqb (be 8 b 56) 0)))
+    ltb (be 2 b 28) 2 && (eqb (be 2 b 28) 1 || (eqb (be 8 b 48) 0 && eqb (be 8 b 56) 0))
 
 -- ---- the answer (widths and values line by line)
 

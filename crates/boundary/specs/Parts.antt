@@ -24,7 +24,7 @@ changeWidths = 4 ∷ 4 ∷ 2 ∷ 2 ∷ []
 
 abbrev pub changeValues : Head → List ℕ
 changeValues h =
-    ofZ w32 (h .«alive_change») ∷ ofZ w32 (h .«not_alive_change») ∷ lastPresent (h .«last_writer») ∷ 0 ∷ []
+    ofZ w32 (h .«alive_change») ∷ ofZ w32 (h .«not_alive_change») ∷ lastPresent (h .«last_writer») ∷ h .places ∷ []
 
 -- from 32
 abbrev pub lastWidths : List ℕ

@@ -53,7 +53,7 @@ fn write_head_counts(b: &mut [u8], h: Head)
     octets::put_u32(b, 16, h.not_alive);
 }
 
-// The changes of its counts, the last writer's presence and the spare, from 20.
+// The changes of its counts, the last writer's presence and the number of instance places, from 20.
 fn write_head_changes(b: &mut [u8], h: Head)
     requires { ⌜ length (now b) ≡ 64 ⌝ }
     ensures { λ _. ⌜ now (b .exit) ≡ puts changeWidths (changeValues h) (now (b .entry)) 0 20 ⌝ }
@@ -62,7 +62,7 @@ fn write_head_changes(b: &mut [u8], h: Head)
     octets::put_u32(b, 20, numbers::bits_of(h.alive_change));
     octets::put_u32(b, 24, numbers::bits_of(h.not_alive_change));
     octets::put_u16(b, 28, last_present(last));
-    octets::put_u16(b, 30, 0);
+    octets::put_u16(b, 30, h.places);
 }
 
 // The next handle, the changes and the last writer's GUID, from 32.
@@ -127,6 +127,7 @@ pub fn read_head(b: &[u8]) -> Head
         not_alive_change: signed_at(b, 24),
         last_writer: last,
         changes: octets::get_u64(b, 40),
+        places: octets::get_u16(b, 30),
     }
 }
 
@@ -136,11 +137,7 @@ pub fn head_laid(b: &[u8]) -> bool
     ensures { λ r. ⌜ r ≡ headLaid (now (b .entry)) ⌝ }
 {
     let present = octets::get_u16(b, 28);
-    let spare = octets::get_u16(b, 30);
     if 2 <= present {
-        return false;
-    }
-    if spare != 0 {
         return false;
     }
     if present == 1 {

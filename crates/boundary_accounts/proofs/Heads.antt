@@ -68,9 +68,9 @@ last-fits e acc f = heard-fits (seen (accepted e)) (e .sheet) (acc .writers) f
 
 -- ---- the head
 
-pub head-fits : (st : State) (acc : Accounts) → InStep 128 st acc → LastFits (acc .writers .last) → FitsHead (headOf st)
+pub head-fits : (places : ℕ) → places ≤ 128 → (st : State) (acc : Accounts) → InStep places st acc → LastFits (acc .writers .last) → FitsHead (headOf places st)
 unfolding headOf aliveCount notAliveCount
-head-fits st acc m f =
+head-fits places most st acc m f =
     let a : length (pick countsAlive (st .writers)) ≤ 128 = omega (arith, length-pick countsAlive (st .writers), m .writers .few) in
     let n : length (pick countsNotAlive (st .writers)) ≤ 128 = omega (arith, length-pick countsNotAlive (st .writers), m .writers .few) in
     record {
@@ -83,5 +83,6 @@ head-fits st acc m f =
       notAliveChange = change-fits (length (pick countsNotAlive (st .writers))) (st .acknowledgedNotAlive) n (m .writers .nearNotAlive);
       next = omega (arith, m .instances .high);
       changes = let e = m .sim .writers .changes in omega arith;
+      places = omega (arith, most);
       last = rw (m .sim .writers .last) f;
     }

@@ -1,14 +1,16 @@
 -- Section 6 at the C boundary: a list of calls through `boundaryCall`, each lent the head's 64 bytes and the three buffers as
 -- the one before left them, and demand 3's claim on it.
-use Prim.Native.Nat.{ℕ}
+use Prim.Native.Nat.{ℕ, _*_}
 use mathlib.Core.List.{List, [], _∷_}
 use mathlib.Core.Path.{_≡_}
+use lib.ListN.{length}
 use Rattle.octets.specs.Bounds.{Bytes}
 use Rattle.octets.specs.Lay.{All}
 use Rattle.octets.specs.Octets.{be}
 use Rattle.model.specs.Call.{lentOf}
+use Rattle.model.specs.InstanceRecord.{instanceSize}
 use Rattle.model.specs.Sheets.{sheetOf}
-use Rattle.model.specs.State.{instancePlaces}
+use Rattle.model.specs.State.{placesIn}
 use Rattle.accounts.specs.Accounts.{Accounts, Told, accountsOf}
 use Rattle.accounts.specs.InstanceAccounts.{Event}
 use Rattle.boundary.specs.Layouts.{headBytes, headIn}
@@ -49,12 +51,20 @@ abbrev pub SheetBytes : Lending → Type 0
 SheetBytes i = Bytes (i .sheet)
 
 -- the 64 bytes are those of a head, and this head and the three buffers are those of the accounts
-pub record ToldAcross (x : Crossed) (acc : Accounts) : Type 0 where
+pub record ToldAcross (places : ℕ) (x : Crossed) (acc : Accounts) : Type 0 where
   pub head : x .head ≡ headBytes (headIn (x .head))
-  pub told : Told instancePlaces (lentOf (headIn (x .head)) (x .pens) (x .writers) (x .lost) (x .out)) acc
+  pub told : Told places (lentOf (headIn (x .head)) (x .pens) (x .writers) (x .lost) (x .out)) acc
 
--- whatever the list, from what an accepted `boundaryFresh` leaves
+-- whatever the list, from what an accepted `boundaryFresh` leaves; the length of the pens that it was lent sets the number of
+-- places
 abbrev pub BoundaryDemand3 : Type 0
 BoundaryDemand3 =
     (head pens writers lost : List ℕ) (is : List Lending) → boundaryFresh head pens writers lost .number ≡ 0 → All SheetBytes is →
-    ToldAcross (final is (boundaryFresh head pens writers lost)) (accountsOf (history is (boundaryFresh head pens writers lost)))
+    ToldAcross (placesIn pens) (final is (boundaryFresh head pens writers lost)) (accountsOf (history is (boundaryFresh head pens writers lost)))
+
+-- the same, for the number of places that pens were lent for
+abbrev pub SizedDemand3 : ℕ → Type 0
+SizedDemand3 places =
+    (head pens writers lost : List ℕ) (is : List Lending) → length pens ≡ places * instanceSize →
+    boundaryFresh head pens writers lost .number ≡ 0 → All SheetBytes is →
+    ToldAcross places (final is (boundaryFresh head pens writers lost)) (accountsOf (history is (boundaryFresh head pens writers lost)))

@@ -91,7 +91,7 @@ module _ (places : ℕ) (l : Lent) (b : Buffers places l) (f : Formed places l) 
   laid : layOut places (stateOf l) (l .out) ≡ l
   laid = lay-back places l b f
 
-  head-laid : headOf (stateOf l) ≡ l .head
+  head-laid : headOf places (stateOf l) ≡ l .head
   unfolding layOut
   head-laid = ap (λ (x : Lent). x .head) laid
 

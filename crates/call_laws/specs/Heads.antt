@@ -22,4 +22,5 @@ headWith h count next =
       «not_alive_change» = h .«not_alive_change»;
       «last_writer» = h .«last_writer»;
       changes = h .changes;
+      places = h .places;
     }

@@ -4,7 +4,7 @@
 --     refused-3, by-code
 --                       refused as 3; else the call of its code
 -- Assumes nothing.
-use Prim.Native.Nat.{ℕ}
+use Prim.Native.Nat.{ℕ, _*_}
 use mathlib.Core.Bool.{Bool, true, false, not}
 use mathlib.Core.List.{List}
 use mathlib.Core.Option.{some}
@@ -26,25 +26,25 @@ use Rattle.call_laws.proofs.Chain.{refused-left, coded-3, coded-judged}
 
 -- ---- a range of codes: refused as 3, else the call of its code
 
-module _ (head : Head) (pens writers lost out : List ℕ) (s : Sheet) (ok : Bool) (tested : ok ≡ wellFormed 128 (lentOf head pens writers lost out)) where
-  pub formed : not ok ≡ false → wellFormed 128 (lentOf head pens writers lost out) ≡ true
+module _ (places : ℕ) (head : Head) (pens writers lost out : List ℕ) (s : Sheet) (ok : Bool) (tested : ok ≡ wellFormed places (lentOf head pens writers lost out)) where
+  pub formed : not ok ≡ false → wellFormed places (lentOf head pens writers lost out) ≡ true
   formed passed = sym tested ∙ not-false ok passed
 
-  pub formed-parts : not ok ≡ false → Parts 128 (lentOf head pens writers lost out)
-  formed-parts passed = parts 128 (lentOf head pens writers lost out) (formed passed)
+  pub formed-parts : not ok ≡ false → Parts places (lentOf head pens writers lost out)
+  formed-parts passed = parts places (lentOf head pens writers lost out) (formed passed)
 
   -- what a call past 3 is lent
-  pub entered : not ok ≡ false → length pens ≡ 65536 → length writers ≡ 5120 → length lost ≡ 4096 → length out ≡ 4096 →
-      Bytes pens → Bytes writers → Bytes lost → Entered 128 (lentOf head pens writers lost out)
+  pub entered : not ok ≡ false → length pens ≡ places * 512 → length writers ≡ 5120 → length lost ≡ 4096 → length out ≡ 4096 →
+      Bytes pens → Bytes writers → Bytes lost → Entered places (lentOf head pens writers lost out)
   entered passed p w l o pb wb lb =
       record { pens = p; writers = w; lost = l; out = o; pensBytes = pb; writersBytes = wb; lostBytes = lb; formed = formed passed }
 
   module _ (c : Call) (known : callOfCode (s .code) ≡ some c) where
     pub refused-3 : not ok ≡ true → (r : Called) → r ≡ called (refusedWith 3) head →
-        leftOf r pens writers lost out ≡ coded 128 (callOfCode (s .code)) s (lentOf head pens writers lost out)
+        leftOf r pens writers lost out ≡ coded places (callOfCode (s .code)) s (lentOf head pens writers lost out)
     refused-3 failed r e =
-        refused-left 3 r head pens writers lost out e ∙ coded-3 128 s (lentOf head pens writers lost out) c known (sym tested ∙ not-true ok failed)
+        refused-left 3 r head pens writers lost out e ∙ coded-3 places s (lentOf head pens writers lost out) c known (sym tested ∙ not-true ok failed)
 
-    pub by-code : not ok ≡ false → (x : Left) → x ≡ judged 128 c s (lentOf head pens writers lost out) →
-        x ≡ coded 128 (callOfCode (s .code)) s (lentOf head pens writers lost out)
-    by-code passed x e = e ∙ coded-judged 128 s (lentOf head pens writers lost out) c known (formed passed)
+    pub by-code : not ok ≡ false → (x : Left) → x ≡ judged places c s (lentOf head pens writers lost out) →
+        x ≡ coded places (callOfCode (s .code)) s (lentOf head pens writers lost out)
+    by-code passed x e = e ∙ coded-judged places s (lentOf head pens writers lost out) c known (formed passed)

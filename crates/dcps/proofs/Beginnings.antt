@@ -17,7 +17,7 @@ use Rattle.octets.specs.Patch.{patch}
 use Rattle.model.specs.declared.Called.{Called}
 use Rattle.model.specs.Answers.{refusedWith}
 use Rattle.model.specs.Call.{leftOf}
-use Rattle.model.specs.State.{fresh}
+use Rattle.model.specs.State.{placesIn, fresh}
 use Rattle.model.proofs.Tests.{both}
 use Rattle.call_laws.specs.Heads.{called}
 use Rattle.dcps.specs.Fresh.{freshHead, roomOk, freshOf}
@@ -27,30 +27,30 @@ cleared n t u e p = p ∙ ap (λ (z : List ℕ). replicate n 0 ++ z) (ap (λ (k 
 
 -- ---- lengths
 
-pub record Rooms (p w l : ℕ) : Type 0 where
-  pub pens : p ≡ 65536
+pub record Rooms (places p w l : ℕ) : Type 0 where
+  pub pens : p ≡ places * 512
   pub writers : w ≡ 5120
   pub lost : l ≡ 4096
 
-pub rooms : (pens writers lost : ℕ) → (eqb pens 65536 && (eqb writers 5120 && eqb lost 4096)) ≡ true → Rooms pens writers lost
-rooms pens writers lost e =
-    let p = both (eqb pens 65536) (eqb writers 5120 && eqb lost 4096) e in
+pub rooms : (places pens writers lost : ℕ) → (eqb pens (places * 512) && (eqb writers 5120 && eqb lost 4096)) ≡ true → Rooms places pens writers lost
+rooms places pens writers lost e =
+    let p = both (eqb pens (places * 512)) (eqb writers 5120 && eqb lost 4096) e in
     let q = both (eqb writers 5120) (eqb lost 4096) (p .1) in
-    record { pens = eqb-true pens 65536 (p .0); writers = eqb-true writers 5120 (q .0); lost = eqb-true lost 4096 (q .1) }
+    record { pens = eqb-true pens (places * 512) (p .0); writers = eqb-true writers 5120 (q .0); lost = eqb-true lost 4096 (q .1) }
 
-pub room-is : (pens writers lost : List ℕ) (b : Bool) → (eqb (length pens) 65536 && (eqb (length writers) 5120 && eqb (length lost) 4096)) ≡ b →
-    roomOk 128 pens writers lost ≡ b
+pub room-is : (places : ℕ) (pens writers lost : List ℕ) (b : Bool) →
+    (eqb (length pens) (places * 512) && (eqb (length writers) 5120 && eqb (length lost) 4096)) ≡ b → roomOk places pens writers lost ≡ b
 unfolding roomOk
-room-is pens writers lost b e = e
+room-is places pens writers lost b e = e
 
 -- ---- what is left
 
-module _ (places : ℕ) (pens writers lost : List ℕ) (r : Called) where
-  pub fresh-refused : roomOk places pens writers lost ≡ false → r ≡ called (refusedWith 1) (freshHead places) → leftOf r pens writers lost [] ≡ freshOf places pens writers lost
+module _ (places : ℕ) (pens writers lost : List ℕ) (figure : places ≡ placesIn pens) (r : Called) where
+  pub fresh-refused : roomOk places pens writers lost ≡ false → r ≡ called (refusedWith 1) (freshHead places) → leftOf r pens writers lost [] ≡ freshOf pens writers lost
   unfolding freshOf
-  fresh-refused e s = rw (e, s)
+  fresh-refused e s = rw (← figure, e, s)
 
   pub fresh-left : (pens′ writers′ lost′ : List ℕ) → roomOk places pens writers lost ≡ true → r ≡ called (refusedWith 0) (freshHead places) →
-      pens′ ≡ replicate (places * 512) 0 → writers′ ≡ replicate 5120 0 → lost′ ≡ replicate 4096 0 → leftOf r pens′ writers′ lost′ [] ≡ freshOf places pens writers lost
+      pens′ ≡ replicate (places * 512) 0 → writers′ ≡ replicate 5120 0 → lost′ ≡ replicate 4096 0 → leftOf r pens′ writers′ lost′ [] ≡ freshOf pens writers lost
   unfolding freshOf fresh
-  fresh-left pens′ writers′ lost′ e s p w l = rw (e, s, p, w, l)
+  fresh-left pens′ writers′ lost′ e s p w l = rw (← figure, e, s, p, w, l)

@@ -96,18 +96,18 @@ module _ (places : ℕ) (t : List ℕ) where
   unfolding lookupRight
   lookup-number g r e = looked (tableRefusal places t) (tableOf places t) g r e
 
-module _ (places : ℕ) (h : Head) where
-  pub status-number : {r : StatusRead} → r ≡ statusRead places h → statusAnswer r .number ≡ cond (headAlone places h) 0 3
+module _ (h : Head) where
+  pub status-number : {r : StatusRead} → r ≡ statusRead h → statusAnswer r .number ≡ cond (headAlone h) 0 3
   unfolding statusRead
-  status-number e = ap (λ (d : StatusRead). statusAnswer d .number) e ∙ each (headAlone places h)
+  status-number e = ap (λ (d : StatusRead). statusAnswer d .number) e ∙ each (headAlone h)
     where
       each : (b : Bool) → statusAnswer (cond b (statusIs (headStatus h)) (statusRefused 3)) .number ≡ cond b 0 3
       each true = refl
       each false = refl
 
-  pub changes-number : {r : ChangesRead} → r ≡ changesRead places h → changesAnswer r .number ≡ cond (headAlone places h) 0 3
+  pub changes-number : {r : ChangesRead} → r ≡ changesRead h → changesAnswer r .number ≡ cond (headAlone h) 0 3
   unfolding changesRead
-  changes-number e = ap (λ (d : ChangesRead). changesAnswer d .number) e ∙ each (headAlone places h)
+  changes-number e = ap (λ (d : ChangesRead). changesAnswer d .number) e ∙ each (headAlone h)
     where
       each : (b : Bool) → changesAnswer (cond b (changesIs (h .changes)) (changesRefused 3)) .number ≡ cond b 0 3
       each true = refl

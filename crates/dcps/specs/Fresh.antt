@@ -9,7 +9,7 @@ use Rattle.model.specs.Answers.{silent}
 use Rattle.model.specs.Call.{Left, refuse, lentOf}
 use Rattle.model.specs.Guids.{guidSize}
 use Rattle.model.specs.InstanceRecord.{instanceSize}
-use Rattle.model.specs.State.{fresh, writerPlaces, lostPlaces}
+use Rattle.model.specs.State.{fresh, placesIn, writerPlaces, lostPlaces}
 use Rattle.model.specs.WriterRecord.{writerSize}
 
 -- the head of the fresh state
@@ -21,9 +21,10 @@ unfoldable pub roomOk : ℕ → List ℕ → List ℕ → List ℕ → Bool
 roomOk places pens writers lost =
     eqb (length pens) (places * instanceSize) && (eqb (length writers) (writerPlaces * writerSize) && eqb (length lost) (lostPlaces * guidSize))
 
--- the three buffers become those of the fresh state; refused as 1 where one has another length. The head is the fresh one
-unfoldable pub freshOf : ℕ → List ℕ → List ℕ → List ℕ → Left
-freshOf places pens writers lost =
-    cond (roomOk places pens writers lost)
-    record { answer = silent; lent = fresh places [] }
-    (refuse 1 (lentOf (freshHead places) pens writers lost []))
+-- the three buffers become those of the fresh state, the length of pens setting the number of places (02, ticket 5); refused as
+-- 1 where one has another length. The head is the fresh one
+unfoldable pub freshOf : List ℕ → List ℕ → List ℕ → Left
+freshOf pens writers lost =
+    cond (roomOk (placesIn pens) pens writers lost)
+    record { answer = silent; lent = fresh (placesIn pens) [] }
+    (refuse 1 (lentOf (freshHead (placesIn pens)) pens writers lost []))

@@ -20,14 +20,14 @@ use model::Sheet;
 use model::StatusRead;
 use model::Time;
 use wire_time::WireFraction;
-ghost use mathlib.Core.Bool.{true, _&&_, cond};
+ghost use mathlib.Core.Bool.{true, cond};
 ghost use mathlib.Core.List.{List, []};
 ghost use mathlib.Core.Path.{_≡_};
-ghost use Prim.Native.Nat.{ℕ};
-ghost use lib.Dec.{eqb};
+ghost use Prim.Native.Nat.{ℕ, _*_, _≤_};
 ghost use lib.ListN.{length};
 ghost use Rattle.model.specs.Call.{coded, callOf, lentOf, leftOf};
 ghost use Rattle.model.specs.Calls.{callOfCode};
+ghost use Rattle.model.specs.State.{placesIn};
 ghost use Rattle.model.specs.Reads.{filterRead, orderRead, lastDeliveredRead, nextHandleRead, walkRead, holderInForce, lookupRight, wouldLeaveRead, leftRead, leftOut, statusRead, changesRead, tableRefusal, timeRefusal, listRefusal, leftRefusal, headAlone};
 ghost use Rattle.read_answers.specs.Cases.{decisionAnswer, handleAnswer, timeAnswer, listingAnswer, statusAnswer, changesAnswer};
 ghost use Rattle.instance_reads.specs.HolderPlaces.{holderPlace, bytesAt};
@@ -37,20 +37,7 @@ ghost use Rattle.dcps.specs.Fresh.{freshHead, freshOf};
 
 // ---- every call
 
-// Whether the buffers of the state have their lengths.
-fn room_ok(pens: usize, writers: usize, lost: usize) -> bool
-    ensures { λ r. ⌜ r ≡ (eqb pens 65536 && (eqb writers 5120 && eqb lost 4096)) ⌝ }
-{
-    if pens != 65536 {
-        return false;
-    }
-    if writers != 5120 {
-        return false;
-    }
-    lost == 4096
-}
-
-// A call on buffers of their lengths, by its code; there are no codes but those.
+// A call on buffers of their lengths, for the instance places that the head says, by its code; there are no codes but those.
 fn coded(
     s: Sheet,
     head: Head,
@@ -58,16 +45,18 @@ fn coded(
     writers: &mut [u8],
     lost: &mut [u8],
     out: &mut [u8],
+    places: usize,
 ) -> Called
-    requires { ⌜ (length (now pens) ≡ 65536) × (length (now writers) ≡ 5120) × (length (now lost) ≡ 4096) × (length (now out) ≡ 4096) ⌝ }
+    requires { ⌜ (length (now pens) ≡ places * 512) × (length (now writers) ≡ 5120) × (length (now lost) ≡ 4096) × (length (now out) ≡ 4096)
+        × (head .places ≡ places) × (places ≤ 128) ⌝ }
     ensures { λ r. ⌜ leftOf r (now (pens .exit)) (now (writers .exit)) (now (lost .exit)) (now (out .exit))
-        ≡ coded 128 (callOfCode (s .code)) s (lentOf head (now (pens .entry)) (now (writers .entry)) (now (lost .entry)) (now (out .entry))) ⌝ }
+        ≡ coded places (callOfCode (s .code)) s (lentOf head (now (pens .entry)) (now (writers .entry)) (now (lost .entry)) (now (out .entry))) ⌝ }
 {
     let code = s.code;
     match code {
-        1..=21 => call_ranges::instances(s, head, pens, writers, lost, out),
-        32..=40 => call_ranges::tracker(s, head, pens, writers, lost, out),
-        48..=51 => call_ranges::joined(s, head, pens, writers, lost, out),
+        1..=21 => call_ranges::instances(s, head, pens, writers, lost, out, places),
+        32..=40 => call_ranges::tracker(s, head, pens, writers, lost, out, places),
+        48..=51 => call_ranges::joined(s, head, pens, writers, lost, out, places),
         _ => answers::refused(2, head),
     }
 }
@@ -84,24 +73,29 @@ pub fn call(
     ensures { λ r. ⌜ leftOf r (now (pens .exit)) (now (writers .exit)) (now (lost .exit)) (now (out .exit))
         ≡ callOf (now (sheet .entry)) (lentOf head (now (pens .entry)) (now (writers .entry)) (now (lost .entry)) (now (out .entry))) ⌝ }
 {
+    let figure = head.places;
+    if !instance_places::figure_ok(figure) {
+        return answers::refused(3, head);
+    }
+    let places = figure as usize;
     if sheet.len() != 256 {
         return answers::refused(1, head);
     }
-    if !room_ok(pens.len(), writers.len(), lost.len()) {
+    if !instance_places::room_ok(places, pens.len(), writers.len(), lost.len()) {
         return answers::refused(1, head);
     }
     if out.len() != 4096 {
         return answers::refused(1, head);
     }
     let s = call_sheet::read_sheet(sheet);
-    coded(s, head, pens, writers, lost, out)
+    coded(s, head, pens, writers, lost, out, places)
 }
 
 // ---- the fresh state
 
-// The head of the fresh state.
-fn fresh_head() -> Head
-    ensures { λ r. ⌜ r ≡ freshHead 128 ⌝ }
+// The head of the fresh state with so many instance places.
+fn fresh_head(places: u16) -> Head
+    ensures { λ r. ⌜ r ≡ freshHead places ⌝ }
 {
     Head {
         instance_count: 0,
@@ -114,19 +108,22 @@ fn fresh_head() -> Head
         not_alive_change: 0,
         last_writer: LastWriter::Nobody,
         changes: 0,
+        places: places,
     }
 }
 
-// The buffers become those of the fresh state, whose head comes back; where one has another length it is refused as 1.
+// The buffers become those of the fresh state, whose head comes back; the length of pens sets its number of instance places.
+// Where a buffer has another length it is refused as 1.
 pub fn fresh(pens: &mut [u8], writers: &mut [u8], lost: &mut [u8]) -> Called
     ensures { λ r. ⌜ leftOf r (now (pens .exit)) (now (writers .exit)) (now (lost .exit)) []
-        ≡ freshOf 128 (now (pens .entry)) (now (writers .entry)) (now (lost .entry)) ⌝ }
+        ≡ freshOf (now (pens .entry)) (now (writers .entry)) (now (lost .entry)) ⌝ }
 {
-    let head = fresh_head();
-    if !room_ok(pens.len(), writers.len(), lost.len()) {
+    let places = instance_places::places_in(pens);
+    let head = fresh_head(places as u16);
+    if !instance_places::room_ok(places, pens.len(), writers.len(), lost.len()) {
         return answers::refused(1, head);
     }
-    octets::clear(pens, 0, 65536);
+    octets::clear(pens, 0, places * 512);
     octets::clear(writers, 0, 5120);
     octets::clear(lost, 0, 4096);
     answers::refused(0, head)
@@ -141,8 +138,8 @@ pub fn should_deliver_under_time_based_filter(
     sample_ts: Time,
     min_separation: u64,
 ) -> Decision
-    ensures case { λ r. ⌜ r ≡ filterRead 128 (now (pens .entry)) key «sample_ts» «min_separation» ⌝ }
-    ensures number { λ r. ⌜ decisionAnswer r .number ≡ timeRefusal 128 (now (pens .entry)) «sample_ts» ⌝ }
+    ensures case { λ r. ⌜ r ≡ filterRead (placesIn (now (pens .entry))) (now (pens .entry)) key «sample_ts» «min_separation» ⌝ }
+    ensures number { λ r. ⌜ decisionAnswer r .number ≡ timeRefusal (placesIn (now (pens .entry))) (now (pens .entry)) «sample_ts» ⌝ }
 {
     instance_reads::should_deliver_under_time_based_filter(pens, key, sample_ts, min_separation)
 }
@@ -154,88 +151,88 @@ pub fn should_deliver_under_destination_order(
     source_ts: Time,
     by_source: bool,
 ) -> Decision
-    ensures case { λ r. ⌜ r ≡ orderRead 128 (now (pens .entry)) key «source_ts» «by_source» ⌝ }
-    ensures number { λ r. ⌜ decisionAnswer r .number ≡ timeRefusal 128 (now (pens .entry)) «source_ts» ⌝ }
+    ensures case { λ r. ⌜ r ≡ orderRead (placesIn (now (pens .entry))) (now (pens .entry)) key «source_ts» «by_source» ⌝ }
+    ensures number { λ r. ⌜ decisionAnswer r .number ≡ timeRefusal (placesIn (now (pens .entry))) (now (pens .entry)) «source_ts» ⌝ }
 {
     instance_reads::should_deliver_under_destination_order(pens, key, source_ts, by_source)
 }
 
 // When a sample of the instance was delivered last.
 pub fn last_delivered_ts(pens: &[u8], key: Guid) -> FoundTime
-    ensures case { λ r. ⌜ r ≡ lastDeliveredRead 128 (now (pens .entry)) key ⌝ }
-    ensures number { λ r. ⌜ timeAnswer r .number ≡ tableRefusal 128 (now (pens .entry)) ⌝ }
+    ensures case { λ r. ⌜ r ≡ lastDeliveredRead (placesIn (now (pens .entry))) (now (pens .entry)) key ⌝ }
+    ensures number { λ r. ⌜ timeAnswer r .number ≡ tableRefusal (placesIn (now (pens .entry))) (now (pens .entry)) ⌝ }
 {
     instance_reads::last_delivered_ts(pens, key)
 }
 
 // The handle that follows another in the order of the keys; the first one behind nil.
 pub fn next_handle_after(pens: &[u8], previous: InstanceHandle) -> FoundHandle
-    ensures case { λ r. ⌜ r ≡ nextHandleRead 128 (now (pens .entry)) previous ⌝ }
-    ensures number { λ r. ⌜ handleAnswer r .number ≡ tableRefusal 128 (now (pens .entry)) ⌝ }
+    ensures case { λ r. ⌜ r ≡ nextHandleRead (placesIn (now (pens .entry))) (now (pens .entry)) previous ⌝ }
+    ensures number { λ r. ⌜ handleAnswer r .number ≡ tableRefusal (placesIn (now (pens .entry))) (now (pens .entry)) ⌝ }
 {
     instance_reads::next_handle_after(pens, previous)
 }
 
 // The handle of the instance at a position.
 pub fn handle_at_position(pens: &[u8], position: usize) -> FoundHandle
-    ensures case { λ r. ⌜ r ≡ walkRead 128 (now (pens .entry)) position ⌝ }
-    ensures number { λ r. ⌜ handleAnswer r .number ≡ tableRefusal 128 (now (pens .entry)) ⌝ }
+    ensures case { λ r. ⌜ r ≡ walkRead (placesIn (now (pens .entry))) (now (pens .entry)) position ⌝ }
+    ensures number { λ r. ⌜ handleAnswer r .number ≡ tableRefusal (placesIn (now (pens .entry))) (now (pens .entry)) ⌝ }
 {
     instance_reads::handle_at_position(pens, position)
 }
 
 // Where the stored holder of the key stands in pens: for callers who can't be handed a slice.
 pub fn holder_place(pens: &[u8], key: Guid) -> HolderPlace
-    ensures place { λ r. ⌜ r ≡ holderPlace 128 (now (pens .entry)) key ⌝ }
-    ensures force { λ r. ⌜ ((offered : List ℕ) → bytesAt r (now (pens .entry)) offered ≡ holderInForce 128 (now (pens .entry)) key offered) ⌝ }
+    ensures place { λ r. ⌜ r ≡ holderPlace (placesIn (now (pens .entry))) (now (pens .entry)) key ⌝ }
+    ensures force { λ r. ⌜ ((offered : List ℕ) → bytesAt r (now (pens .entry)) offered ≡ holderInForce (placesIn (now (pens .entry))) (now (pens .entry)) key offered) ⌝ }
 {
     instance_reads::holder_place(pens, key)
 }
 
 // The stored holder of the key, or the one offered.
 pub fn holder_in_force<'a>(pens: &'a [u8], key: Guid, offered: &'a [u8]) -> &'a [u8]
-    ensures { λ r. ⌜ now r ≡ holderInForce 128 (now (pens .entry)) key (now (offered .entry)) ⌝ }
+    ensures { λ r. ⌜ now r ≡ holderInForce (placesIn (now (pens .entry))) (now (pens .entry)) key (now (offered .entry)) ⌝ }
 {
     instance_reads::holder_in_force(pens, key, offered)
 }
 
 // An alive instance that the writer writes.
 pub fn writer_lookup(pens: &[u8], guid: Guid) -> FoundHandle
-    ensures right { λ r. ⌜ lookupRight 128 (now (pens .entry)) guid r ≡ true ⌝ }
-    ensures number { λ r. ⌜ handleAnswer r .number ≡ tableRefusal 128 (now (pens .entry)) ⌝ }
+    ensures right { λ r. ⌜ lookupRight (placesIn (now (pens .entry))) (now (pens .entry)) guid r ≡ true ⌝ }
+    ensures number { λ r. ⌜ handleAnswer r .number ≡ tableRefusal (placesIn (now (pens .entry))) (now (pens .entry)) ⌝ }
 {
     instance_reads::writer_lookup(pens, guid)
 }
 
 // Whether the loss of the writers of a list would leave an instance without writers.
 pub fn would_leave_writerless(pens: &[u8], gone: &[u8], view_states: u32) -> Decision
-    ensures case { λ r. ⌜ r ≡ wouldLeaveRead 128 (now (pens .entry)) (now (gone .entry)) «view_states» ⌝ }
-    ensures number { λ r. ⌜ decisionAnswer r .number ≡ listRefusal 128 (now (pens .entry)) (now (gone .entry)) ⌝ }
+    ensures case { λ r. ⌜ r ≡ wouldLeaveRead (placesIn (now (pens .entry))) (now (pens .entry)) (now (gone .entry)) «view_states» ⌝ }
+    ensures number { λ r. ⌜ decisionAnswer r .number ≡ listRefusal (placesIn (now (pens .entry))) (now (pens .entry)) (now (gone .entry)) ⌝ }
 {
     instance_reads::would_leave_writerless(pens, gone, view_states)
 }
 
 // The handles of the instances that it would leave so, to the front of Out.
 pub fn left_writerless(pens: &[u8], gone: &[u8], view_states: u32, out: &mut [u8]) -> Listing
-    ensures answer { λ r. ⌜ r ≡ leftRead 128 (now (pens .entry)) (now (gone .entry)) «view_states» (now (out .entry)) ⌝ }
-    ensures number { λ r. ⌜ listingAnswer r .number ≡ leftRefusal 128 (now (pens .entry)) (now (gone .entry)) (now (out .entry)) ⌝ }
-    ensures list { λ _. ⌜ now (out .exit) ≡ leftOut 128 (now (pens .entry)) (now (gone .entry)) «view_states» (now (out .entry)) ⌝ }
+    ensures answer { λ r. ⌜ r ≡ leftRead (placesIn (now (pens .entry))) (now (pens .entry)) (now (gone .entry)) «view_states» (now (out .entry)) ⌝ }
+    ensures number { λ r. ⌜ listingAnswer r .number ≡ leftRefusal (placesIn (now (pens .entry))) (now (pens .entry)) (now (gone .entry)) (now (out .entry)) ⌝ }
+    ensures list { λ _. ⌜ now (out .exit) ≡ leftOut (placesIn (now (pens .entry))) (now (pens .entry)) (now (gone .entry)) «view_states» (now (out .entry)) ⌝ }
 {
     instance_reads::left_writerless(pens, gone, view_states, out)
 }
 
 // The liveliness status (DDS 1.4, 2.2.4.1) that the head holds, which it leaves as it is.
 pub fn status(head: Head) -> StatusRead
-    ensures case { λ r. ⌜ r ≡ statusRead 128 head ⌝ }
-    ensures number { λ r. ⌜ statusAnswer r .number ≡ cond (headAlone 128 head) 0 3 ⌝ }
+    ensures case { λ r. ⌜ r ≡ statusRead head ⌝ }
+    ensures number { λ r. ⌜ statusAnswer r .number ≡ cond (headAlone head) 0 3 ⌝ }
 {
     writer_validity::status(head)
 }
 
 // How many changes of class the head has counted.
 pub fn changes(head: Head) -> ChangesRead
-    ensures case { λ r. ⌜ r ≡ changesRead 128 head ⌝ }
-    ensures number { λ r. ⌜ changesAnswer r .number ≡ cond (headAlone 128 head) 0 3 ⌝ }
+    ensures case { λ r. ⌜ r ≡ changesRead head ⌝ }
+    ensures number { λ r. ⌜ changesAnswer r .number ≡ cond (headAlone head) 0 3 ⌝ }
 {
     writer_validity::changes(head)
 }

@@ -1,7 +1,7 @@
 -- A call across the boundary.
 --     laid-head, unlaid-head      the head of bytes that are a head's; of others
 --     head-written, head-kept     the head that is left, by the number
---     short-answer, short-head    refused as 1 for their lengths
+--     short-answer, short-head    refused for their lengths, or by the figure
 --     fresh-short, fresh-made     the fresh state
 --     made                        a call on a head that was read, and on one that was none
 -- Assumes nothing.
@@ -22,11 +22,14 @@ use Rattle.model.specs.Call.{refuse, coded, callIn, callOf, lentOf, leftOf}
 use Rattle.model.specs.Calls.{Call, callOfCode}
 use Rattle.model.specs.Refusals.{lengthsOk}
 use Rattle.model.specs.Sheets.{sheetOf}
-use Rattle.model.specs.State.{Lent}
+use Rattle.model.specs.State.{Lent, figureOk}
 use Rattle.model.specs.WellFormed.{wellFormed, headOk}
+use Rattle.model.proofs.Figures.{call-in, another-figure}
+use Rattle.model.proofs.Tests.{split}
+use Rattle.octets.specs.Octets.{be}
 use Rattle.boundary.specs.Layouts.{headBytes, headIn, headLaid, answerBytes}
 use Rattle.dcps.specs.Fresh.{freshOf}
-use Rattle.dcps_c.specs.Boundary.{crossedOf, crossed, calledHead, answerLeft, codeNumber, unlaidNumber, laidCall, lentCall, boundaryCall, boundaryFresh, noHead, headOr}
+use Rattle.dcps_c.specs.Boundary.{crossedOf, crossed, calledHead, answerLeft, codeNumber, unlaidNumber, laidCall, lentCall, boundaryCall, boundaryFresh, unanswered, noHead, headOr}
 
 -- ---- the head
 
@@ -34,9 +37,9 @@ pub laid-head : (b : List ℕ) {h : Head} → headLaid b ≡ true → h ≡ head
 unfolding headOr
 laid-head b e r = rw e r
 
-pub unlaid-head : (b : List ℕ) {h : Head} → headLaid b ≡ false → h ≡ noHead → h ≡ headOr b
-unfolding headOr
-unlaid-head b e r = rw e r
+pub unlaid-head : (b : List ℕ) {h : Head} {n : ℕ} → headLaid b ≡ false → n ≡ be 2 b 30 → h ≡ noHead n → h ≡ headOr b
+unfolding headOr headIn
+unlaid-head b e f r = rw e (r ∙ ap noHead f)
 
 pub head-written : (r : Called) (b c : List ℕ) → r .answer .number ≡ 0 → c ≡ headBytes (r .head) → c ≡ calledHead r b
 unfolding calledHead
@@ -49,10 +52,14 @@ head-kept r b h = rw (ne-eqb (r .answer .number) 0 h)
 -- ---- lengths
 
 module _ (head sheet pens writers lost out answer : List ℕ) where
-  pub short-answer : (length answer ≡ 72 → ⊥) →
-      crossedOf 1 head pens writers lost out answer ≡ boundaryCall head sheet pens writers lost out answer
-  unfolding boundaryCall lentCall crossed calledHead answerLeft
-  short-answer h = rw (ne-eqb (length answer) 72 h, and-false (eqb (length head) 64))
+  pub short-answer : (n : ℕ) → (length answer ≡ 72 → ⊥) → n ≡ unanswered head →
+      crossedOf n head pens writers lost out answer ≡ boundaryCall head sheet pens writers lost out answer
+  unfolding boundaryCall lentCall crossed calledHead answerLeft unanswered
+  short-answer n h e =
+      rw (e, ne-eqb (length answer) 72 h)
+      (split (eqb (length head) 64)
+      (λ a. split (figureOk (headIn head .places)) (λ f. rw (a, f)) (λ f. rw (a, f)))
+      (λ a. rw a))
 
   pub short-head : (n : ℕ) (a : List ℕ) → length answer ≡ 72 → (length head ≡ 64 → ⊥) → n ≡ 1 → a ≡ answerBytes (refusedWith 1) →
       crossedOf n head pens writers lost out a ≡ boundaryCall head sheet pens writers lost out answer
@@ -61,32 +68,41 @@ module _ (head sheet pens writers lost out answer : List ℕ) where
 
 -- ---- a call on no head: refused as 3 in its turn
 
-never : (places : ℕ) (pens writers lost out : List ℕ) → wellFormed places (lentOf noHead pens writers lost out) ≡ false
+never : (places : ℕ) (pens writers lost out : List ℕ) → wellFormed places (lentOf (noHead places) pens writers lost out) ≡ false
 unfolding wellFormed headOk
-never places pens writers lost out = refl
+never places pens writers lost out = and-false (eqb places places)
 
-coded-never : (c : Option Call) (s : Sheet) (l : Lent) → wellFormed 128 l ≡ false → coded 128 c s l ≡ refuse (codeNumber c) l
-coded-never none s l e = refl
-coded-never (some c) s l e = rw e
+coded-never : (places : ℕ) (c : Option Call) (s : Sheet) (l : Lent) → wellFormed places l ≡ false → coded places c s l ≡ refuse (codeNumber c) l
+coded-never places none s l e = refl
+coded-never places (some c) s l e = rw e
 
-lengths-same : (sheet : List ℕ) (h g : Head) (pens writers lost out : List ℕ) →
-    lengthsOk 128 sheet (lentOf h pens writers lost out) ≡ lengthsOk 128 sheet (lentOf g pens writers lost out)
+lengths-same : (places : ℕ) (sheet : List ℕ) (h g : Head) (pens writers lost out : List ℕ) →
+    lengthsOk places sheet (lentOf h pens writers lost out) ≡ lengthsOk places sheet (lentOf g pens writers lost out)
 unfolding lengthsOk
-lengths-same sheet h g pens writers lost out = refl
+lengths-same places sheet h g pens writers lost out = refl
 
-by-lengths : (b : Bool) (c : Option Call) (s : Sheet) (l : Lent) → wellFormed 128 l ≡ false →
-    cond b (coded 128 c s l) (refuse 1 l) ≡ refuse (cond b (codeNumber c) 1) l
-by-lengths true c s l e = coded-never c s l e
-by-lengths false c s l e = refl
+by-lengths : (places : ℕ) (b : Bool) (c : Option Call) (s : Sheet) (l : Lent) → wellFormed places l ≡ false →
+    cond b (coded places c s l) (refuse 1 l) ≡ refuse (cond b (codeNumber c) 1) l
+by-lengths places true c s l e = coded-never places c s l e
+by-lengths places false c s l e = refl
 
--- the number is the one of bytes that are no head's, with any head
-no-call : (sheet : List ℕ) (h : Head) (pens writers lost out : List ℕ) →
-    callOf sheet (lentOf noHead pens writers lost out) ≡ refuse (unlaidNumber sheet (lentOf h pens writers lost out)) (lentOf noHead pens writers lost out)
-unfolding callOf callIn unlaidNumber
-no-call sheet h pens writers lost out =
-    let l = lentOf noHead pens writers lost out in
-    rw (lengths-same sheet h noHead pens writers lost out)
-    (by-lengths (lengthsOk 128 sheet l) (callOfCode (sheetOf sheet .code)) (sheetOf sheet) l (never 128 pens writers lost out))
+-- the number is the one of bytes that are no head's, with any head of that figure
+no-call : (sheet : List ℕ) (h : Head) (pens writers lost out : List ℕ) → figureOk (h .places) ≡ true →
+    callOf sheet (lentOf (noHead (h .places)) pens writers lost out)
+    ≡ refuse (unlaidNumber sheet (lentOf h pens writers lost out)) (lentOf (noHead (h .places)) pens writers lost out)
+no-call sheet h pens writers lost out ok = call-in sheet l places ok refl ∙ refuses
+  where
+    places : ℕ
+    places = h .places
+
+    l : Lent
+    l = lentOf (noHead (h .places)) pens writers lost out
+
+    refuses : callIn places sheet l ≡ refuse (unlaidNumber sheet (lentOf h pens writers lost out)) l
+    refuses =
+        unfold callIn unlaidNumber in
+        rw (lengths-same places sheet h (noHead places) pens writers lost out)
+        (by-lengths places (lengthsOk places sheet l) (callOfCode (sheetOf sheet .code)) (sheetOf sheet) l (never places pens writers lost out))
 
 -- a refusal's head is not written
 kept : (n : ℕ) (b answer : List ℕ) (h g : Head) (pens writers lost out : List ℕ) → (n ≡ 0 → ⊥) →
@@ -104,30 +120,47 @@ some-number false c e = absurd (omega (arith, e))
 
 unlaid-refused : (sheet : List ℕ) (l : Lent) → unlaidNumber sheet l ≡ 0 → ⊥
 unfolding unlaidNumber
-unlaid-refused sheet l e = some-number (lengthsOk 128 sheet l) (callOfCode (sheetOf sheet .code)) e
+unlaid-refused sheet l e = some-number (lengthsOk (l .head .places) sheet l) (callOfCode (sheetOf sheet .code)) e
 
 -- ---- a call
 
 module _ (head sheet pens writers lost out answer : List ℕ) where
-  on-laid : (b : Bool) → headLaid head ≡ b →
-      crossed head answer (callOf sheet (lentOf (cond b (headIn head) noHead) pens writers lost out))
-      ≡ crossed head answer (cond b (callOf sheet (lentOf (headIn head) pens writers lost out))
-      (refuse (unlaidNumber sheet (lentOf (headIn head) pens writers lost out)) (lentOf (headIn head) pens writers lost out)))
-  on-laid true e = refl
-  on-laid false e =
-      let n = unlaidNumber sheet (lentOf (headIn head) pens writers lost out) in
-      ap (crossed head answer) (no-call sheet (headIn head) pens writers lost out)
-      ∙ kept n head answer noHead (headIn head) pens writers lost out (unlaid-refused sheet (lentOf (headIn head) pens writers lost out))
+  abbrev l : Lent
+  l = lentOf (headIn head) pens writers lost out
 
-  laid-or-not : crossed head answer (callOf sheet (lentOf (headOr head) pens writers lost out))
-      ≡ crossed head answer (laidCall sheet head (lentOf (headIn head) pens writers lost out))
+  abbrev figure : ℕ
+  figure = headIn head .places
+
+  on-laid : figureOk figure ≡ true → (b : Bool) →
+      crossed head answer (callOf sheet (lentOf (cond b (headIn head) (noHead figure)) pens writers lost out))
+      ≡ crossed head answer (cond b (callOf sheet l) (refuse (unlaidNumber sheet l) l))
+  on-laid ok true = refl
+  on-laid ok false =
+      ap (crossed head answer) (no-call sheet (headIn head) pens writers lost out ok)
+      ∙ kept (unlaidNumber sheet l) head answer (noHead figure) (headIn head) pens writers lost out (unlaid-refused sheet l)
+
+  laid-or-not : figureOk figure ≡ true →
+      crossed head answer (callOf sheet (lentOf (headOr head) pens writers lost out)) ≡ crossed head answer (laidCall sheet head l)
   unfolding headOr laidCall
-  laid-or-not = on-laid (headLaid head) refl
+  laid-or-not ok = on-laid ok (headLaid head)
+
+  -- the figure is handed on, laid out or not
+  or-figure : headOr head .places ≡ figure
+  unfolding headOr
+  or-figure = split (headLaid head) (λ e. rw e) (λ e. rw e)
+
+  other-figure : figureOk figure ≡ false →
+      crossed head answer (callOf sheet (lentOf (headOr head) pens writers lost out)) ≡ crossed head answer (refuse 3 l)
+  other-figure other =
+      ap (crossed head answer) (another-figure sheet (lentOf (headOr head) pens writers lost out) (ap figureOk or-figure ∙ other))
+      ∙ kept 3 head answer (headOr head) (headIn head) pens writers lost out (λ e. omega arith)
 
   lengths-right : length answer ≡ 72 → length head ≡ 64 →
-      crossed head answer (laidCall sheet head (lentOf (headIn head) pens writers lost out)) ≡ boundaryCall head sheet pens writers lost out answer
+      crossed head answer (callOf sheet (lentOf (headOr head) pens writers lost out)) ≡ boundaryCall head sheet pens writers lost out answer
   unfolding boundaryCall lentCall
-  lengths-right la lh = rw (eq-eqb (length answer) 72 la, eq-eqb (length head) 64 lh)
+  lengths-right la lh =
+      rw (eq-eqb (length answer) 72 la, eq-eqb (length head) 64 lh)
+      (split (figureOk figure) (λ ok. rw ok (laid-or-not ok)) (λ other. rw other (other-figure other)))
 
   written : (r : Called) (n : ℕ) (head′ pens′ writers′ lost′ out′ answer′ : List ℕ) → length answer ≡ 72 →
       n ≡ r .answer .number → head′ ≡ calledHead r head → answer′ ≡ answerBytes (r .answer) →
@@ -142,7 +175,7 @@ module _ (head sheet pens writers lost out answer : List ℕ) where
   made h r n head′ pens′ writers′ lost′ out′ answer′ la lh e left en eh ea =
       written r n head′ pens′ writers′ lost′ out′ answer′ la en eh ea
       ∙ ap (crossed head answer) (left ∙ ap (λ (z : Head). callOf sheet (lentOf z pens writers lost out)) e)
-      ∙ laid-or-not ∙ lengths-right la lh
+      ∙ lengths-right la lh
 
 -- ---- the fresh state
 
@@ -156,12 +189,12 @@ module _ (head pens writers lost : List ℕ) where
   unfolding crossed answerLeft calledHead
   fresh-written r n head′ pens′ writers′ lost′ en eh = rw (en, eh)
 
-  fresh-right : length head ≡ 64 → crossed head [] (freshOf 128 pens writers lost) ≡ boundaryFresh head pens writers lost
+  fresh-right : length head ≡ 64 → crossed head [] (freshOf pens writers lost) ≡ boundaryFresh head pens writers lost
   unfolding boundaryFresh
   fresh-right e = rw (eq-eqb (length head) 64 e)
 
   pub fresh-made : (r : Called) (n : ℕ) (head′ pens′ writers′ lost′ : List ℕ) → length head ≡ 64 →
-      leftOf r pens′ writers′ lost′ [] ≡ freshOf 128 pens writers lost → n ≡ r .answer .number → head′ ≡ calledHead r head →
+      leftOf r pens′ writers′ lost′ [] ≡ freshOf pens writers lost → n ≡ r .answer .number → head′ ≡ calledHead r head →
       crossedOf n head′ pens′ writers′ lost′ [] [] ≡ boundaryFresh head pens writers lost
   fresh-made r n head′ pens′ writers′ lost′ e left en eh =
       fresh-written r n head′ pens′ writers′ lost′ en eh ∙ ap (crossed head []) left ∙ fresh-right e

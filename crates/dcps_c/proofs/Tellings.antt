@@ -13,6 +13,7 @@ use Rattle.model.specs.declared.FoundHandle.{FoundHandle}
 use Rattle.model.specs.declared.FoundTime.{FoundTime}
 use Rattle.model.specs.declared.Listing.{Listing}
 use Rattle.model.specs.Reads.{leftRead, leftOut}
+use Rattle.model.specs.State.{placesIn}
 use Rattle.read_answers.specs.declared.ReadAnswer.{ReadAnswer}
 use Rattle.read_answers.specs.Cases.{decisionAnswer, handleAnswer, timeAnswer, listingAnswer, holderAnswer}
 use Rattle.key_hash.specs.declared.KeyHashed.{KeyHashed}
@@ -46,7 +47,7 @@ module _ (pens gone : List ℕ) (mask : ℕ) (out answer : List ℕ) where
   left-untold h = rw (ne-eqb (length answer) 24 h)
 
   pub left-told : (n : ℕ) (out′ answer′ : List ℕ) (l : Listing) (a : ReadAnswer) → length answer ≡ 24 → toldOf n answer′ ≡ told a answer →
-      a ≡ listingAnswer l → l ≡ leftRead 128 pens gone mask out → out′ ≡ leftOut 128 pens gone mask out →
+      a ≡ listingAnswer l → l ≡ leftRead (placesIn pens) pens gone mask out → out′ ≡ leftOut (placesIn pens) pens gone mask out →
       toldList n out′ answer′ ≡ boundaryLeft pens gone mask out answer
   unfolding boundaryLeft
   left-told n out′ answer′ l a e tells ea el eo =

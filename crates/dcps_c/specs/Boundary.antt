@@ -1,6 +1,6 @@
 -- The C boundary: head, sheet, buffers and answer as bytes, one function on bytes for every input.
 use Prim.Native.Nat.{ℕ}
-use mathlib.Core.Bool.{_&&_, cond}
+use mathlib.Core.Bool.{cond}
 use mathlib.Core.List.{List, []}
 use mathlib.Core.Option.{Option, none, some}
 use lib.Dec.{eqb}
@@ -13,7 +13,7 @@ use Rattle.model.specs.Call.{Left, refuse, callOf, lentOf}
 use Rattle.model.specs.Calls.{Call, callOfCode}
 use Rattle.model.specs.Refusals.{lengthsOk}
 use Rattle.model.specs.Sheets.{sheetOf}
-use Rattle.model.specs.State.{Lent, instancePlaces}
+use Rattle.model.specs.State.{Lent, figureOk, placesIn}
 use Rattle.boundary.specs.Layouts.{headBytes, headIn, headLaid, answerBytes}
 use Rattle.dcps.specs.Fresh.{freshHead, freshOf}
 
@@ -58,15 +58,20 @@ codeNumber none = 2
 codeNumber (some c) = 3
 
 unfoldable pub unlaidNumber : List ℕ → Lent → ℕ
-unlaidNumber sheet l = cond (lengthsOk instancePlaces sheet l) (codeNumber (callOfCode (sheetOf sheet .code))) 1
+unlaidNumber sheet l = cond (lengthsOk (l .head .places) sheet l) (codeNumber (callOfCode (sheetOf sheet .code))) 1
 
 unfoldable pub laidCall : List ℕ → List ℕ → Lent → Left
 laidCall sheet head l = cond (headLaid head) (callOf sheet l) (refuse (unlaidNumber sheet l) l)
 
--- the lengths of head and answer belong to 1
+-- the lengths of head and answer belong to 1; but 02's ticket 5 has the figure looked at before any length, and it can be where
+-- the head has its own
 unfoldable pub lentCall : List ℕ → List ℕ → List ℕ → Lent → Left
 lentCall sheet head answer l =
-    cond (eqb (length head) headSize && eqb (length answer) answerSize) (laidCall sheet head l) (refuse 1 l)
+    cond (eqb (length head) headSize)
+    (cond (figureOk (l .head .places))
+    (cond (eqb (length answer) answerSize) (laidCall sheet head l) (refuse 1 l))
+    (refuse 3 l))
+    (refuse 1 l)
 
 unfoldable pub boundaryCall : List ℕ → List ℕ → List ℕ → List ℕ → List ℕ → List ℕ → List ℕ → Crossed
 boundaryCall head sheet pens writers lost out answer =
@@ -77,12 +82,18 @@ boundaryCall head sheet pens writers lost out answer =
 unfoldable pub boundaryFresh : List ℕ → List ℕ → List ℕ → List ℕ → Crossed
 boundaryFresh head pens writers lost =
     crossed head [] (cond (eqb (length head) headSize)
-    (freshOf instancePlaces pens writers lost) (refuse 1 (lentOf (freshHead instancePlaces) pens writers lost [])))
+    (freshOf pens writers lost) (refuse 1 (lentOf (freshHead (placesIn pens)) pens writers lost [])))
 
--- ---- in place of a head that is not laid out, one that no buffers make well formed: its next handle is nil
+-- ---- where an answer has another length nothing is written, and the number is 1, or 3 by the head's figure
 
-abbrev pub noHead : Head
-noHead =
+unfoldable pub unanswered : List ℕ → ℕ
+unanswered head = cond (eqb (length head) headSize) (cond (figureOk (headIn head .places)) 1 3) 1
+
+-- ---- in place of a head that is not laid out, one that no buffers make well formed: its next handle is nil. The figure is
+-- handed on
+
+abbrev pub noHead : ℕ → Head
+noHead places =
     record {
       «instance_count» = 0;
       «next_handle» = record { 0 = 0 };
@@ -94,7 +105,8 @@ noHead =
       «not_alive_change» = pos 0;
       «last_writer» = Nobody;
       changes = 0;
+      places = places;
     }
 
 unfoldable pub headOr : List ℕ → Head
-headOr head = cond (headLaid head) (headIn head) noHead
+headOr head = cond (headLaid head) (headIn head) (noHead (headIn head .places))

@@ -12,13 +12,13 @@ use Rattle.model.specs.declared.Guid.{Guid}
 use Rattle.model.specs.declared.Time.{Time}
 use Rattle.model.specs.Answers.{refusedWith}
 use Rattle.model.specs.Reads.{statusRead, changesRead, leftRead, leftOut, lookupRight}
-use Rattle.model.specs.State.{instancePlaces}
+use Rattle.model.specs.State.{placesIn}
 use Rattle.boundary.specs.Layouts.{headIn, headLaid, answerBytes}
 use Rattle.boundary_reads.specs.ReadAnswers.{AnswerTold, toldOf, told}
 use Rattle.read_answers.specs.declared.ReadAnswer.{ReadAnswer}
 use Rattle.read_answers.specs.Cases.{refusedAnswer, changesAnswer, statusAnswer, handleAnswer, listingAnswer, holderAnswer}
 use Rattle.instance_reads.specs.declared.HolderPlace.{HolderPlace}
-use Rattle.dcps_c.specs.Boundary.{headSize, answerSize}
+use Rattle.dcps_c.specs.Boundary.{headSize, answerSize, unanswered}
 
 abbrev pub guidOf : ℕ → ℕ → Guid
 guidOf high low = record { hi = high; lo = low }
@@ -26,21 +26,25 @@ guidOf high low = record { hi = high; lo = low }
 abbrev pub timeAt : ℤ → ℕ → Time
 timeAt sec nanosec = record { sec = sec; nanosec = nanosec }
 
--- ---- of the head alone: its length belongs to 1; bytes that are no head's are refused as 3
+-- ---- of the head alone: its length belongs to 1; bytes that are no head's are refused as 3, and so is another figure
 
 unfoldable pub statusOf : List ℕ → Answer
 statusOf head =
     cond (eqb (length head) headSize)
-    (cond (headLaid head) (statusAnswer (statusRead instancePlaces (headIn head))) (refusedWith 3)) (refusedWith 1)
+    (cond (headLaid head) (statusAnswer (statusRead (headIn head))) (refusedWith 3)) (refusedWith 1)
 
 unfoldable pub boundaryStatus : List ℕ → List ℕ → AnswerTold
 boundaryStatus head answer =
-    cond (eqb (length answer) answerSize) (toldOf (statusOf head .number) (answerBytes (statusOf head))) (toldOf 1 answer)
+    cond (eqb (length answer) answerSize) (toldOf (statusOf head .number) (answerBytes (statusOf head)))
+    (toldOf (unanswered head) answer)
 
 unfoldable pub changesOf : List ℕ → ReadAnswer
 changesOf head =
     cond (eqb (length head) headSize)
-    (cond (headLaid head) (changesAnswer (changesRead instancePlaces (headIn head))) (refusedAnswer 3)) (refusedAnswer 1)
+    (cond (headLaid head) (changesAnswer (changesRead (headIn head))) (refusedAnswer 3)) (refusedAnswer 1)
+
+unfoldable pub boundaryChanges : List ℕ → List ℕ → AnswerTold
+boundaryChanges head answer = cond (eqb (length answer) 24) (told (changesOf head) answer) (toldOf (unanswered head) answer)
 
 -- ---- left_writerless: Out is written where the answer has its length
 
@@ -54,8 +58,8 @@ toldList number out answer = record { told = toldOf number answer; out = out }
 unfoldable pub boundaryLeft : List ℕ → List ℕ → ℕ → List ℕ → List ℕ → ToldList
 boundaryLeft pens gone mask out answer =
     record {
-      told = told (listingAnswer (leftRead instancePlaces pens gone mask out)) answer;
-      out = cond (eqb (length answer) 24) (leftOut instancePlaces pens gone mask out) out;
+      told = told (listingAnswer (leftRead (placesIn pens) pens gone mask out)) answer;
+      out = cond (eqb (length answer) 24) (leftOut (placesIn pens) pens gone mask out) out;
     }
 
 -- ---- the holder in force: where it is stored, by its place in pens
@@ -67,5 +71,5 @@ placeAnswer p = holderAnswer (p .stored) (p .offset) (p .len)
 
 pub record LookedUp (pens : List ℕ) (g : Guid) (number : ℕ) (lent left : List ℕ) : Type 0 where
   pub answer : FoundHandle
-  pub right : lookupRight instancePlaces pens g answer ≡ true
+  pub right : lookupRight (placesIn pens) pens g answer ≡ true
   pub leaves : toldOf number left ≡ told (handleAnswer answer) lent

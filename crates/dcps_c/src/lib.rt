@@ -24,9 +24,10 @@ ghost use Rattle.read_answers.specs.Cases.{decisionAnswer, timeAnswer, handleAn
 ghost use Rattle.model.specs.Answers.{refusedWith};
 ghost use Rattle.model.specs.Handles.{handle};
 ghost use Rattle.model.specs.Reads.{filterRead, orderRead, lastDeliveredRead, nextHandleRead, walkRead, wouldLeaveRead};
+ghost use Rattle.model.specs.State.{placesIn};
 ghost use Rattle.instance_reads.specs.HolderPlaces.{holderPlace};
-ghost use Rattle.dcps_c.specs.Boundary.{crossedOf, headOr, noHead, calledHead, boundaryCall, boundaryFresh};
-ghost use Rattle.dcps_c.specs.Reads.{guidOf, timeAt, statusOf, boundaryStatus, changesOf, toldList, boundaryLeft, placeAnswer, LookedUp};
+ghost use Rattle.dcps_c.specs.Boundary.{crossedOf, headOr, noHead, unanswered, calledHead, boundaryCall, boundaryFresh};
+ghost use Rattle.dcps_c.specs.Reads.{guidOf, timeAt, statusOf, boundaryStatus, changesOf, boundaryChanges, toldList, boundaryLeft, placeAnswer, LookedUp};
 ghost use Rattle.dcps_c.specs.Version.{versionNumber};
 
 // ---- the version
@@ -41,9 +42,9 @@ pub extern "C" fn dcps_version() -> u32
 
 // ---- the head and the answer
 
-// A head that no buffers make well formed.
-fn no_head() -> Head
-    ensures { λ r. ⌜ r ≡ noHead ⌝ }
+// A head that no buffers make well formed, with a figure.
+fn no_head(places: u16) -> Head
+    ensures { λ r. ⌜ r ≡ noHead places ⌝ }
 {
     Head {
         instance_count: 0,
@@ -56,16 +57,17 @@ fn no_head() -> Head
         not_alive_change: 0,
         last_writer: LastWriter::Nobody,
         changes: 0,
+        places: places,
     }
 }
 
-// The head of its bytes; where they are no head's, one that is refused as 3, in its turn.
+// The head of its bytes; where they are no head's, one that is refused as 3, in its turn, and has their figure.
 fn lent_head(head: &[u8]) -> Head
     requires { ⌜ length (now head) ≡ 64 ⌝ }
     ensures { λ r. ⌜ r ≡ headOr (now (head .entry)) ⌝ }
 {
     if !boundary::head_laid(head) {
-        return no_head();
+        return no_head(octets::get_u16(head, 30));
     }
     boundary::read_head(head)
 }
@@ -107,6 +109,19 @@ fn settle(head: &mut [u8], answer: &mut [u8], r: Called) -> u32
     a.number as u32
 }
 
+// The number where an answer has another length, so that nothing is written: 3 by the head's figure, else 1.
+fn unanswered(head: &[u8]) -> u32
+    ensures { λ r. ⌜ r ≡ unanswered (now (head .entry)) ⌝ }
+{
+    if head.len() != 64 {
+        return 1;
+    }
+    if instance_places::figure_ok(octets::get_u16(head, 30)) {
+        return 1;
+    }
+    3
+}
+
 // ---- every call
 
 // A call: the sheet says which; head and buffers are the state that it is made on.
@@ -124,7 +139,7 @@ pub extern "C" fn dcps_call(
         ≡ boundaryCall (now (head .entry)) (now (sheet .entry)) (now (pens .entry)) (now (writers .entry)) (now (lost .entry)) (now (out .entry)) (now (answer .entry)) ⌝ }
 {
     if answer.len() != 72 {
-        return 1;
+        return unanswered(head);
     }
     if head.len() != 64 {
         return refuse(answer, 1);
@@ -185,7 +200,7 @@ pub extern "C" fn dcps_status(head: &[u8], answer: &mut [u8]) -> u32
     ensures { λ r. ⌜ toldOf r (now (answer .exit)) ≡ boundaryStatus (now (head .entry)) (now (answer .entry)) ⌝ }
 {
     if answer.len() != 72 {
-        return 1;
+        return unanswered(head);
     }
     let a = status_of(head);
     boundary::write_answer(answer, a);
@@ -206,8 +221,11 @@ fn changes_of(head: &[u8]) -> ReadAnswer
 // How many changes of class the head has counted.
 #[no_mangle]
 pub extern "C" fn dcps_changes(head: &[u8], answer: &mut [u8]) -> u32
-    ensures { λ r. ⌜ toldOf r (now (answer .exit)) ≡ told (changesOf (now (head .entry))) (now (answer .entry)) ⌝ }
+    ensures { λ r. ⌜ toldOf r (now (answer .exit)) ≡ boundaryChanges (now (head .entry)) (now (answer .entry)) ⌝ }
 {
+    if answer.len() != 24 {
+        return unanswered(head);
+    }
     let a = changes_of(head);
     boundary_reads::tell(answer, a)
 }
@@ -226,7 +244,7 @@ pub extern "C" fn dcps_should_deliver_under_time_based_filter(
     answer: &mut [u8],
 ) -> u32
     ensures { λ r. ⌜ toldOf r (now (answer .exit))
-        ≡ told (decisionAnswer (filterRead 128 (now (pens .entry)) (guidOf high low) (timeAt sec nanosec) «min_separation»)) (now (answer .entry)) ⌝ }
+        ≡ told (decisionAnswer (filterRead (placesIn (now (pens .entry))) (now (pens .entry)) (guidOf high low) (timeAt sec nanosec) «min_separation»)) (now (answer .entry)) ⌝ }
 {
     let key = Guid { hi: high, lo: low };
     let time = Time {
@@ -249,7 +267,7 @@ pub extern "C" fn dcps_should_deliver_under_destination_order(
     answer: &mut [u8],
 ) -> u32
     ensures { λ r. ⌜ toldOf r (now (answer .exit))
-        ≡ told (decisionAnswer (orderRead 128 (now (pens .entry)) (guidOf high low) (timeAt sec nanosec) (not (eqb «by_source» 0)))) (now (answer .entry)) ⌝ }
+        ≡ told (decisionAnswer (orderRead (placesIn (now (pens .entry))) (now (pens .entry)) (guidOf high low) (timeAt sec nanosec) (not (eqb «by_source» 0)))) (now (answer .entry)) ⌝ }
 {
     let key = Guid { hi: high, lo: low };
     let time = Time {
@@ -263,7 +281,7 @@ pub extern "C" fn dcps_should_deliver_under_destination_order(
 // When a sample of the instance was delivered last.
 #[no_mangle]
 pub extern "C" fn dcps_last_delivered_ts(pens: &[u8], high: u64, low: u64, answer: &mut [u8]) -> u32
-    ensures { λ r. ⌜ toldOf r (now (answer .exit)) ≡ told (timeAnswer (lastDeliveredRead 128 (now (pens .entry)) (guidOf high low))) (now (answer .entry)) ⌝ }
+    ensures { λ r. ⌜ toldOf r (now (answer .exit)) ≡ told (timeAnswer (lastDeliveredRead (placesIn (now (pens .entry))) (now (pens .entry)) (guidOf high low))) (now (answer .entry)) ⌝ }
 {
     let key = Guid { hi: high, lo: low };
     let f = dcps::last_delivered_ts(pens, key);
@@ -273,7 +291,7 @@ pub extern "C" fn dcps_last_delivered_ts(pens: &[u8], high: u64, low: u64, answe
 // The handle that follows another in the order of the keys; the first one behind nil.
 #[no_mangle]
 pub extern "C" fn dcps_next_handle_after(pens: &[u8], previous: u64, answer: &mut [u8]) -> u32
-    ensures { λ r. ⌜ toldOf r (now (answer .exit)) ≡ told (handleAnswer (nextHandleRead 128 (now (pens .entry)) (handle previous))) (now (answer .entry)) ⌝ }
+    ensures { λ r. ⌜ toldOf r (now (answer .exit)) ≡ told (handleAnswer (nextHandleRead (placesIn (now (pens .entry))) (now (pens .entry)) (handle previous))) (now (answer .entry)) ⌝ }
 {
     let f = dcps::next_handle_after(pens, InstanceHandle(previous));
     boundary_reads::tell(answer, boundary_reads::handle_answer(f))
@@ -282,7 +300,7 @@ pub extern "C" fn dcps_next_handle_after(pens: &[u8], previous: u64, answer: &mu
 // The handle of the instance at a position: a walker's step.
 #[no_mangle]
 pub extern "C" fn dcps_handle_at_position(pens: &[u8], position: usize, answer: &mut [u8]) -> u32
-    ensures { λ r. ⌜ toldOf r (now (answer .exit)) ≡ told (handleAnswer (walkRead 128 (now (pens .entry)) position)) (now (answer .entry)) ⌝ }
+    ensures { λ r. ⌜ toldOf r (now (answer .exit)) ≡ told (handleAnswer (walkRead (placesIn (now (pens .entry))) (now (pens .entry)) position)) (now (answer .entry)) ⌝ }
 {
     let f = dcps::handle_at_position(pens, position);
     boundary_reads::tell(answer, boundary_reads::handle_answer(f))
@@ -291,7 +309,7 @@ pub extern "C" fn dcps_handle_at_position(pens: &[u8], position: usize, answer: 
 // Where the bytes from which the key was made are stored in pens; where they are not, the caller's own are in force.
 #[no_mangle]
 pub extern "C" fn dcps_holder_in_force(pens: &[u8], high: u64, low: u64, answer: &mut [u8]) -> u32
-    ensures { λ r. ⌜ toldOf r (now (answer .exit)) ≡ told (placeAnswer (holderPlace 128 (now (pens .entry)) (guidOf high low))) (now (answer .entry)) ⌝ }
+    ensures { λ r. ⌜ toldOf r (now (answer .exit)) ≡ told (placeAnswer (holderPlace (placesIn (now (pens .entry))) (now (pens .entry)) (guidOf high low))) (now (answer .entry)) ⌝ }
 {
     let key = Guid { hi: high, lo: low };
     let p = dcps::holder_place(pens, key);
@@ -318,7 +336,7 @@ pub extern "C" fn dcps_would_leave_writerless(
     answer: &mut [u8],
 ) -> u32
     ensures { λ r. ⌜ toldOf r (now (answer .exit))
-        ≡ told (decisionAnswer (wouldLeaveRead 128 (now (pens .entry)) (now (gone .entry)) «view_states»)) (now (answer .entry)) ⌝ }
+        ≡ told (decisionAnswer (wouldLeaveRead (placesIn (now (pens .entry))) (now (pens .entry)) (now (gone .entry)) «view_states»)) (now (answer .entry)) ⌝ }
 {
     let d = dcps::would_leave_writerless(pens, gone, view_states);
     boundary_reads::tell(answer, boundary_reads::decision_answer(d))

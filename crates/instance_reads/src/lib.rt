@@ -1,8 +1,8 @@
 // The reads of instances: both should_deliver_ filters, last_delivered_ts, next_handle_after, the handle at a position, the
 // holder in force, the writer lookup, left_writerless and would_leave_writerless. The public functions ask nothing of what
-// they are lent: any bytes get an answer. Inner functions take the number of places.
-// Refusals, lowest first: 1 a table that is not 128 places long, a list of GUIDs that is no multiple of 16 bytes or above
-// 4,096, an Out that is not 4,096 bytes; 3 a table that is not well formed; 4 nanoseconds of 10^9 or more.
+// they are lent: any bytes get an answer. Inner functions take the number of places, which the length of the table tells.
+// Refusals, lowest first: 1 a table that is neither 32 nor 128 places long, a list of GUIDs that is no multiple of 16 bytes
+// or above 4,096, an Out that is not 4,096 bytes; 3 a table that is not well formed; 4 nanoseconds of 10^9 or more.
 //
 // Derives from instance_tracker.rs of ZeroDDS.
 // Copyright 2026 ZeroDDS Contributors. SPDX-License-Identifier: Apache-2.0. Changed: written anew in Rattle, over a table of
@@ -28,7 +28,7 @@ ghost use Rattle.model.specs.InstanceRecord.{instanceOf};
 ghost use Rattle.model.specs.Instances.{hasKey};
 ghost use Rattle.model.specs.Reads.{usedIn, tableOf, tableRefusal, timeRefusal, filterRead, orderRead, lastDeliveredRead, handleFound, first, nextHandleRead, walkRead, holderInForce, writes as writesIn, lookupRight, viewIn, among, leftWith, listRefusal, wouldLeaveRead, leftRead, leftOut};
 ghost use Rattle.model.specs.Sets.{has};
-ghost use Rattle.model.specs.State.{instanceKey};
+ghost use Rattle.model.specs.State.{placesIn, instanceKey};
 ghost use Rattle.model.specs.Tables.{find, all};
 ghost use Rattle.model.specs.Times.{noTime, timeBits};
 ghost use Rattle.model.specs.WellFormed.{instanceOk};
@@ -60,13 +60,6 @@ fn refusal_of(pens: &[u8], places: usize) -> u8
     } else {
         3
     }
-}
-
-// The number of the refusal for the table, 0 for none.
-pub fn table_refusal(pens: &[u8]) -> u8
-    ensures { λ r. ⌜ r ≡ tableRefusal 128 (now (pens .entry)) ⌝ }
-{
-    refusal_of(pens, 128)
 }
 
 // The number of the refusal for the table and a time, 0 for none.
@@ -149,13 +142,14 @@ pub fn should_deliver_under_time_based_filter(
     sample_ts: Time,
     min_separation: u64,
 ) -> Decision
-    ensures { λ r. ⌜ r ≡ filterRead 128 (now (pens .entry)) key «sample_ts» «min_separation» ⌝ }
+    ensures { λ r. ⌜ r ≡ filterRead (placesIn (now (pens .entry))) (now (pens .entry)) key «sample_ts» «min_separation» ⌝ }
 {
-    let number = time_refusal(pens, 128, sample_ts);
+    let places = instance_places::places_in(pens);
+    let number = time_refusal(pens, places, sample_ts);
     if number != 0 {
         return Decision::Refused(number);
     }
-    let times = times_of(pens, 128, key);
+    let times = times_of(pens, places, key);
     let last = times.last_filter;
     let candidate = bits_of_time(sample_ts);
     Decision::Is(sample_time::filter_admits(last, candidate, min_separation))
@@ -168,16 +162,17 @@ pub fn should_deliver_under_destination_order(
     source_ts: Time,
     by_source: bool,
 ) -> Decision
-    ensures { λ r. ⌜ r ≡ orderRead 128 (now (pens .entry)) key «source_ts» «by_source» ⌝ }
+    ensures { λ r. ⌜ r ≡ orderRead (placesIn (now (pens .entry))) (now (pens .entry)) key «source_ts» «by_source» ⌝ }
 {
-    let number = time_refusal(pens, 128, source_ts);
+    let places = instance_places::places_in(pens);
+    let number = time_refusal(pens, places, source_ts);
     if number != 0 {
         return Decision::Refused(number);
     }
     if !by_source {
         return Decision::Is(true);
     }
-    let times = times_of(pens, 128, key);
+    let times = times_of(pens, places, key);
     let last = times.last_delivered;
     let candidate = bits_of_time(source_ts);
     Decision::Is(sample_time::order_admits(last, candidate))
@@ -185,13 +180,14 @@ pub fn should_deliver_under_destination_order(
 
 // The source time of the key's last delivered sample.
 pub fn last_delivered_ts(pens: &[u8], key: Guid) -> FoundTime
-    ensures { λ r. ⌜ r ≡ lastDeliveredRead 128 (now (pens .entry)) key ⌝ }
+    ensures { λ r. ⌜ r ≡ lastDeliveredRead (placesIn (now (pens .entry))) (now (pens .entry)) key ⌝ }
 {
-    let number = table_refusal(pens);
+    let places = instance_places::places_in(pens);
+    let number = refusal_of(pens, places);
     if number != 0 {
         return FoundTime::Refused(number);
     }
-    let times = times_of(pens, 128, key);
+    let times = times_of(pens, places, key);
     let last = times.last_delivered;
     let present = last.present;
     if !present {
@@ -223,30 +219,32 @@ fn handle_in(pens: &[u8], places: usize, position: usize) -> FoundHandle
 
 // The handle of the instance behind the one that has the previous handle, in key order; of the first behind nil.
 pub fn next_handle_after(pens: &[u8], previous: InstanceHandle) -> FoundHandle
-    ensures { λ r. ⌜ r ≡ nextHandleRead 128 (now (pens .entry)) previous ⌝ }
+    ensures { λ r. ⌜ r ≡ nextHandleRead (placesIn (now (pens .entry))) (now (pens .entry)) previous ⌝ }
 {
-    let number = table_refusal(pens);
+    let places = instance_places::places_in(pens);
+    let number = refusal_of(pens, places);
     if number != 0 {
         return FoundHandle::Refused(number);
     }
     let h = previous.0;
     if h == 0 {
-        return handle_in(pens, 128, 0);
+        return handle_in(pens, places, 0);
     }
-    let count = instance_table::used(pens, 128);
+    let count = instance_table::used(pens, places);
     let place = instance_table::find_handle(pens, count, previous);
-    handle_in(pens, 128, place + 1)
+    handle_in(pens, places, place + 1)
 }
 
 // The handle of the instance at a position, in key order: what a walker gives at that position.
 pub fn handle_at_position(pens: &[u8], position: usize) -> FoundHandle
-    ensures { λ r. ⌜ r ≡ walkRead 128 (now (pens .entry)) position ⌝ }
+    ensures { λ r. ⌜ r ≡ walkRead (placesIn (now (pens .entry))) (now (pens .entry)) position ⌝ }
 {
-    let number = table_refusal(pens);
+    let places = instance_places::places_in(pens);
+    let number = refusal_of(pens, places);
     if number != 0 {
         return FoundHandle::Refused(number);
     }
-    handle_in(pens, 128, position)
+    handle_in(pens, places, position)
 }
 
 // ---- the holder in force
@@ -282,13 +280,14 @@ fn holder_at(pens: &[u8], i: usize) -> HolderPlace
 
 // Where the bytes from which the key was made are stored; nowhere too where the table would be refused.
 pub fn holder_place(pens: &[u8], key: Guid) -> HolderPlace
-    ensures place { λ r. ⌜ r ≡ holderPlace 128 (now (pens .entry)) key ⌝ }
-    ensures force { λ r. ⌜ ((offered : List ℕ) → bytesAt r (now (pens .entry)) offered ≡ holderInForce 128 (now (pens .entry)) key offered) ⌝ }
+    ensures place { λ r. ⌜ r ≡ holderPlace (placesIn (now (pens .entry))) (now (pens .entry)) key ⌝ }
+    ensures force { λ r. ⌜ ((offered : List ℕ) → bytesAt r (now (pens .entry)) offered ≡ holderInForce (placesIn (now (pens .entry))) (now (pens .entry)) key offered) ⌝ }
 {
-    if table_refusal(pens) != 0 {
+    let places = instance_places::places_in(pens);
+    if refusal_of(pens, places) != 0 {
         return nowhere();
     }
-    match locate(pens, 128, key) {
+    match locate(pens, places, key) {
         Found::At(i) => holder_at(pens, i),
         Found::Missing(_) => nowhere(),
     }
@@ -296,7 +295,7 @@ pub fn holder_place(pens: &[u8], key: Guid) -> HolderPlace
 
 // The bytes from which the key was made: those stored, else, and where the table would be refused, all that are offered.
 pub fn holder_in_force<'a>(pens: &'a [u8], key: Guid, offered: &'a [u8]) -> &'a [u8]
-    ensures { λ r. ⌜ now r ≡ holderInForce 128 (now (pens .entry)) key (now (offered .entry)) ⌝ }
+    ensures { λ r. ⌜ now r ≡ holderInForce (placesIn (now (pens .entry))) (now (pens .entry)) key (now (offered .entry)) ⌝ }
 {
     let p = holder_place(pens, key);
     let stored = p.stored;
@@ -357,15 +356,16 @@ fn writer_place(pens: &[u8], places: usize, count: usize, g: Guid) -> usize
 
 // The handle of an alive instance that the GUID writes: of the first in key order.
 pub fn writer_lookup(pens: &[u8], guid: Guid) -> FoundHandle
-    ensures { λ r. ⌜ lookupRight 128 (now (pens .entry)) guid r ≡ true ⌝ }
+    ensures { λ r. ⌜ lookupRight (placesIn (now (pens .entry))) (now (pens .entry)) guid r ≡ true ⌝ }
 {
-    let number = table_refusal(pens);
+    let places = instance_places::places_in(pens);
+    let number = refusal_of(pens, places);
     if number != 0 {
         return FoundHandle::Refused(number);
     }
-    let count = instance_table::used(pens, 128);
-    let place = writer_place(pens, 128, count, guid);
-    handle_in(pens, 128, place)
+    let count = instance_table::used(pens, places);
+    let place = writer_place(pens, places, count, guid);
+    handle_in(pens, places, place)
 }
 
 // ---- left without writers
@@ -455,15 +455,16 @@ fn left_place(
 
 // Whether losing the GUIDs gone would leave some instance of the views without writers.
 pub fn would_leave_writerless(pens: &[u8], gone: &[u8], view_states: u32) -> Decision
-    ensures { λ r. ⌜ r ≡ wouldLeaveRead 128 (now (pens .entry)) (now (gone .entry)) «view_states» ⌝ }
+    ensures { λ r. ⌜ r ≡ wouldLeaveRead (placesIn (now (pens .entry))) (now (pens .entry)) (now (gone .entry)) «view_states» ⌝ }
 {
-    let number = list_refusal(pens, 128, gone);
+    let places = instance_places::places_in(pens);
+    let number = list_refusal(pens, places, gone);
     if number != 0 {
         return Decision::Refused(number);
     }
-    let count = instance_table::used(pens, 128);
+    let count = instance_table::used(pens, places);
     let m = gone.len() / 16;
-    let place = left_place(pens, 128, count, gone, m, view_states);
+    let place = left_place(pens, places, count, gone, m, view_states);
     Decision::Is(place < count)
 }
 
@@ -517,17 +518,18 @@ fn list_all_left(
 // The handles of the instances of the views that losing the GUIDs gone leaves without writers, in key order, 8 bytes each
 // from the front of Out. How many there are.
 pub fn left_writerless(pens: &[u8], gone: &[u8], view_states: u32, out: &mut [u8]) -> Listing
-    ensures answer { λ r. ⌜ r ≡ leftRead 128 (now (pens .entry)) (now (gone .entry)) «view_states» (now (out .entry)) ⌝ }
-    ensures list { λ _. ⌜ now (out .exit) ≡ leftOut 128 (now (pens .entry)) (now (gone .entry)) «view_states» (now (out .entry)) ⌝ }
+    ensures answer { λ r. ⌜ r ≡ leftRead (placesIn (now (pens .entry))) (now (pens .entry)) (now (gone .entry)) «view_states» (now (out .entry)) ⌝ }
+    ensures list { λ _. ⌜ now (out .exit) ≡ leftOut (placesIn (now (pens .entry))) (now (pens .entry)) (now (gone .entry)) «view_states» (now (out .entry)) ⌝ }
 {
     if out.len() != 4096 {
         return Listing::Refused(1);
     }
-    let number = list_refusal(pens, 128, gone);
+    let places = instance_places::places_in(pens);
+    let number = list_refusal(pens, places, gone);
     if number != 0 {
         return Listing::Refused(number);
     }
     let m = gone.len() / 16;
-    let n = list_all_left(pens, 128, gone, m, view_states, out);
+    let n = list_all_left(pens, places, gone, m, view_states, out);
     Listing::Listed(n as u32)
 }

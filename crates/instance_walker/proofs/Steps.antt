@@ -1,5 +1,5 @@
 -- A step of the walker, from what handle_at_position answers.
---     inside                                a position whose handle is given is one of the 128 places
+--     inside                                a position whose handle is given is below 128
 --     step-refused, step-none, step-given   the step, by the answer
 -- Assumes nothing.
 use Prim.Native.Nat.{ℕ, zero, suc, _+_, _≤_, _<_}
@@ -11,6 +11,8 @@ use Rattle.model.specs.declared.FoundHandle.{FoundHandle}
 use Rattle.model.specs.declared.FoundHandle.the-variants.{Is as foundHandleIs, Missing as foundHandleMissing, Refused as foundHandleRefused}
 use Rattle.model.specs.declared.InstanceHandle.{InstanceHandle}
 use Rattle.model.specs.Reads.{usedIn, tableRefusal, walkRead}
+use Rattle.model.specs.State.{placesIn}
+use Rattle.model.proofs.Figures.{figure-few, figure-in}
 use Rattle.model.proofs.Tests.{lt-or-le}
 use Rattle.instance_reads.proofs.Table.{whole}
 use Rattle.instance_reads.proofs.Walks.{handle-past}
@@ -24,33 +26,33 @@ caseOf foundHandleMissing = 1
 caseOf (foundHandleIs h) = 2
 
 module _ (t : List ℕ) (position : ℕ) where
-  pub inside : (h : InstanceHandle) → walkRead 128 t position ≡ foundHandleIs h → position < 128
+  pub inside : (h : InstanceHandle) → walkRead (placesIn t) t position ≡ foundHandleIs h → position < 128
   unfolding walkRead
-  inside h e = each (tableRefusal 128 t) refl
+  inside h e = each (tableRefusal (placesIn t) t) refl
     where
-      past : tableRefusal 128 t ≡ 0 → usedIn 128 t ≤ position → position < 128
+      past : tableRefusal (placesIn t) t ≡ 0 → usedIn (placesIn t) t ≤ position → position < 128
       past q l =
-          let z : _≡_ {A = ℕ} 1 2 = ap caseOf (handle-past 128 t position l ∙ (rw q at e)) in
+          let z : _≡_ {A = ℕ} 1 2 = ap caseOf (handle-past (placesIn t) t position l ∙ (rw q at e)) in
           absurd (omega arith)
 
-      each : (n : ℕ) → tableRefusal 128 t ≡ n → position < 128
-      each zero q = ⊎-elim (λ l. omega (arith, whole 128 t q .few)) (past q) (lt-or-le position (usedIn 128 t))
+      each : (n : ℕ) → tableRefusal (placesIn t) t ≡ n → position < 128
+      each zero q = ⊎-elim (λ l. omega (arith, whole (placesIn t) t q .few, figure-few (placesIn t) (figure-in t))) (past q) (lt-or-le position (usedIn (placesIn t) t))
       each (suc n) q =
           let z : _≡_ {A = ℕ} 0 2 = ap caseOf (rw q at e) in
           absurd (omega arith)
 
-  module _ (f : FoundHandle) (e : f ≡ walkRead 128 t position) where
+  module _ (f : FoundHandle) (e : f ≡ walkRead (placesIn t) t position) where
     abbrev stepped : ℕ → Walked
     stepped p = record { found = f; position = p }
 
-    pub step-refused : (n : ℕ) → f ≡ foundHandleRefused n → stepped position ≡ walked 128 t position
+    pub step-refused : (n : ℕ) → f ≡ foundHandleRefused n → stepped position ≡ walked (placesIn t) t position
     unfolding walked
     step-refused n a = rw (← e, a) refl
 
-    pub step-none : f ≡ foundHandleMissing → stepped position ≡ walked 128 t position
+    pub step-none : f ≡ foundHandleMissing → stepped position ≡ walked (placesIn t) t position
     unfolding walked
     step-none a = rw (← e, a) refl
 
-    pub step-given : (h : InstanceHandle) → f ≡ foundHandleIs h → stepped (position + 1) ≡ walked 128 t position
+    pub step-given : (h : InstanceHandle) → f ≡ foundHandleIs h → stepped (position + 1) ≡ walked (placesIn t) t position
     unfolding walked
     step-given h a = rw (← e, a) refl

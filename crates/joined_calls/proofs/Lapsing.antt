@@ -47,7 +47,7 @@ lost-grown : (s : Sheet) (st : State) → trackerTurn Expire s st .state .lost �
 unfolding trackerTurn trackerState
 lost-grown s st = refl
 
-module _ (s : Sheet) (l : Lent) (r : Called) (writers′ lost′ : List ℕ) (d : Leaves (trackerCall Expire s (stateOf l)) r writers′ lost′) where
+module _ (s : Sheet) (l : Lent) (r : Called) (writers′ lost′ : List ℕ) (d : Leaves (l .head .places) (trackerCall Expire s (stateOf l)) r writers′ lost′) where
   abbrev st : State
   st = stateOf l
 
@@ -61,7 +61,7 @@ module _ (s : Sheet) (l : Lent) (r : Called) (writers′ lost′ : List ℕ) (d 
     on-time : trackerLate Expire s st ≡ 0
     on-time = sym late-is ∙ accepted
 
-    turned : Leaves (trackerTurn Expire s st) r writers′ lost′
+    turned : Leaves (l .head .places) (trackerTurn Expire s st) r writers′ lost′
     turned = rw (turn-taken Expire s st on-time) at d
 
     before-is : l .head .«lost_count» ≡ length (st .lost)
@@ -90,7 +90,7 @@ module _ (s : Sheet) (head : Head) (pens writers lost out : List ℕ) (called : 
   abbrev lent : Lent
   lent = lentOf head pens writers lost out
 
-  leaves : Leaves (trackerCall Expire s (stateOf lent)) called writers′ lost′
+  leaves : Leaves (head .places) (trackerCall Expire s (stateOf lent)) called writers′ lost′
   unfolding stateOf
   leaves = d pens
 

@@ -9,7 +9,7 @@
 use Prim.Native.Nat.{ℕ, zero, suc, _≤_}
 use mathlib.Core.Bool.{Bool, true, false}
 use mathlib.Core.List.{List, [], _∷_}
-use mathlib.Core.Path.{_≡_, refl, sym, ap, _∙_}
+use mathlib.Core.Path.{_≡_, refl, sym, ap, _∙_, subst}
 use native.Mathlib.Omega.{arith}
 use lib.ListN.{length}
 use Rattle.model.specs.declared.Answer.{Answer}
@@ -35,6 +35,7 @@ use Rattle.model.specs.State.{Lent, State, freshState, stateOf, headOf, layOut,
 use Rattle.model.specs.Tables.{pick, sift}
 use Rattle.model.specs.Writers.{movers, lostAfter, trackerState, trackerTurn, trackerLate, trackerCall}
 use Rattle.model.proofs.RowLaws.{length-read}
+use Rattle.model.proofs.StateLaws.{formed-facts}
 use Rattle.model.proofs.TrackerLaws.{instances-stay}
 use Rattle.instance_table.specs.Laid.{Laid}
 use Rattle.instance_table.proofs.LaidOut.{table-formed, table-laid}
@@ -96,7 +97,7 @@ module _ (c : TrackerCall) (s : Sheet) (st : State) where
   loss-refused gone n e = rw e (unpicked n (afterLoss gone (lossTime s) (trackerTurn c s st)) (refused (suc n) st))
 
 -- the instances are as many as they were
-module _ (c : TrackerCall) (s : Sheet) (l : Lent) (r : Called) (writers′ : List ℕ) (d : Settles (trackerCall c s (stateOf l)) r writers′) where
+module _ (c : TrackerCall) (s : Sheet) (l : Lent) (r : Called) (writers′ : List ℕ) (d : Settles (l .head .places) (trackerCall c s (stateOf l)) r writers′) where
   settled-count : r .head .«instance_count» ≡ l .head .«instance_count»
   unfolding headOf stateOf
   settled-count =
@@ -104,7 +105,7 @@ module _ (c : TrackerCall) (s : Sheet) (l : Lent) (r : Called) (writers′ : Lis
       ∙ length-read instanceOf 512 (l .head .«instance_count») (l .pens)
 
 pub count-kept : (c : TrackerCall) (s : Sheet) (head : Head) (pens writers lost : List ℕ) (r : Called) (writers′ : List ℕ) →
-    Settles (trackerCall c s (heldBy head pens writers lost)) r writers′ → r .head .«instance_count» ≡ head .«instance_count»
+    Settles (head .places) (trackerCall c s (heldBy head pens writers lost)) r writers′ → r .head .«instance_count» ≡ head .«instance_count»
 count-kept c s head pens writers lost r writers′ d =
     settled-count c s (lentOf head pens writers lost []) r writers′ d
 
@@ -120,9 +121,10 @@ unfolding sift
 length-loses gone at [] = refl
 length-loses gone at (x ∷ xs) = ap suc (length-loses gone at xs)
 
-head-kept : (xs : List Instance) (st : State) → length xs ≡ length (st .instances) → headOf (withInstances xs (st .nextHandle) st) ≡ headOf st
+head-kept : (places : ℕ) (xs : List Instance) (st : State) → length xs ≡ length (st .instances) →
+    headOf places (withInstances xs (st .nextHandle) st) ≡ headOf places st
 unfolding headOf
-head-kept xs st e = rw e
+head-kept places xs st e = rw e
 
 -- ---- head and buffers
 
@@ -131,7 +133,7 @@ lents : (h h′ : Head) (pens pens′ writers writers′ lost lost′ out : List
 lents h h′ pens pens′ writers writers′ lost lost′ out eh ep ew el = rw (eh, ep, ew, el)
 
 -- the tracker's turn, laid out, and the loss make the turn of both, laid out
-module _ (places : ℕ) (s : Sheet) (gone : List Guid) (T : Turned) (called r : Called) (pens out pens′ writers′ lost′ out′ : List ℕ) (d : Leaves T called writers′ lost′)
+module _ (places : ℕ) (s : Sheet) (gone : List Guid) (T : Turned) (called r : Called) (pens out pens′ writers′ lost′ out′ : List ℕ) (d : Leaves places T called writers′ lost′)
     (b : Loses s gone (T .state .instances) called pens out r pens′ out′) where
   abbrev after : Turned
   after = afterLoss gone (lossTime s) T
@@ -145,14 +147,18 @@ module _ (places : ℕ) (s : Sheet) (gone : List Guid) (T : Turned) (called r : 
   after-laid : Laid places (T .state .instances) pens → lentOf (r .head) pens′ writers′ lost′ out′ ≡ layOut places (after .state) (listIn (after .list) out)
   unfolding afterLoss layOut
   after-laid p =
-      let h : r .head ≡ headOf (after .state) =
-      b .head ∙ d .settles .head ∙ sym (head-kept (sift (loses gone (lossTime s)) (T .state .instances)) (T .state) (length-loses gone (lossTime s) (T .state .instances))) in
+      let h : r .head ≡ headOf places (after .state) =
+      b .head ∙ d .settles .head ∙ sym (head-kept places (sift (loses gone (lossTime s)) (T .state .instances)) (T .state) (length-loses gone (lossTime s) (T .state .instances))) in
       rw (h, b .laid places p .laid, d .settles .laid, d .lostLaid, b .list)
 
 module _ (places : ℕ) (k : JoinedCall) (s : Sheet) (l : Lent) (e : Entered places l) (fine : 0 ≡ sheetRefusal (joined k) s (stateOf l)) (c : TrackerCall)
     (gone : List Guid) (turned : turn places (joined k) s (stateOf l) ≡ lossCall c gone s (stateOf l)) where
   abbrev st : State
   st = stateOf l
+
+  -- the head says so many places
+  at-figure : (r : Called) (writers′ lost′ : List ℕ) (t : Turned) → Leaves (l .head .places) t r writers′ lost′ → Leaves places t r writers′ lost′
+  at-figure r writers′ lost′ t d = subst (λ (n : ℕ). Leaves n t r writers′ lost′) (formed-facts places l (e .formed) .figure) d
 
   -- the pens are the layout of their instances
   pens-laid : Laid places (st .instances) (l .pens)
@@ -161,7 +167,7 @@ module _ (places : ℕ) (k : JoinedCall) (s : Sheet) (l : Lent) (e : Entered pla
       table-laid places (l .head .«instance_count») (l .head .«next_handle» .0) (l .pens) (e .pens) (e .pensBytes)
       (table-formed places (l .head .«instance_count») (l .head .«next_handle» .0) (l .pens) (entered-parts places l e .pens))
 
-  pub loss-left : trackerLate c s st ≡ 0 → (called r : Called) (pens′ writers′ lost′ out′ : List ℕ) → Leaves (trackerCall c s st) called writers′ lost′ →
+  pub loss-left : trackerLate c s st ≡ 0 → (called r : Called) (pens′ writers′ lost′ out′ : List ℕ) → Leaves (l .head .places) (trackerCall c s st) called writers′ lost′ →
       Loses s gone (instancesIn (called .head .«instance_count») (l .pens)) called (l .pens) (l .out) r pens′ out′ →
       leftOf r pens′ writers′ lost′ out′ ≡ judged places (joined k) s l
   unfolding stateOf trackerTurn trackerState
@@ -170,19 +176,19 @@ module _ (places : ℕ) (k : JoinedCall) (s : Sheet) (l : Lent) (e : Entered pla
       let same : instancesIn (called .head .«instance_count») (l .pens) ≡ instancesIn (l .head .«instance_count») (l .pens) =
       ap (λ (n : ℕ). instancesIn n (l .pens)) (settled-count c s l called writers′ (d .settles)) in
       let u : Loses s gone (T .state .instances) called (l .pens) (l .out) r pens′ out′ = rw same at b in
-      let v : Leaves T called writers′ lost′ = rw (turn-taken c s st late) at d in
+      let v : Leaves places T called writers′ lost′ = at-figure called writers′ lost′ T (rw (turn-taken c s st late) at d) in
       let t = sym (loss-taken c s st gone late) in
       whole-range places (joined k) s l e fine (r .answer) (lentOf (r .head) pens′ writers′ lost′ out′) (lossCall c gone s st) turned (loss-outcome c gone s st)
       (after-answer places s gone T called r (l .pens) (l .out) pens′ writers′ lost′ out′ v u ∙ ap (λ (x : Turned). x .answer) t)
       (after-laid places s gone T called r (l .pens) (l .out) pens′ writers′ lost′ out′ v u pens-laid
       ∙ ap (λ (x : Turned). layOut places (x .state) (listIn (x .list) (l .out))) t)
 
-  stays : (n : ℕ) → trackerLate c s st ≡ n → (n ≡ 0 → ⊥) → (r : Called) (writers′ lost′ : List ℕ) → Leaves (trackerCall c s st) r writers′ lost′ →
+  stays : (n : ℕ) → trackerLate c s st ≡ n → (n ≡ 0 → ⊥) → (r : Called) (writers′ lost′ : List ℕ) → Leaves (l .head .places) (trackerCall c s st) r writers′ lost′ →
       leftOf r (l .pens) writers′ lost′ (l .out) ≡ judged places (joined k) s l
   unfolding layOut
   stays zero late some r writers′ lost′ d = absurd (some refl)
   stays (suc n) late some r writers′ lost′ d =
-      let v : Leaves (refused (suc n) st) r writers′ lost′ = rw (turn-refused c s st n late) at d in
+      let v : Leaves places (refused (suc n) st) r writers′ lost′ = at-figure r writers′ lost′ (refused (suc n) st) (rw (turn-refused c s st n late) at d) in
       let t = sym (loss-refused c s st gone n late) in
       let laid : lentOf (r .head) (l .pens) writers′ lost′ (l .out) ≡ layOut places st (listIn [] (l .out)) =
       lents _ _ _ _ _ _ _ _ (l .out) (v .settles .head) (pens-laid .laid) (v .settles .laid) (v .lostLaid) in
@@ -190,7 +196,7 @@ module _ (places : ℕ) (k : JoinedCall) (s : Sheet) (l : Lent) (e : Entered pla
       (v .settles .answer ∙ ap (λ (x : Turned). x .answer) t)
       (laid ∙ ap (λ (x : Turned). layOut places (x .state) (listIn (x .list) (l .out))) t)
 
-  pub loss-stays : (trackerLate c s st ≡ 0 → ⊥) → (r : Called) (writers′ lost′ : List ℕ) → Leaves (trackerCall c s st) r writers′ lost′ →
+  pub loss-stays : (trackerLate c s st ≡ 0 → ⊥) → (r : Called) (writers′ lost′ : List ℕ) → Leaves (l .head .places) (trackerCall c s st) r writers′ lost′ →
       leftOf r (l .pens) writers′ lost′ (l .out) ≡ judged places (joined k) s l
   loss-stays late r writers′ lost′ d = stays (trackerLate c s st) refl late r writers′ lost′ d
 

@@ -7,19 +7,20 @@ use Prim.Native.Nat.{ℕ, _≤_}
 use mathlib.Core.Bool.{Bool, true, _&&_}
 use mathlib.Core.List.{List}
 use mathlib.Core.Path.{_≡_, sym}
-use borrow.Author.Tests.{leb-true}
+use borrow.Author.Tests.{eq-eqb, leb-true}
+use lib.Dec.{eqb}
 use Rattle.model.specs.declared.Head.{Head}
 use Rattle.model.specs.Call.{lentOf}
 use Rattle.model.specs.State.{Lent, writersIn}
 use Rattle.model.specs.WellFormed.{headOk, instanceTableOk, writerTableOk, lostOk, countsOk, wellFormed}
 use Rattle.model.proofs.Tests.{both}
 
-pub formed-by : (places : ℕ) (h : Head) (pens writers lost out : List ℕ) {a b c d e : Bool} → headOk h ≡ a →
+pub formed-by : (places : ℕ) (h : Head) (pens writers lost out : List ℕ) → h .places ≡ places → {a b c d e : Bool} → headOk h ≡ a →
     instanceTableOk places (h .«instance_count») (h .«next_handle» .0) pens ≡ b → writerTableOk (h .«writer_count») writers ≡ c →
     lostOk (h .«lost_count») lost ≡ d → countsOk h (writersIn (h .«writer_count») writers) ≡ e →
     (a && (b && (c && (d && e)))) ≡ wellFormed places (lentOf h pens writers lost out)
 unfolding wellFormed
-formed-by places h pens writers lost out p q r s u = sym (rw (p, q, r, s, u))
+formed-by places h pens writers lost out figure p q r s u = sym (rw (eq-eqb (h .places) places figure, p, q, r, s, u))
 
 pub few-writers : (n : ℕ) (t : List ℕ) → writerTableOk n t ≡ true → n ≤ 128
 unfolding writerTableOk
@@ -36,7 +37,8 @@ pub record Parts (places : ℕ) (l : Lent) : Type 0 where
 pub parts : (places : ℕ) (l : Lent) → wellFormed places l ≡ true → Parts places l
 unfolding wellFormed
 parts places l e =
-    let p = both _ _ e in
+    let o = both (eqb (l .head .places) places) _ e in
+    let p = both _ _ (o .1) in
     let q = both _ _ (p .1) in
     let r = both _ _ (q .1) in
     let s = both _ _ (r .1) in

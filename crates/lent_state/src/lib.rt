@@ -15,9 +15,10 @@ ghost use Rattle.model.specs.Call.{lentOf};
 ghost use Rattle.model.specs.WellFormed.{wellFormed};
 ghost use Rattle.call_laws.specs.Heads.{called, headWith};
 
-// Whether head and buffers are well formed, for so many instance places.
+// Whether head and buffers are well formed, for the instance places that the head says.
 pub fn state_ok(head: Head, pens: &[u8], writers: &[u8], lost: &[u8], places: usize) -> bool
-    requires { ⌜ (length (now pens) ≡ places * 512) × (length (now writers) ≡ 5120) × (length (now lost) ≡ 4096) ⌝ }
+    requires { ⌜ (length (now pens) ≡ places * 512) × (length (now writers) ≡ 5120) × (length (now lost) ≡ 4096)
+        × (head .places ≡ places) ⌝ }
     ensures { λ r. ⌜ ((out : List ℕ) → r ≡ wellFormed places (lentOf head (now (pens .entry)) (now (writers .entry)) (now (lost .entry)) out)) ⌝ }
 {
     if !writer_validity::head_ok(head) {

@@ -2,6 +2,7 @@
 pub mod Tests
 pub mod FieldLaws
 pub mod RowLaws
+pub mod Figures
 pub mod Fits
 pub mod GuidLaws
 pub mod FlagLaws

@@ -79,6 +79,7 @@ writers-each (suc n) t b h k =
 -- ---- well formed, as plain facts
 
 pub record Formed (places : ℕ) (l : Lent) : Type 0 where
+  pub figure : l .head .places ≡ places
   pub head : headOk (l .head) ≡ true
   pub fewInstances : l .head .«instance_count» ≤ places
   pub restOfPens : allZero (drop (l .head .«instance_count» * 512) (l .pens)) ≡ true
@@ -96,7 +97,8 @@ pub record Formed (places : ℕ) (l : Lent) : Type 0 where
 pub formed-facts : (places : ℕ) (l : Lent) → wellFormed places l ≡ true → Formed places l
 unfolding wellFormed instanceTableOk writerTableOk lostOk countsOk
 formed-facts places l formed =
-    let p = both _ _ formed in
+    let o = both _ _ formed in
+    let p = both _ _ (o .1) in
     let q = both _ _ (p .1) in
     let r = both _ _ (q .1) in
     let s = both _ _ (r .1) in
@@ -109,6 +111,7 @@ formed-facts places l formed =
     let g = both _ _ (s .0) in
     let h = both _ _ (s .1) in
     record {
+      figure = eqb-true _ _ (o .0);
       head = p .0;
       fewInstances = leb-true _ _ (a .0);
       restOfPens = b .0;
@@ -136,10 +139,11 @@ pub record Buffers (places : ℕ) (l : Lent) : Type 0 where
   pub lostBytes : Bytes (l .lost)
 
 module _ (places : ℕ) (l : Lent) (b : Buffers places l) (f : Formed places l) where
-  head-back : headOf (stateOf l) ≡ l .head
+  head-back : headOf places (stateOf l) ≡ l .head
   unfolding headOf stateOf
   head-back =
       rw (
+        ← f .figure,
         length-read instanceOf 512 (l .head .«instance_count») (l .pens),
         length-read writerOf 40 (l .head .«writer_count») (l .writers),
         length-read guidOf 16 (l .head .«lost_count») (l .lost),
@@ -289,6 +293,7 @@ module _ (places : ℕ) (s : State) (out : List ℕ) (f : Fitting places s) wher
         lay-rest guidBytes guidOf 16 4096 (s .lost) (guids-all (s .lost) (f .lost)),
         less-less (pos (aliveCount (s .writers))) (s .acknowledgedAlive),
         less-less (pos (notAliveCount (s .writers))) (s .acknowledgedNotAlive),
+        eq-eqb places places refl,
         eq-eqb (aliveCount (s .writers)) (aliveCount (s .writers)) refl,
         eq-eqb (notAliveCount (s .writers)) (notAliveCount (s .writers)) refl,
         and-true (leb (length (s .lost)) 256),

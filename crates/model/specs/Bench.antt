@@ -21,7 +21,7 @@ use Rattle.model.specs.InstanceRecord.{bit, kindNumber, holderPlaces}
 use Rattle.model.specs.Instances.{startedState, started, withLife, withTimes, withOwner, withSet, withKind, withView, withDisposedAt, withOwnerAt, registered, unregistered, ensured, revived, revivedNew, lifecycleObserved, admittedObserved, admittedNoted, writerNoted, ownershipTried, takesOver, outbids, purged, leftBy}
 use Rattle.model.specs.Joined.{sampled, firstOwned, admitted, admitWith, admitCall}
 use Rattle.model.specs.Sets.{has, insert, setOf}
-use Rattle.model.specs.State.{State, freshState, instancePlaces}
+use Rattle.model.specs.State.{State, figureOk, smallPlaces, largePlaces, freshState}
 use Rattle.model.specs.Tables.{find, pick, any, put, sift}
 use Rattle.model.specs.Times.{noTime, nanosOf, signedNanosOf, filterAdmits, orderAdmits, deadlineMissed, purgeDue}
 use Rattle.model.specs.WriterRecord.{stateNumber}
@@ -97,7 +97,7 @@ only [] = startedState
 only (x ∷ xs) = x .state
 
 abbrev after : InstanceCall → Sheet → InstanceState → InstanceState
-after c s x = only (instanceCall instancePlaces c s (stateWith (instanceWith x ∷ [])) .state .instances)
+after c s x = only (instanceCall largePlaces c s (stateWith (instanceWith x ∷ [])) .state .instances)
 
 -- ---- lines a to d and i
 
@@ -136,7 +136,7 @@ disposedState =
 
 abbrev purges : ℕ → ℕ → ℕ
 purges now delay =
-    instanceCall instancePlaces autopurge (sheet 1 0 (time 0 now) delay 0 0 0 0) (stateWith (instanceWith disposedState ∷ [])) .answer .count
+    instanceCall largePlaces autopurge (sheet 1 0 (time 0 now) delay 0 0 0 0) (stateWith (instanceWith disposedState ∷ [])) .answer .count
 
 abbrev purgeLines : List Row
 purgeLines = row (purges 14 5) 0 ∷ row (purges 15 5) 1 ∷ row (purges 3 0) 1 ∷ []
@@ -145,7 +145,7 @@ purgeLines = row (purges 14 5) 0 ∷ row (purges 15 5) 1 ∷ row (purges 3 0) 1 
 
 abbrev underLimit : ℕ → ℕ → Turned
 underLimit key limit =
-    instanceCall instancePlaces ensureRegisteredLimited (sheet key 0 noTime 0 0 limit 0 0) (stateWith (instanceWith startedState ∷ []))
+    instanceCall largePlaces ensureRegisteredLimited (sheet key 0 noTime 0 0 limit 0 0) (stateWith (instanceWith startedState ∷ []))
 
 abbrev limitLines : List Row
 limitLines =
@@ -237,7 +237,7 @@ sampleAt writer strength second =
     }
 
 abbrev admits : ℕ → ℕ → ℕ → State → Turned
-admits writer strength second st = admitCall instancePlaces (sampleAt writer strength second) st
+admits writer strength second st = admitCall largePlaces (sampleAt writer strength second) st
 
 -- the first sample, by writer 1 with a strength
 abbrev admittedFirst : ℕ → State
@@ -259,7 +259,7 @@ firstOwnerLines =
 
 -- a call by itself on the fresh state, with the sheet of that first sample
 abbrev startedBy : InstanceCall → Turned
-startedBy c = instanceCall instancePlaces c (sampleAt 1 5 20) freshState
+startedBy c = instanceCall largePlaces c (sampleAt 1 5 20) freshState
 
 -- code 16 answers yes and stores nothing; codes 1, 2, 8 and 9 start without an owner, so a weak writer's sample is taken
 abbrev unownedLines : List Row
@@ -276,7 +276,7 @@ unownedLines =
 -- an instance owned by writer 1 with strength 9 is disposed of and purged: the key starts again, owned by its new first writer
 abbrev purgedState : State
 purgedState =
-    instanceCall instancePlaces autopurge (sheet 1 0 (time 0 15) 5 0 0 0 0)
+    instanceCall largePlaces autopurge (sheet 1 0 (time 0 15) 5 0 0 0 0)
     (stateWith (instanceWith (withOwner record { present = true; guid = guid 1; strength = 9 } disposedState) ∷ [])) .state
 
 abbrev startsAgainLines : List Row
@@ -286,13 +286,36 @@ startsAgainLines =
     ∷ row (admits 3 0 21 (admits 2 1 20 purgedState .state) .answer .outcome) 4
     ∷ []
 
+-- ---- document 02, request 5: the two figures; a new key where a table has so many instances, with 32 places and with 128
+
+abbrev figureLines : List Row
+figureLines =
+    test (figureOk 32) true ∷ test (figureOk 128) true
+    ∷ test (figureOk 0) false ∷ test (figureOk 33) false ∷ test (figureOk 64) false ∷ test (figureOk 127) false ∷ []
+
+abbrev newKey : InstanceCall → ℕ → ℕ → ℕ → ℕ
+newKey c limit places n =
+    instanceCall places c (sheet 2 0 noTime 0 0 limit 0 0) (stateWith (replicate n (instanceWith startedState))) .answer .number
+
+-- none at a limit comes before 9
+abbrev placesLines : List Row
+placesLines =
+    row (newKey register 0 smallPlaces 31) 0
+    ∷ row (newKey register 0 smallPlaces 32) 9
+    ∷ row (newKey register 0 largePlaces 32) 0
+    ∷ row (newKey register 0 largePlaces 128) 9
+    ∷ row (newKey ensureRegisteredLimited 33 smallPlaces 32) 9
+    ∷ row (newKey ensureRegisteredLimited 32 smallPlaces 32) 0
+    ∷ []
+
 -- ---- the claim
 
 abbrev pub benchRows : List Row
 benchRows =
     filterLines
     ++ (orderLines ++ (deadlineLines ++ (limitLines ++ (leaseLines ++ (departedLines ++ (purgeLines
-    ++ (reviveTrap ++ (registerTrap ++ (unregisterTrap ++ (firstOwnerLines ++ (unownedLines ++ startsAgainLines)))))))))))
+    ++ (reviveTrap ++ (registerTrap ++ (unregisterTrap ++ (firstOwnerLines ++ (unownedLines ++ (startsAgainLines ++ (figureLines
+    ++ placesLines)))))))))))))
 
 pub bench-rows : T (agree benchRows)
 unfolding num allocated instanceCall instanceTurn instancesAfter begun nextAfter lateRefusal handleBytes startedState started registered unregistered ensured revived revivedNew lifecycleObserved admittedObserved admittedNoted writerNoted ownershipTried takesOver outbids purged leftBy sampled firstOwned admitted admitWith has insert setOf find pick any put sift nanosOf signedNanosOf filterAdmits orderAdmits deadlineMissed purgeDue trackerCall trackerTurn trackerState writersAfter movers lastAfter nextDue covers renews asserted expires expired

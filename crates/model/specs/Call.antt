@@ -16,7 +16,7 @@ use Rattle.model.specs.InstanceCalls.{Turned, instanceCall}
 use Rattle.model.specs.Joined.{joinedCall}
 use Rattle.model.specs.Refusals.{lengthsOk, sheetRefusal}
 use Rattle.model.specs.Sheets.{sheetOf}
-use Rattle.model.specs.State.{Lent, State, stateOf, layOut, instancePlaces}
+use Rattle.model.specs.State.{Lent, State, figureOk, stateOf, layOut}
 use Rattle.model.specs.WellFormed.{wellFormed}
 use Rattle.model.specs.Writers.{trackerCall}
 
@@ -62,9 +62,9 @@ unfoldable pub callIn : ℕ → List ℕ → Lent → Left
 callIn places sheet l =
     cond (lengthsOk places sheet l) (coded places (callOfCode (sheetOf sheet .code)) (sheetOf sheet) l) (refuse 1 l)
 
--- a call on a state of 128 places
+-- 02, ticket 5: a head with another figure is refused as 3, before 1 is looked at
 unfoldable pub callOf : List ℕ → Lent → Left
-callOf sheet l = callIn instancePlaces sheet l
+callOf sheet l = cond (figureOk (l .head .places)) (callIn (l .head .places) sheet l) (refuse 3 l)
 
 -- what code returns and leaves, in the definition's form
 abbrev pub lentOf : Head → List ℕ → List ℕ → List ℕ → List ℕ → Lent

@@ -1,5 +1,6 @@
 -- Section 7: the reads. Those of instances are lent the table and no head: the used records are those before the first
--- whose handle is 0. Each meets refusals 1, 3 and 4 for what it is lent, lowest first.
+-- whose handle is 0, and `places` is `placesIn` of the table, as they take either length (02, ticket 5). Each meets refusals
+-- 1, 3 and 4 for what it is lent, lowest first.
 use Prim.Native.Nat.{ℕ, zero, suc, _+_, _*_, _/_, _%_, _^_}
 use mathlib.Core.Bool.{Bool, true, false, not, _&&_, _||_, cond}
 use mathlib.Core.List.{List, [], _∷_}
@@ -34,7 +35,7 @@ use Rattle.model.specs.InstanceRecord.{instanceSize}
 use Rattle.model.specs.Instances.{hasKey, isAlive, writersIn}
 use Rattle.model.specs.Joined.{lastDelivered, lastFilter}
 use Rattle.model.specs.Sets.{has, isEmpty}
-use Rattle.model.specs.State.{instancesIn, outSize, writerPlaces, lostPlaces}
+use Rattle.model.specs.State.{figureOk, instancesIn, outSize, writerPlaces, lostPlaces}
 use Rattle.model.specs.Tables.{find, pick, all, any}
 use Rattle.model.specs.Times.{billion, timeBits, timeOf, filterAdmits, orderAdmits}
 use Rattle.model.specs.WellFormed.{instanceTableOk, headOk}
@@ -194,14 +195,15 @@ unfoldable pub holderInForce : ℕ → List ℕ → Guid → List ℕ → List �
 holderInForce places t key offered =
     cond (eqb (tableRefusal places t) 0) (holderOr offered (find (hasKey key) (tableOf places t))) offered
 
--- ---- status and changes: the head alone, refused as 3 exactly if no buffers make it well formed
+-- ---- status and changes: the head alone, refused as 3 exactly if its figure is another or no buffers make it well formed
 
-unfoldable pub headAlone : ℕ → Head → Bool
-headAlone places h =
-    headOk h
-    && (leb (h .«instance_count») places && (ltb (h .«instance_count») (h .«next_handle» .0)
+unfoldable pub headAlone : Head → Bool
+headAlone h =
+    figureOk (h .places)
+    && (headOk h
+    && (leb (h .«instance_count») (h .places) && (ltb (h .«instance_count») (h .«next_handle» .0)
     && (leb (h .«writer_count») writerPlaces && (leb (h .alive + h .«not_alive») (h .«writer_count»)
-    && leb (h .«lost_count») lostPlaces))))
+    && leb (h .«lost_count») lostPlaces)))))
 
 abbrev pub headStatus : Head → LivelinessChangedStatus
 headStatus h =
@@ -213,8 +215,8 @@ headStatus h =
       «last_publication_handle» = publication (h .«last_writer»);
     }
 
-unfoldable pub statusRead : ℕ → Head → StatusRead
-statusRead places h = cond (headAlone places h) (statusReadIs (headStatus h)) (statusReadRefused 3)
+unfoldable pub statusRead : Head → StatusRead
+statusRead h = cond (headAlone h) (statusReadIs (headStatus h)) (statusReadRefused 3)
 
-unfoldable pub changesRead : ℕ → Head → ChangesRead
-changesRead places h = cond (headAlone places h) (changesReadIs (h .changes)) (changesReadRefused 3)
+unfoldable pub changesRead : Head → ChangesRead
+changesRead h = cond (headAlone h) (changesReadIs (h .changes)) (changesReadRefused 3)

@@ -1,7 +1,8 @@
 -- Section 2: the state of the two trackers ("the pen book"), how it lies in the head and the buffers, and the fresh one.
 use Prim.Native.Nat.{ℕ, _*_}
-use mathlib.Core.Bool.{Bool, true, false}
+use mathlib.Core.Bool.{Bool, true, false, _||_, cond}
 use mathlib.Core.List.{List, []}
+use lib.Dec.{eqb}
 use lib.IntN.{ℤ, pos, _-ℤ_}
 use lib.ListN.{length, replicate}
 use Rattle.octets.specs.Lay.{lay}
@@ -48,9 +49,19 @@ writerKey w = num (w .guid)
 
 -- ---- sizes
 
--- the number of instance places; definitions take it as the parameter `places`
-abbrev pub instancePlaces : ℕ
-instancePlaces = 128
+-- 02, ticket 5: the number of instance places is 32 or 128, as the head says; definitions take it as the parameter `places`
+abbrev pub smallPlaces : ℕ
+smallPlaces = 32
+
+abbrev pub largePlaces : ℕ
+largePlaces = 128
+
+abbrev pub figureOk : ℕ → Bool
+figureOk places = eqb places smallPlaces || eqb places largePlaces
+
+-- where no head is lent, the length of pens tells; a length that is neither is for refusal 1
+abbrev pub placesIn : List ℕ → ℕ
+placesIn pens = cond (eqb (length pens) (smallPlaces * instanceSize)) smallPlaces largePlaces
 
 abbrev pub writerPlaces : ℕ
 writerPlaces = 128
@@ -96,8 +107,8 @@ notAliveCount ws = length (pick countsNotAlive ws)
 
 -- ---- laying out
 
-unfoldable pub headOf : State → Head
-headOf s =
+unfoldable pub headOf : ℕ → State → Head
+headOf places s =
     record {
       «instance_count» = length (s .instances);
       «next_handle» = handle (s .nextHandle);
@@ -109,6 +120,7 @@ headOf s =
       «not_alive_change» = pos (notAliveCount (s .writers)) -ℤ s .acknowledgedNotAlive;
       «last_writer» = s .lastWriter;
       changes = s .changes;
+      places = places;
     }
 
 -- records from the front, zeros behind them
@@ -124,7 +136,7 @@ lostOf gs = lay guidBytes guidSize (lostPlaces * guidSize) gs
 unfoldable pub layOut : ℕ → State → List ℕ → Lent
 layOut places s out =
     record {
-      head = headOf s;
+      head = headOf places s;
       pens = pensOf places (s .instances);
       writers = writersOf (s .writers);
       lost = lostOf (s .lost);
@@ -152,8 +164,8 @@ stateOf l =
       changes = l .head .changes;
     }
 
--- ---- fresh: counts and all three changes 0, next handle 1, no last writer, buffers zero; Out is any list, since every
--- call is lent one of its own
+-- ---- fresh: counts and all three changes 0, next handle 1, no last writer, buffers zero, and the number of places set; Out
+-- is any list, since every call is lent one of its own
 
 abbrev pub freshState : State
 freshState =
@@ -182,6 +194,7 @@ fresh places out =
         «not_alive_change» = pos 0;
         «last_writer» = Nobody;
         changes = 0;
+        places = places;
       };
       pens = replicate (places * instanceSize) 0;
       writers = replicate (writerPlaces * writerSize) 0;

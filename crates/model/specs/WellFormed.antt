@@ -153,14 +153,15 @@ headOk h =
 unfoldable pub countsOk : Head → List Writer → Bool
 countsOk h ws = eqb (h .alive) (aliveCount ws) && eqb (h .«not_alive») (notAliveCount ws)
 
--- the whole
+-- the whole, for the number of places that the head says
 unfoldable pub wellFormed : ℕ → Lent → Bool
 wellFormed places l =
-    headOk (l .head)
+    eqb (l .head .places) places
+    && (headOk (l .head)
     && (instanceTableOk places (l .head .«instance_count») (l .head .«next_handle» .0) (l .pens)
     && (writerTableOk (l .head .«writer_count») (l .writers)
     && (lostOk (l .head .«lost_count») (l .lost)
-    && countsOk (l .head) (writersIn (l .head .«writer_count») (l .writers)))))
+    && countsOk (l .head) (writersIn (l .head .«writer_count») (l .writers))))))
 
 -- ---- the same, asked of the state as records
 

@@ -126,7 +126,7 @@ pub enum LastWriter {
     Is(Guid),
 }
 
-// The part of the state that goes by value.
+// The part of the state that goes by value; `places` is the number of instance places.
 pub struct Head {
     pub instance_count: u32,
     pub next_handle: InstanceHandle,
@@ -138,6 +138,7 @@ pub struct Head {
     pub not_alive_change: i32,
     pub last_writer: LastWriter,
     pub changes: u64,
+    pub places: u16,
 }
 
 // The calls on instances, in the order of their codes 1 to 21.

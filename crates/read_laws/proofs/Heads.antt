@@ -1,7 +1,8 @@
--- Refusal 3 of the head alone: `headAlone` holds of a head exactly if some buffers make it well formed.
+-- Refusal 3 of the head alone: `headAlone` holds of a head exactly if its figure is one of the two and some buffers make it well
+-- formed.
 --     formed-head      of the head of a well-formed state it holds
 --     head-made        where it holds, buffers of their lengths are well formed with it
---     head-3, only-head-3      so a head is refused as 3 exactly if no buffers do
+--     head-3, only-head-3      so a head is refused as 3 exactly if its figure is another or no buffers do
 -- Assumes nothing.
 use Prim.Native.Nat.{ℕ, _+_, _-_, _*_, _^_, _≤_, _<_}
 use mathlib.Core.Bool.{true, false, _&&_}
@@ -19,7 +20,7 @@ use Rattle.model.specs.declared.Instance.{Instance}
 use Rattle.model.specs.Guids.{nil, guidBytes}
 use Rattle.model.specs.InstanceRecord.{instanceOf, instanceBytes}
 use Rattle.model.specs.Reads.{headAlone}
-use Rattle.model.specs.State.{Lent, State, headOf, layOut, aliveCount, notAliveCount, instancesIn, writersIn}
+use Rattle.model.specs.State.{Lent, State, figureOk, headOf, layOut, aliveCount, notAliveCount, instancesIn, writersIn}
 use Rattle.model.specs.WellFormed.{within, headOk, wellFormed, valid}
 use Rattle.model.specs.WriterRecord.{writerOf, writerBytes}
 use Rattle.model.proofs.Fits.{FitsGuid, FitsInstance, FitsWriter}
@@ -35,7 +36,7 @@ use Rattle.read_laws.proofs.Tables.{never, low, top, handles-of}
 
 -- ---- the head of a well-formed state
 
-module _ (places : ℕ) (l : Lent) (formed : wellFormed places l ≡ true) where
+module _ (places : ℕ) (ok : figureOk places ≡ true) (l : Lent) (formed : wellFormed places l ≡ true) where
   abbrev h : Head
   h = l .head
 
@@ -59,12 +60,15 @@ module _ (places : ℕ) (l : Lent) (formed : wellFormed places l ≡ true) where
       let m : aliveCount ws + notAliveCount ws ≤ length ws = unfold aliveCount notAliveCount in classes-few ws in
       omega arith
 
-  pub formed-head : headAlone places h ≡ true
+  pub formed-head : headAlone h ≡ true
   unfolding headAlone
   formed-head =
+      let one : figureOk (h .places) ≡ true = ap figureOk (facts .figure) ∙ ok in
+      let few : h .«instance_count» ≤ h .places = omega (arith, facts .figure, facts .fewInstances) in
       rw (
+        one,
         facts .head,
-        le-leb (h .«instance_count») places (facts .fewInstances),
+        le-leb (h .«instance_count») (h .places) few,
         lt-ltb (h .«instance_count») (h .«next_handle» .0) few-handles,
         le-leb (h .«writer_count») 128 (facts .fewWriters),
         le-leb (h .alive + h .«not_alive») (h .«writer_count») few-classes,
@@ -74,23 +78,26 @@ module _ (places : ℕ) (l : Lent) (formed : wellFormed places l ≡ true) where
 -- ---- buffers for a head
 
 -- a head that stands alone, as plain facts
-record Alone (places : ℕ) (h : Head) : Type 0 where
+record Alone (h : Head) : Type 0 where
+  figure : figureOk (h .places) ≡ true
   head : headOk h ≡ true
-  instances : h .«instance_count» ≤ places
+  instances : h .«instance_count» ≤ h .places
   handles : h .«instance_count» < h .«next_handle» .0
   writers : h .«writer_count» ≤ 128
   classes : h .alive + h .«not_alive» ≤ h .«writer_count»
   lost : h .«lost_count» ≤ 256
 
-alone-facts : (places : ℕ) (h : Head) → headAlone places h ≡ true → Alone places h
+alone-facts : (h : Head) → headAlone h ≡ true → Alone h
 unfolding headAlone
-alone-facts places h e =
-    let a = both _ _ e in
+alone-facts h e =
+    let z = both _ _ e in
+    let a = both _ _ (z .1) in
     let b = both _ _ (a .1) in
     let c = both _ _ (b .1) in
     let d = both _ _ (c .1) in
     let f = both _ _ (d .1) in
     record {
+      figure = z .0;
       head = a .0;
       instances = leb-true _ _ (b .0);
       handles = ltb-true _ _ (c .0);
@@ -99,15 +106,19 @@ alone-facts places h e =
       lost = leb-true _ _ (f .1);
     }
 
-pub record FormableHead (places : ℕ) (h : Head) : Type 0 where
+pub record FormableHead (h : Head) : Type 0 where
+  pub figure : figureOk (h .places) ≡ true
   pub lent : Lent
   pub head : lent .head ≡ h
-  pub pensLength : length (lent .pens) ≡ places * 512
+  pub pensLength : length (lent .pens) ≡ h .places * 512
   pub writersLength : length (lent .writers) ≡ 5120
   pub lostLength : length (lent .lost) ≡ 4096
-  pub formed : wellFormed places lent ≡ true
+  pub formed : wellFormed (h .places) lent ≡ true
 
-module _ (places : ℕ) (h : Head) (f : Alone places h) where
+module _ (h : Head) (f : Alone h) where
+  abbrev places : ℕ
+  places = h .places
+
   rest : ℕ
   rest = h .«writer_count» - (h .alive + h .«not_alive»)
 
@@ -135,7 +146,7 @@ module _ (places : ℕ) (h : Head) (f : Alone places h) where
   unfolding rest
   counted = length-classes (h .alive) (h .«not_alive») rest ∙ omega (arith, f .classes)
 
-  head-is : headOf state ≡ h
+  head-is : headOf places state ≡ h
   unfolding headOf
   head-is =
       let n : length (state .instances) ≡ h .«instance_count» = unfold state in length-instances 1 (h .«instance_count») in
@@ -179,10 +190,11 @@ module _ (places : ℕ) (h : Head) (f : Alone places h) where
         le-leb (h .«lost_count») 256 (f .lost),
       )
 
-  made : FormableHead places h
+  made : FormableHead h
   unfolding layOut
   made =
       record {
+        figure = f .figure;
         lent = layOut places state [];
         head = head-is;
         pensLength = length-lay instanceBytes 512 FitsInstance length-instance (places * 512) (state .instances) (fits .instances)
@@ -195,15 +207,15 @@ module _ (places : ℕ) (h : Head) (f : Alone places h) where
 
 -- ---- the claim
 
-module _ (places : ℕ) (h : Head) where
-  pub head-made : headAlone places h ≡ true → FormableHead places h
-  head-made e = made places h (alone-facts places h e)
+module _ (h : Head) where
+  pub head-made : headAlone h ≡ true → FormableHead h
+  head-made e = made h (alone-facts h e)
 
-  pub head-3 : headAlone places h ≡ false → (l : Lent) → l .head ≡ h → wellFormed places l ≡ false
-  head-3 e l q =
+  pub head-3 : headAlone h ≡ false → (places : ℕ) → figureOk places ≡ true → (l : Lent) → l .head ≡ h → wellFormed places l ≡ false
+  head-3 e places ok l q =
       split (wellFormed places l)
-      (λ w. never (sym (formed-head places l w) ∙ ap (headAlone places) q ∙ e))
+      (λ w. never (sym (formed-head places ok l w) ∙ ap headAlone q ∙ e))
       (λ w. w)
 
-  pub only-head-3 : (FormableHead places h → ⊥) → headAlone places h ≡ false
-  only-head-3 none = split (headAlone places h) (λ e. absurd (none (head-made e))) (λ e. e)
+  pub only-head-3 : (FormableHead h → ⊥) → headAlone h ≡ false
+  only-head-3 none = split (headAlone h) (λ e. absurd (none (head-made e))) (λ e. e)

@@ -1,5 +1,6 @@
 -- Refusal 3 of the instance table alone: `tableRefusal` of pens of their length is 3 exactly if no head and no other buffers
 -- make them well formed.
+--     formed-used, formed-table      of a well-formed state: the records that a read takes as used, and that it takes the table
 --     table-3          3: no head and no buffers do
 --     table-0          0: some head and buffers of their lengths do
 --     only-table-3     so where none do, it is 3
@@ -120,21 +121,26 @@ handles-of next xs e =
 
 -- ---- the table of a well-formed state
 
-formed-table : (places : ℕ) (l : Lent) → wellFormed places l ≡ true → tableOk places (l .pens) ≡ true
+pub formed-used : (places : ℕ) (l : Lent) → wellFormed places l ≡ true → usedIn places (l .pens) ≡ l .head .«instance_count»
+formed-used places l e =
+    let f = formed-facts places l e in
+    let n = l .head .«instance_count» in
+    let next = l .head .«next_handle» .0 in
+    used-are places n next (l .pens) (f .fewInstances) (f .restOfPens) (handles-of next (instancesIn n (l .pens)) (f .instances) .below)
+
+pub formed-table : (places : ℕ) (l : Lent) → wellFormed places l ≡ true → tableOk places (l .pens) ≡ true
 unfolding tableOk instanceTableOk
 formed-table places l e =
     let f = formed-facts places l e in
     let n = l .head .«instance_count» in
     let next = l .head .«next_handle» .0 in
-    let u : usedIn places (l .pens) ≡ n =
-    used-are places n next (l .pens) (f .fewInstances) (f .restOfPens) (handles-of next (instancesIn n (l .pens)) (f .instances) .below) in
-    rw (u, le-leb n places (f .fewInstances), f .restOfPens, f .kinds)
+    rw (formed-used places l e, le-leb n places (f .fewInstances), f .restOfPens, f .kinds)
     (instances-top next (instancesIn n (l .pens)) (top (l .head) (f .head)) (f .instances))
 
 -- ---- a head and buffers for a table
 
-abbrev headFor : ℕ → Head
-headFor n =
+abbrev headFor : ℕ → ℕ → Head
+headFor places n =
     record {
       «instance_count» = n;
       «next_handle» = handle (2 ^ 63);
@@ -146,15 +152,16 @@ headFor n =
       «not_alive_change» = pos 0;
       «last_writer» = Nobody;
       changes = 0;
+      places = places;
     }
 
 -- the table with the fresh state's other buffers
 lentFor : ℕ → List ℕ → Lent
-lentFor places t = lentOf (headFor (usedIn places t)) t (fresh places [] .writers) (fresh places [] .lost) []
+lentFor places t = lentOf (headFor places (usedIn places t)) t (fresh places [] .writers) (fresh places [] .lost) []
 
-head-for : (n : ℕ) → headOk (headFor n) ≡ true
+head-for : (places n : ℕ) → headOk (headFor places n) ≡ true
 unfolding headOk within
-head-for n = refl
+head-for places n = refl
 
 fresh-rest : (places : ℕ) (t : List ℕ) → tableOk places t ≡ true → wellFormed places (lentFor places t) ≡ true
 unfolding lentFor wellFormed tableOk fresh usedIn countsOk
@@ -163,9 +170,10 @@ fresh-rest places t e =
     let l : Lent = fresh places [] in
     let r : Bool =
     writerTableOk 0 (l .writers) && (lostOk 0 (l .lost) && countsOk (l .head) (writersIn 0 (l .writers))) in
-    let p = both (headOk (l .head)) (instanceTableOk places 0 1 (l .pens) && r) w in
+    let o = both (eqb places places) (headOk (l .head) && (instanceTableOk places 0 1 (l .pens) && r)) w in
+    let p = both (headOk (l .head)) (instanceTableOk places 0 1 (l .pens) && r) (o .1) in
     let q = both (instanceTableOk places 0 1 (l .pens)) r (p .1) in
-    rw (head-for (usedIn places t), e) (q .1)
+    rw (o .0, head-for places (usedIn places t), e) (q .1)
 
 -- ---- the claim
 

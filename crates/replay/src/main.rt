@@ -38,7 +38,7 @@ fn run(
 ) -> Progress
     requires { ⌜ (length (now body) ≡ 4792) × (length (now pens) ≡ 66048) × (length (now writers) ≡ 5160) × (length (now lost) ≡ 4112) × (length (now out) ≡ 4112) ⌝ }
 {
-    let h = fresh_head(pens, writers, lost);
+    let h = fresh_head(pens, 65536, writers, lost);
     let mut p = Progress {
         list: 0,
         calls: 0,
@@ -394,20 +394,34 @@ fn call(
     made(p, body, n, &body[184..end], pens, writers, lost, out)
 }
 
-// What stands beyond the lengths of section 2 becomes zero.
+// What stands beyond the lengths of section 2 becomes zero, in pens from the smaller of the two on.
 fn clear_rest(pens: &mut [u8], writers: &mut [u8], lost: &mut [u8])
     requires { ⌜ (length (now pens) ≡ 66048) × (length (now writers) ≡ 5160) × (length (now lost) ≡ 4112) ⌝ }
 {
-    octets::clear(pens, 65536, 512);
+    octets::clear(pens, 16384, 49664);
     octets::clear(writers, 5120, 40);
     octets::clear(lost, 4096, 16);
 }
 
-// The fronts of the buffers become those of the fresh state.
-fn fresh_head(pens: &mut [u8], writers: &mut [u8], lost: &mut [u8]) -> Head
-    requires { ⌜ (length (now pens) ≡ 66048) × (length (now writers) ≡ 5160) × (length (now lost) ≡ 4112) ⌝ }
+// The length of pens that a list record asks for: with 32 places, or 128.
+fn pens_length(body: &[u8]) -> usize
+    ensures { λ r. ⌜ r ≤ 65536 ⌝ }
 {
-    let r = dcps::fresh(&mut pens[..65536], &mut writers[..5120], &mut lost[..4096]);
+    if body.len() < 8 {
+        return 65536;
+    }
+    if octets::get_u16(body, 6) == 32 {
+        16384
+    } else {
+        65536
+    }
+}
+
+// The fronts of the buffers become those of the fresh state with pens of a length.
+fn fresh_head(pens: &mut [u8], n: usize, writers: &mut [u8], lost: &mut [u8]) -> Head
+    requires { ⌜ (length (now pens) ≡ 66048) × (n ≤ 65536) × (length (now writers) ≡ 5160) × (length (now lost) ≡ 4112) ⌝ }
+{
+    let r = dcps::fresh(&mut pens[..n], &mut writers[..5120], &mut lost[..4096]);
     let h = r.head;
     h
 }
@@ -417,7 +431,7 @@ fn begin(p: Progress, body: &[u8], pens: &mut [u8], writers: &mut [u8], lost: &m
     requires { ⌜ (length (now pens) ≡ 66048) × (length (now writers) ≡ 5160) × (length (now lost) ≡ 4112) ⌝ }
 {
     clear_rest(pens, writers, lost);
-    let h = fresh_head(pens, writers, lost);
+    let h = fresh_head(pens, pens_length(body), writers, lost);
     let mut q = p;
     q.head = h;
     if 4 <= body.len() {

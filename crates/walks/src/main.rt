@@ -1,4 +1,4 @@
-// Handles handed out by an allocator, and walks over a table of two instances, run. Each line is a case and its answer.
+// Handles handed out by an allocator, and walks over tables of two instances, run. Each line is a case and its answer.
 use libc::STDOUT_FILENO;
 use model::FoundHandle;
 use model::Head;
@@ -10,6 +10,7 @@ fn main() {
     allocation(0xFFFF_FFFF_FFFF_FFFF);
     no_instance();
     two_instances();
+    small_table();
     wrong_length();
     wrong_form();
 }
@@ -41,10 +42,17 @@ fn two_instances() {
     last_position(&pens);
 }
 
+// The same in a table of 32 places.
+fn small_table() {
+    let mut pens = [0u8; 16384];
+    registered(&mut pens);
+    walk(b"two of 32", &pens, 3);
+}
+
 // Refusal 1.
 fn wrong_length() {
     let pens = [0u8; 512];
-    walk(b"one place of 128", &pens, 2);
+    walk(b"a table of one place", &pens, 2);
 }
 
 // Refusal 3.

@@ -24,7 +24,7 @@ use Rattle.model.specs.Refusals.{sheetRefusal}
 use Rattle.model.specs.State.{Lent, State, stateOf, layOut, headOf, writersIn, pensOf, writersOf, lostOf}
 use Rattle.model.specs.WellFormed.{countsOk}
 use Rattle.model.specs.Writers.{movers, writersAfter, lostAfter, trackerList, trackerState, trackerTurn, trackerCall}
-use Rattle.model.proofs.StateLaws.{formed-facts, lay-back}
+use Rattle.model.proofs.StateLaws.{Formed, formed-facts, lay-back}
 use Rattle.model.proofs.TrackerLaws.{stays, instances-stay}
 use Rattle.writer_turns.specs.WriterCalls.{heldBy, Turns}
 use Rattle.writer_status.specs.Status.{KeepsWriters}
@@ -63,11 +63,12 @@ module _ (c : TrackerCall) (s : Sheet) (head : Head) (places : ℕ) (pens writer
   abbrev t : Turned
   t = trackerCall c s (heldBy head pens writers lost)
 
+  facts : Formed places (lentOf head pens writers lost out)
+  facts = formed-facts places (lentOf head pens writers lost out) (e .formed)
+
   laid : layOut places st out ≡ lentOf head pens writers lost out
   unfolding stateOf
-  laid =
-      lay-back places (lentOf head pens writers lost out) (buffers places (lentOf head pens writers lost out) e)
-      (formed-facts places (lentOf head pens writers lost out) (e .formed))
+  laid = lay-back places (lentOf head pens writers lost out) (buffers places (lentOf head pens writers lost out) e) facts
 
   pens-laid : pens ≡ pensOf places (t .state .instances)
   unfolding layOut
@@ -86,12 +87,13 @@ module _ (c : TrackerCall) (s : Sheet) (head : Head) (places : ℕ) (pens writer
 
   -- what is returned and left is the turn's, laid out
   whole : (d : TrackerCall) → d ≡ c → 0 ≡ sheetRefusal (tracker d) s st → (r : Called) (writers′ lost′ out′ : List ℕ) → r .answer ≡ t .answer →
-      r .head ≡ headOf (t .state) → writers′ ≡ writersOf (t .state .writers) → lost′ ≡ lostOf (t .state .lost) → out′ ≡ listIn (t .list) out →
+      r .head ≡ headOf (head .places) (t .state) → writers′ ≡ writersOf (t .state .writers) → lost′ ≡ lostOf (t .state .lost) → out′ ≡ listIn (t .list) out →
       leftOf r pens writers′ lost′ out′ ≡ judged places (tracker d) s (lentOf head pens writers lost out)
   unfolding layOut stateOf
   whole d told fine r writers′ lost′ out′ ea eh ew el eo =
       whole-range places (tracker c) s (lentOf head pens writers lost out) e (fine ∙ ap (λ (x : TrackerCall). sheetRefusal (tracker x) s st) told) (r .answer)
-      (lentOf (r .head) pens writers′ lost′ out′) t refl (tracker-outcome c s st) ea (lent-same _ _ _ _ _ _ _ _ _ _ eh pens-laid ew el eo)
+      (lentOf (r .head) pens writers′ lost′ out′) t refl (tracker-outcome c s st) ea
+      (lent-same _ _ _ _ _ _ _ _ _ _ (eh ∙ ap (λ (n : ℕ). headOf n (t .state)) (facts .figure)) pens-laid ew el eo)
       ∙ ap (λ (x : TrackerCall). judged places (tracker x) s (lentOf head pens writers lost out)) (sym told)
 
 -- ---- the calls

@@ -16,17 +16,17 @@ use Rattle.writer_turns.specs.WriterCalls.{heldBy, Settles}
 use Rattle.writer_status.specs.Status.{Kept}
 
 -- what a call returned and left of the writers and of Lost is the turn's, laid out
-pub record Leaves (t : Turned) (r : Called) (writers lost : List ℕ) : Type 0 where
-  pub settles : Settles t r writers
+pub record Leaves (places : ℕ) (t : Turned) (r : Called) (writers lost : List ℕ) : Type 0 where
+  pub settles : Settles places t r writers
   pub lostLaid : lost ≡ lostOf (t .state .lost)
 
 -- code 37, whatever the pens hold
 abbrev pub Expires : Sheet → Head → List ℕ → List ℕ → Called → List ℕ → List ℕ → Type 0
-Expires sheet head writers lost r writers′ lost′ = (pens : List ℕ) → Leaves (trackerCall Expire sheet (heldBy head pens writers lost)) r writers′ lost′
+Expires sheet head writers lost r writers′ lost′ = (pens : List ℕ) → Leaves (head .places) (trackerCall Expire sheet (heldBy head pens writers lost)) r writers′ lost′
 
 -- what code 38 returned and left of Lost and Out is the turn's
-pub record Taken (t : Turned) (out : List ℕ) (r : Called) (lost′ out′ : List ℕ) : Type 0 where
-  pub kept : Kept t r
+pub record Taken (places : ℕ) (t : Turned) (out : List ℕ) (r : Called) (lost′ out′ : List ℕ) : Type 0 where
+  pub kept : Kept places t r
   pub emptied : lost′ ≡ lostOf (t .state .lost)
   pub listed : out′ ≡ listIn (t .list) out
 
@@ -34,4 +34,4 @@ pub record Taken (t : Turned) (out : List ℕ) (r : Called) (lost′ out′ : Li
 abbrev pub Takes : Sheet → Head → List ℕ → List ℕ → Called → List ℕ → List ℕ → Type 0
 Takes sheet head lost out r lost′ out′ =
     (pens writers : List ℕ) → countsOk head (writersIn (head .«writer_count») writers) ≡ true →
-    Taken (trackerCall TakeLost sheet (heldBy head pens writers lost)) out r lost′ out′
+    Taken (head .places) (trackerCall TakeLost sheet (heldBy head pens writers lost)) out r lost′ out′

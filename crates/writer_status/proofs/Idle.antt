@@ -59,7 +59,7 @@ pub idle-head : (c : TrackerCall) (s : Sheet) (head : Head) (pens w lost : List 
     m ≡ length (lostAfter c [] (guidsIn (head .«lost_count») lost)) →
     a ≡ pos (head .alive) -ℤ acknowledgedAfter c (head .alive) (s .first) (pos (head .alive) -ℤ head .«alive_change») →
     n ≡ pos (head .«not_alive») -ℤ acknowledgedAfter c (head .«not_alive») (s .second) (pos (head .«not_alive») -ℤ head .«not_alive_change») →
-    changedHead head m a n ≡ headOf (trackerState c s (heldBy head pens w lost))
+    changedHead head m a n ≡ headOf (head .places) (trackerState c s (heldBy head pens w lost))
 unfolding headOf trackerState stateOf lastAfter
 idle-head c s head pens w lost m a n h k after who e p q =
     let d = counted head (writersIn (head .«writer_count») w) k in

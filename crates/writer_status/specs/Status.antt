@@ -28,15 +28,16 @@ changedHead h m a n =
       «not_alive_change» = n;
       «last_writer» = h .«last_writer»;
       changes = h .changes;
+      places = h .places;
     }
 
--- what a call returned is the turn's: its answer and its head
-pub record Kept (t : Turned) (r : Called) : Type 0 where
+-- what a call returned is the turn's: its answer and its head, which keeps its number of places
+pub record Kept (places : ℕ) (t : Turned) (r : Called) : Type 0 where
   pub answer : r .answer ≡ t .answer
-  pub head : r .head ≡ headOf (t .state)
+  pub head : r .head ≡ headOf places (t .state)
 
 -- a call by value: it returns what model's turn says, whatever the buffers hold, if the head counts the writers
 abbrev pub KeepsWriters : TrackerCall → Sheet → Head → Called → Type 0
 KeepsWriters c sheet head r =
     (pens writers lost : List ℕ) → countsOk head (writersIn (head .«writer_count») writers) ≡ true →
-    Kept (trackerCall c sheet (heldBy head pens writers lost)) r
+    Kept (head .places) (trackerCall c sheet (heldBy head pens writers lost)) r

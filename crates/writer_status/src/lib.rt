@@ -73,6 +73,7 @@ pub fn with_changes(head: Head, lost_count: u32, alive_change: i32, not_alive_ch
         not_alive_change: not_alive_change,
         last_writer: last,
         changes: head.changes,
+        places: head.places,
     }
 }
 

@@ -135,7 +135,7 @@ module _ (c : TrackerCall) (s : Sheet) (act : Act) (head : Head) (w : List ℕ) 
   pub pass-settles : (pens lost : List ℕ) → Plain c s (heldBy head pens w lost) → (r : Called) (w′ : List ℕ) →
       w′ ≡ lay writerBytes 40 (length w) (map (actOf act) (writersIn (head .«writer_count») w)) →
       r ≡ calledBy head (head .«writer_count») (tallyOf act (head .«last_writer») (writersIn (head .«writer_count») w)) →
-      Settles (trackerCall c s (heldBy head pens w lost)) r w′
+      Settles (head .places) (trackerCall c s (heldBy head pens w lost)) r w′
   unfolding tallyOf
   pass-settles pens lost p r w′ f q =
       let xs = writersIn (head .«writer_count») w in

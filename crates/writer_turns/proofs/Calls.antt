@@ -198,7 +198,7 @@ module _ (s : Sheet) (head : Head) (w : List ℕ) (bytes : Bytes w) (held : Writ
             each (automatic s) (asserts-there s head w bytes (held .long) g fits used i x found read ∙ rw t (and-true (automatic s))) v q
           where
             each : (b : Bool) → matchAsserts s ws ≡ b → w₂ ≡ cond b (assertedTable (assertionOn true false s) n w₁) w₁ →
-                r ≡ calledBy head n (cond b (assertedTally head (assertionOn true false s) n w₁) (stillTally head)) → Settles (trackerCall Matched s (heldBy head pens w lost)) r w₂
+                r ≡ calledBy head n (cond b (assertedTally head (assertionOn true false s) n w₁) (stillTally head)) → Settles (head .places) (trackerCall Matched s (heldBy head pens w lost)) r w₂
             each true m v q =
                 match-asserted s head w bytes (held .long) g fits used w₁ n again-put pens lost (late-there s head w bytes (held .long) g fits used i x found read pens lost) m r w₂ v q
             each false m v q =
@@ -229,7 +229,7 @@ module _ (s : Sheet) (head : Head) (w : List ℕ) (bytes : Bytes w) (held : Writ
       first-after r w₂ v q pens lost = each (automatic s) (asserts-absent s head w bytes (held .long) g fits used i nowhere) v q
         where
           each : (b : Bool) → matchAsserts s ws ≡ b → w₂ ≡ cond b (assertedTable (assertionOn true false s) (n + 1) w₁) w₁ →
-              r ≡ calledBy head (n + 1) (cond b (assertedTally head (assertionOn true false s) (n + 1) w₁) (stillTally head)) → Settles (trackerCall Matched s (heldBy head pens w lost)) r w₂
+              r ≡ calledBy head (n + 1) (cond b (assertedTally head (assertionOn true false s) (n + 1) w₁) (stillTally head)) → Settles (head .places) (trackerCall Matched s (heldBy head pens w lost)) r w₂
           each true m v q =
               match-asserted s head w bytes (held .long) g fits used w₁ (n + 1) first-put pens lost (late-absent s head w bytes (held .long) g fits used i nowhere few pens lost) m r w₂ v q
           each false m v q =

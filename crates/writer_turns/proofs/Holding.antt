@@ -80,7 +80,7 @@ good head w b h =
 
 -- ---- the head of the state that is held
 
-pub head-same : (head : Head) (w : List ℕ) → Good head w → (pens lost : List ℕ) → headOf (heldBy head pens w lost) ≡ head
+pub head-same : (head : Head) (w : List ℕ) → Good head w → (pens lost : List ℕ) → headOf (head .places) (heldBy head pens w lost) ≡ head
 unfolding headOf stateOf
 head-same head w g pens lost =
     rw (

@@ -36,6 +36,7 @@ pub settled : (h : Head) (n m : ℕ) (t : Tally) (a b : ℤ) (k : ℕ) →
       «not_alive_change» = b;
       «last_writer» = t .last;
       changes = k;
+      places = h .places;
     }
     (settledHead h n m t)
 settled h n m t a b k p q r = rw (p, q, r)

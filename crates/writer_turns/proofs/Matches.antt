@@ -235,7 +235,7 @@ module _ (s : Sheet) (head : Head) (w : List ℕ) (bytes : Bytes w) (long : leng
 
     -- refusal 11: the number, and nothing changed
     pub match-full : 128 ≤ head .«writer_count» → (r : Called) → r .answer ≡ refusedWith 11 → r .head ≡ head → (pens lost : List ℕ) →
-        Settles (trackerCall Matched s (heldBy head pens w lost)) r w
+        Settles (head .places) (trackerCall Matched s (heldBy head pens w lost)) r w
     unfolding trackerCall stateOf
     match-full full r a h pens lost =
         rw (absent, good .size, le-leb 128 (head .«writer_count») full)
@@ -257,14 +257,14 @@ module _ (s : Sheet) (head : Head) (w : List ℕ) (bytes : Bytes w) (long : leng
     plain : Plain Matched s (heldBy head pens w lost)
     plain = record { late = late; told = refl; lost = refl; ackAlive = refl; ackNotAlive = refl }
 
-    pub match-kept : matchAsserts s ws ≡ false → (r : Called) → r ≡ calledBy head n (stillTally head) → Settles (trackerCall Matched s (heldBy head pens w lost)) r w₁
+    pub match-kept : matchAsserts s ws ≡ false → (r : Called) → r ≡ calledBy head n (stillTally head) → Settles (head .places) (trackerCall Matched s (heldBy head pens w lost)) r w₁
     match-kept e r q =
         let t = still-tallied head ws (begun s ws) (matchedWriter s none) (good .alive) (good .notAlive) (p .alive) (p .notAlive) in
         turn-settles Matched s head pens w lost (begun s ws) [] (stillTally head) n (still-turn s ws e) (still-who s ws e) (t .counts) (t .moved) (t .newest) (p .size)
         plain r w₁ q (p .laid)
 
     pub match-asserted : matchAsserts s ws ≡ true → (r : Called) (w₂ : List ℕ) → w₂ ≡ assertedTable (assertionOn true false s) n w₁ →
-        r ≡ calledBy head n (assertedTally head (assertionOn true false s) n w₁) → Settles (trackerCall Matched s (heldBy head pens w lost)) r w₂
+        r ≡ calledBy head n (assertedTally head (assertionOn true false s) n w₁) → Settles (head .places) (trackerCall Matched s (heldBy head pens w lost)) r w₂
     unfolding tallyOf
     match-asserted e r w₂ f q =
         let act = Assert (assertionOn true false s) in

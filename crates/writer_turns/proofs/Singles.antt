@@ -193,7 +193,7 @@ module _ (c : TrackerCall) (s : Sheet) (f : Writer → Option Writer) (head : He
   laid = sym (good .ready .sound .laid) ∙ ap (λ (n : ℕ). lay writerBytes 40 n ws) long
 
   pub single-missing : Lacks (s .guid) ws → (r : Called) → r ≡ calledBy head (head .«writer_count») (stillTally head) → (pens lost : List ℕ) →
-      Settles (trackerCall c s (heldBy head pens w lost)) r w
+      Settles (head .places) (trackerCall c s (heldBy head pens w lost)) r w
   single-missing l r e pens lost =
       let t = still-tallied head ws ws (departed (s .guid)) (good .alive) (good .notAlive) refl refl in
       turn-settles c s head pens w lost ws [] (stillTally head) (head .«writer_count») (after ∙ sift-lacks (s .guid) f ws l)
@@ -230,7 +230,7 @@ module _ (c : TrackerCall) (s : Sheet) (f : Writer → Option Writer) (head : He
     unfolding notAliveCount
     out-not-alive = rw (← read) at (count-out countsNotAlive ws i x inside)
 
-    pub single-stays : f x ≡ some x → (r : Called) → r ≡ calledBy head (head .«writer_count») (stillTally head) → (pens lost : List ℕ) → Settles (trackerCall c s (heldBy head pens w lost)) r w
+    pub single-stays : f x ≡ some x → (r : Called) → r ≡ calledBy head (head .«writer_count») (stillTally head) → (pens lost : List ℕ) → Settles (head .places) (trackerCall c s (heldBy head pens w lost)) r w
     single-stays e r q pens lost =
         let t = still-tallied head ws ws x (good .alive) (good .notAlive) refl refl in
         let u : movers c s ws ≡ [] = gone ∙ rw (e, same-self (classOf (x .liveliness .state))) in
@@ -238,7 +238,7 @@ module _ (c : TrackerCall) (s : Sheet) (f : Writer → Option Writer) (head : He
         (sym (good .size)) (plain pens lost) r w q laid
 
     pub single-gone : f x ≡ none → (r : Called) (w′ : List ℕ) → r ≡ calledBy head (head .«writer_count» - 1) (goneTally head x) →
-        w′ ≡ closed 40 i (head .«writer_count») w → (pens lost : List ℕ) → Settles (trackerCall c s (heldBy head pens w lost)) r w′
+        w′ ≡ closed 40 i (head .«writer_count») w → (pens lost : List ℕ) → Settles (head .places) (trackerCall c s (heldBy head pens w lost)) r w′
     single-gone e r w′ q v pens lost =
         let rest : List Writer = take i ws ++ drop (suc i) ws in
         let t = gone-tallied head ws rest x (good .alive) (good .notAlive) out-alive out-not-alive in
@@ -253,7 +253,7 @@ module _ (c : TrackerCall) (s : Sheet) (f : Writer → Option Writer) (head : He
 
     pub single-departs : f x ≡ some (departed (x .guid)) → (classOf (x .liveliness .state) ≡ neither → ⊥) → (r : Called) (w′ : List ℕ) →
         r ≡ calledBy head (head .«writer_count») (departsTally head x) → w′ ≡ patch w (i * 40) 40 (writerBytes (departed (x .guid))) →
-        (pens lost : List ℕ) → Settles (trackerCall c s (heldBy head pens w lost)) r w′
+        (pens lost : List ℕ) → Settles (head .places) (trackerCall c s (heldBy head pens w lost)) r w′
     unfolding aliveCount notAliveCount
     single-departs e h r w′ q v pens lost =
         let y : Writer = departed (x .guid) in

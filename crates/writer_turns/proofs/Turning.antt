@@ -78,7 +78,7 @@ module _ (c : TrackerCall) (s : Sheet) (head : Head) (pens w lost : List ℕ) (w
       acknowledgedAfter c (aliveCount (writersIn (head .«writer_count») w)) (s .first) (pos (head .alive) -ℤ head .«alive_change») ≡ pos (head .alive) -ℤ head .«alive_change» →
       acknowledgedAfter c (notAliveCount (writersIn (head .«writer_count») w)) (s .second) (pos (head .«not_alive») -ℤ head .«not_alive_change»)
       ≡ pos (head .«not_alive») -ℤ head .«not_alive_change» →
-      settledHead head n lostCount t ≡ headOf (trackerState c s (heldBy head pens w lost))
+      settledHead head n lostCount t ≡ headOf (head .places) (trackerState c s (heldBy head pens w lost))
   unfolding headOf trackerState stateOf
   turn-head lost₂ lostCount e f a b =
       rw (after, who, e, a, b, length-read instanceOf 512 (head .«instance_count») pens, ← size, ← f, k, m, l)
@@ -88,10 +88,10 @@ module _ (c : TrackerCall) (s : Sheet) (head : Head) (pens w lost : List ℕ) (w
   turn-laid = ap writersOf (sym after)
 
   pub turn-settles : Plain c s (heldBy head pens w lost) → (r : Called) (w′ : List ℕ) → r ≡ calledBy head n t → w′ ≡ writersOf ws →
-      Settles (trackerCall c s (heldBy head pens w lost)) r w′
+      Settles (head .places) (trackerCall c s (heldBy head pens w lost)) r w′
   unfolding trackerCall trackerTurn stateOf
   turn-settles p r w′ e f =
-      let h : settledHead head n (head .«lost_count») t ≡ headOf (trackerState c s (heldBy head pens w lost)) =
+      let h : settledHead head n (head .«lost_count») t ≡ headOf (head .places) (trackerState c s (heldBy head pens w lost)) =
       turn-head (guidsIn (head .«lost_count») lost) (head .«lost_count») (ap (λ (z : List Guid). lostAfter c z (guidsIn (head .«lost_count») lost)) (sym who) ∙ p .lost)
       (sym (length-read guidOf 16 (head .«lost_count») lost)) (p .ackAlive) (p .ackNotAlive) in
       let a : saying (not (eqb (t .moved) 0)) ≡ trackerTold c s (heldBy head pens w lost) =

@@ -37,6 +37,7 @@ settledHead h n m t =
       «not_alive_change» = pos (t .counts .«not_alive») -ℤ (pos (h .«not_alive») -ℤ h .«not_alive_change»);
       «last_writer» = t .last;
       changes = (h .changes + t .moved) % 2 ^ 64;
+      places = h .places;
     }
 
 abbrev pub calledBy : Head → ℕ → Tally → Called

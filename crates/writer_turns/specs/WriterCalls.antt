@@ -32,15 +32,15 @@ pub record WritersFormed (head : Head) (writers : List ℕ) : Type 0 where
 abbrev pub heldBy : Head → List ℕ → List ℕ → List ℕ → State
 heldBy head pens writers lost = stateOf record { head = head; pens = pens; writers = writers; lost = lost; out = [] }
 
--- what a call returned and left of the writers is the turn's, laid out
-pub record Settles (t : Turned) (r : Called) (writers : List ℕ) : Type 0 where
+-- what a call returned and left of the writers is the turn's, laid out; the number of places is that of the head it was lent
+pub record Settles (places : ℕ) (t : Turned) (r : Called) (writers : List ℕ) : Type 0 where
   pub answer : r .answer ≡ t .answer
-  pub head : r .head ≡ headOf (t .state)
+  pub head : r .head ≡ headOf places (t .state)
   pub laid : writers ≡ writersOf (t .state .writers)
 
 -- a call on the writers alone: it leaves what model's turn says, whatever the pens and Lost hold
 abbrev pub Turns : TrackerCall → Sheet → Head → List ℕ → Called → List ℕ → Type 0
-Turns c sheet head writers r after = (pens lost : List ℕ) → Settles (trackerCall c sheet (heldBy head pens writers lost)) r after
+Turns c sheet head writers r after = (pens lost : List ℕ) → Settles (head .places) (trackerCall c sheet (heldBy head pens writers lost)) r after
 
 -- a writer leaves: with its participant, or by itself
 abbrev pub leaving : Bool → TrackerCall

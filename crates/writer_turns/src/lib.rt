@@ -52,6 +52,7 @@ pub fn settle(head: Head, writer_count: u32, lost_count: u32, tally: Tally) -> H
         not_alive_change: not_alive_change,
         last_writer: last,
         changes: changes,
+        places: head.places,
     }
 }
 

@@ -22,7 +22,7 @@ use Rattle.model.specs.declared.InstanceHandle.{InstanceHandle}
 use Rattle.model.specs.declared.LivelinessChangedStatus.{LivelinessChangedStatus}
 use Rattle.model.specs.declared.Writer.{Writer}
 use Rattle.model.specs.Reads.{headAlone, headStatus}
-use Rattle.model.specs.State.{aliveCount}
+use Rattle.model.specs.State.{figureOk, aliveCount}
 use Rattle.model.specs.WellFormed.{within, headOk, countsOk, lostOk}
 use Rattle.model.specs.Writers.{publication}
 use Rattle.writer_pass.specs.declared.Counts.{Counts}
@@ -35,15 +35,15 @@ pub head-by : (h : Head) {a b x y : Bool} → leb 1 (h .«next_handle» .0) ≡ 
 unfolding headOk
 head-by h p q r s = sym (rw (p, q, r, s))
 
-pub sizes-by : (h : Head) {a b x y z : Bool} → leb (h .«instance_count») 128 ≡ a → ltb (h .«instance_count») (h .«next_handle» .0) ≡ b →
+pub sizes-by : (h : Head) {a b x y z : Bool} → leb (h .«instance_count») (h .places) ≡ a → ltb (h .«instance_count») (h .«next_handle» .0) ≡ b →
     leb (h .«writer_count») 128 ≡ x → leb (h .alive + h .«not_alive») (h .«writer_count») ≡ y → leb (h .«lost_count») 256 ≡ z →
     (a && (b && (x && (y && z)))) ≡ sizesOk h
 unfolding sizesOk
 sizes-by h p q r s u = sym (rw (p, q, r, s, u))
 
-pub alone-by : (h : Head) {a b : Bool} → headOk h ≡ a → sizesOk h ≡ b → (a && b) ≡ headAlone 128 h
+pub alone-by : (h : Head) {a b c : Bool} → figureOk (h .places) ≡ a → headOk h ≡ b → sizesOk h ≡ c → (a && (b && c)) ≡ headAlone h
 unfolding headAlone sizesOk
-alone-by h p q = sym (rw (p, q))
+alone-by h p q r = sym (rw (p, q, r))
 
 module _ (h : Head) (ws : List Writer) (c : Counts) (e : c ≡ countsOf ws) where
   pub counts-off : (h .alive ≡ c .alive → ⊥) → false ≡ countsOk h ws

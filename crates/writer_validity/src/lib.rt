@@ -111,9 +111,10 @@ pub fn head_ok(h: Head) -> bool
 fn sizes_ok(h: Head) -> bool
     ensures { λ r. ⌜ r ≡ sizesOk h ⌝ }
 {
+    let places = h.places as u32;
     let instances = h.instance_count;
     let writers = h.writer_count;
-    if 128 < instances {
+    if places < instances {
         return false;
     }
     if h.next_handle.0 <= instances as u64 {
@@ -128,10 +129,14 @@ fn sizes_ok(h: Head) -> bool
     h.lost_count <= 256
 }
 
-// Whether some buffers make the head well formed.
+// Whether the head's figure is one of the two, and some buffers make it well formed.
 fn head_alone(h: Head) -> bool
-    ensures { λ r. ⌜ r ≡ headAlone 128 h ⌝ }
+    ensures { λ r. ⌜ r ≡ headAlone h ⌝ }
 {
+    let figure = h.places;
+    if !instance_places::figure_ok(figure) {
+        return false;
+    }
     if !head_ok(h) {
         return false;
     }
@@ -165,9 +170,9 @@ pub fn head_status(h: Head) -> LivelinessChangedStatus
     }
 }
 
-// The liveliness status of a head, refused as 3 where no buffers make the head well formed.
+// The liveliness status of a head, refused as 3 where its figure is another or no buffers make the head well formed.
 pub fn status(h: Head) -> StatusRead
-    ensures { λ r. ⌜ r ≡ statusRead 128 h ⌝ }
+    ensures { λ r. ⌜ r ≡ statusRead h ⌝ }
 {
     if !head_alone(h) {
         return StatusRead::Refused(3);
@@ -177,7 +182,7 @@ pub fn status(h: Head) -> StatusRead
 
 // How many changes of class a head has counted, refused in the same case.
 pub fn changes(h: Head) -> ChangesRead
-    ensures { λ r. ⌜ r ≡ changesRead 128 h ⌝ }
+    ensures { λ r. ⌜ r ≡ changesRead h ⌝ }
 {
     if !head_alone(h) {
         return ChangesRead::Refused(3);

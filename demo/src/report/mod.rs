@@ -188,6 +188,19 @@ mod tests {
         shown
     }
 
+    /// As long as the places suffice, their number is told beside the count of instances alone.
+    #[test]
+    fn a_smaller_console_shows_the_same() {
+        let mut days = Days::new(13);
+        for _ in 0..60 {
+            let day = days.next_day(100);
+            let of = |places: u16| all_shown(&format!("places {places}\n{day}"), FITTING);
+            let mut small = of(32);
+            small.iter_mut().for_each(|text| *text = text.replace(" of 32 places\n", "\n"));
+            assert_eq!(small, of(128), "{day}");
+        }
+    }
+
     /// What is shown goes by the names: that they are hashed changes nothing.
     #[test]
     fn hashed_keys_are_shown_alike() {

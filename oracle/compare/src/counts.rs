@@ -2,8 +2,9 @@
 
 use std::fmt;
 
-/// The least width of a column.
+/// The least width of a column, and of that of the names.
 const WIDTH: usize = 9;
+const NAME_WIDTH: usize = 20;
 
 /// Cases of one sort, counted by fate.
 pub struct Row<C, const N: usize> {
@@ -66,12 +67,14 @@ impl<C, const N: usize> Counts<C, N> {
 impl<C, const N: usize> fmt::Display for Counts<C, N> {
     fn fmt(&self, f: &mut fmt::Formatter<'_>) -> fmt::Result {
         let width = self.fates.iter().map(|fate| fate.len() + 2).fold(WIDTH, usize::max);
+        let names = self.tables.iter().flat_map(|t| &t.rows).map(|row| row.name.len());
+        let column = names.fold(NAME_WIDTH, usize::max);
         for Table { name, rows } in &self.tables {
-            write!(f, "{name:>20}")?;
+            write!(f, "{name:>column$}")?;
             self.fates.iter().try_for_each(|fate| write!(f, "{fate:>width$}"))?;
             writeln!(f)?;
             for Row { name, fates, .. } in rows {
-                write!(f, "{name:>20}")?;
+                write!(f, "{name:>column$}")?;
                 fates.iter().try_for_each(|n| write!(f, "{n:>width$}"))?;
                 writeln!(f)?;
             }

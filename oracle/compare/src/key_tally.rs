@@ -6,7 +6,8 @@ use reading::key_hash::PADDED_MOST;
 
 use crate::counts::{Counts, Row, Table};
 use crate::keys::KeyCase;
-use crate::reads::{ODD_ANSWERS, READ_BYTES};
+use crate::read::READ_BYTES;
+use crate::reads::ODD_ANSWERS;
 
 /// What becomes of a key: its KeyHash, or a refusal.
 const FATES: [&str; 5] = ["padded", "hashed", "14", "15", "1"];

@@ -13,7 +13,8 @@ use reading::key_hash::key_hash;
 use crate::case::hex;
 use crate::guarded::Guarded;
 use crate::key_tally::{KeyTally, fate, key_tally};
-use crate::reads::{FILL, READ_BYTES, answer_length, same_answer};
+use crate::read::{FILL, READ_BYTES, same_answer};
+use crate::reads::answer_length;
 use crate::run::Parting;
 
 /// Where an answer has the KeyHash.

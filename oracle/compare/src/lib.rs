@@ -1,14 +1,19 @@
 //! The static library beside the reading of 01 and 02 and the Rust: generated
-//! lists and keys through all three, wire times through the library and the
-//! reading, every answer and every byte compared.
+//! lists and keys, and calls with every number of places and every length of
+//! pens, through all three; wire times, and what else is lent a head or pens,
+//! through the library and the reading. Every answer and every byte is compared.
 
 pub mod case;
 pub mod counts;
+pub mod figures;
+pub mod fresh;
 pub mod guarded;
+pub mod head_read;
 pub mod key_tally;
 pub mod keys;
 pub mod library;
 pub mod list;
+pub mod read;
 pub mod reads;
 pub mod run;
 pub mod shrink;

@@ -44,7 +44,7 @@ impl List {
         let mut run = Run::of(&list.start, library.call);
         tally.list(&list.start);
         if library.reads
-            && let Err(parting) = reads::same_fresh(&mut rng)
+            && let Err(parting) = reads::any_fresh(&mut rng)
         {
             return Err(Box::new((list, parting)));
         }
@@ -52,11 +52,11 @@ impl List {
             let step = generator.next(&run.state);
             let head = step.damaged_head.unwrap_or(run.image().head);
             let fault = rng.one_in(FAULT_ONE_IN).then(|| Fault::any(&mut rng, &head));
-            list.cases.push(Case { step, fault: fault.filter(|fault| fault.spoils(&head)) });
+            let fault = fault.filter(|fault| fault.spoils(&head, &step.lengths));
+            list.cases.push(Case { step, faults: fault.into_iter().collect() });
             let case = &list.cases[list.cases.len() - 1];
-            let next_handle = run.state.head.next_handle;
             let done = run.call(case).and_then(|answer| {
-                tally.call(case, &answer, next_handle);
+                tally.call(case, &head, &answer);
                 match Sheet::of(&case.step.sheet) {
                     Some(sheet) if library.reads && rng.one_in(READS_ONE_IN) => {
                         reads::same_reads(run.image(), &run.state, sheet, &mut rng, tally)
@@ -87,13 +87,16 @@ impl List {
 
 impl fmt::Display for List {
     fn fmt(&self, f: &mut fmt::Formatter<'_>) -> fmt::Result {
-        if self.start == State::fresh() {
-            writeln!(f, "from the fresh state")?;
+        let places = self.start.head.places;
+        if self.start.is_fresh() {
+            writeln!(f, "from the fresh state of {places} places")?;
         } else {
             writeln!(f, "from {:#?}", self.start)?;
         }
         for (number, case) in self.cases.iter().enumerate() {
-            writeln!(f, "call {}: {case}", number + 1)?;
+            write!(f, "call {}: ", number + 1)?;
+            case.write(f, places)?;
+            writeln!(f)?;
         }
         Ok(())
     }

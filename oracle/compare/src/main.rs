@@ -1,10 +1,11 @@
 //! Compares that many calls of generated lists, that many generated keys, or
-//! wire times, from a seed on.
+//! wire times, from a seed on; or every number of places for instances.
 
 use std::env;
 use std::process::ExitCode;
 use std::time::Instant;
 
+use compare::figures::{compare_figures, linked};
 use compare::keys::compare_keys;
 use compare::list::Library;
 use compare::run::Parting;
@@ -14,18 +15,36 @@ use compare::{KeyCase, List, Tally, library};
 
 const USAGE: &str = "compare SEED CALLS         compare that many calls with the static library
 compare keys SEED COUNT    compare that many KeyHashes with it
-compare times SEED COUNT   compare wire times with it, that many by chance";
+compare times SEED COUNT   compare wire times with it, that many by chance
+compare figures            compare every number of places with every length";
 /// A line of progress after so many calls.
 const PROGRESS: u64 = 1_000_000;
 
+/// What is compared; from a seed on, and how many.
+enum Job {
+    Calls(u64, u64),
+    Keys(u64, u64),
+    Times(u64, u64),
+    Figures,
+}
+
+impl Job {
+    fn of(words: &[&str]) -> Option<Self> {
+        let number = |word: &str| word.parse().ok();
+        Some(match *words {
+            ["figures"] => Self::Figures,
+            ["keys", seed, count] => Self::Keys(number(seed)?, number(count)?),
+            ["times", seed, count] => Self::Times(number(seed)?, number(count)?),
+            [seed, calls] => Self::Calls(number(seed)?, number(calls)?),
+            _ => return None,
+        })
+    }
+}
+
 fn main() -> ExitCode {
     let words: Vec<String> = env::args().skip(1).collect();
-    let (word, numbers) = match words.split_first() {
-        Some((word, numbers)) if word == "keys" || word == "times" => (word.as_str(), numbers),
-        _ => ("", words.as_slice()),
-    };
-    let numbers: Vec<_> = numbers.iter().map(|word| word.parse::<u64>()).collect();
-    let &[Ok(seed), Ok(count)] = numbers.as_slice() else {
+    let words: Vec<&str> = words.iter().map(String::as_str).collect();
+    let Some(job) = Job::of(&words) else {
         eprintln!("{USAGE}");
         return ExitCode::FAILURE;
     };
@@ -33,15 +52,17 @@ fn main() -> ExitCode {
         println!("SKIPPED: no libdcps_c.a (rt staticlib dcps_c, or set DCPS_LIB_DIR)");
         return ExitCode::SUCCESS;
     }
-    // The sources convert no time to the wire: none are needed for that.
-    if !original::PRESENT && word != "times" {
-        println!("SKIPPED: no sources of ZeroDDS (set ZERO_DDS_SRC)");
-        return ExitCode::SUCCESS;
-    }
-    match word {
-        "keys" => keys_compared(seed, count),
-        "times" => times_compared(seed, count),
-        _ => compared(seed, count),
+    match job {
+        // The sources have no wire times, and of the places they judge the calls
+        // where they are at hand: both go without them.
+        Job::Times(seed, count) => times_compared(seed, count),
+        Job::Figures => figures_compared(),
+        _ if !original::PRESENT => {
+            println!("SKIPPED: no sources of ZeroDDS (set ZERO_DDS_SRC)");
+            ExitCode::SUCCESS
+        }
+        Job::Keys(seed, count) => keys_compared(seed, count),
+        Job::Calls(seed, calls) => compared(seed, calls),
     }
 }
 
@@ -84,6 +105,23 @@ fn times_compared(first: u64, count: u64) -> ExitCode {
             println!("too few seeds, none of: {}", missing.join(", "));
         }
         Err((case, parting)) => println!("{case}: {parting:?}"),
+    }
+    ExitCode::FAILURE
+}
+
+/// A sort that no case had fails here too.
+fn figures_compared() -> ExitCode {
+    match compare_figures(linked) {
+        Ok(tally) => {
+            print!("{tally}");
+            let missing = tally.missing();
+            if missing.is_empty() {
+                println!("{} cases, 0 disagreements", tally.cases());
+                return ExitCode::SUCCESS;
+            }
+            println!("none of: {}", missing.join(", "));
+        }
+        Err(parted) => println!("{:?}: {:?}", parted.0, parted.1),
     }
     ExitCode::FAILURE
 }

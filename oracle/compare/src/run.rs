@@ -4,10 +4,9 @@ use judge::compare::judged;
 use lists::Image;
 use original::Original;
 use reading::answer::ANSWER_BYTES;
-use reading::head::HEAD_BYTES;
 use reading::{Answer, Head, State};
 
-use crate::case::{Case, is_head};
+use crate::case::{Case, first_refusal, is_head};
 use crate::guarded::Guarded;
 use crate::library::Lent;
 
@@ -104,18 +103,20 @@ impl<L: FnMut(Lent<'_>) -> u32> Run<L> {
     }
 
     /// The reading's answer and Out. It takes its head by value, so lengths of
-    /// head and answer, and bytes that are no head's, are judged here.
+    /// head and answer, and bytes that are no head's, are judged here; such
+    /// bytes hand their number of places on.
     fn expect(&mut self, case: &Case, lent_head: &[u8]) -> (Answer, Vec<u8>) {
         let step = &case.step;
-        if lent_head.len() != HEAD_BYTES || case.answer_length() != ANSWER_BYTES {
-            return (Answer::refused(1), vec![step.fill; step.lengths.out]);
+        let answer_fits = case.answer_length() == ANSWER_BYTES;
+        if let Some(number) = first_refusal(lent_head).or((!answer_fits).then_some(1)) {
+            return (Answer::refused(number), vec![step.fill; step.lengths.out]);
         }
+        let lent = Head::of_bytes(lent_head);
         if !is_head(lent_head) {
-            return self.image.lend(step, |head, sheet, lent| {
-                reading::call(&mut Head { next_handle: 0, ..*head }, sheet, lent)
-            });
+            let mut bad = Head { next_handle: 0, ..lent };
+            return self.image.lend(step, |_, sheet, lent| reading::call(&mut bad, sheet, lent));
         }
-        self.image.head = Head::of_bytes(lent_head);
+        self.image.head = lent;
         self.image.lend(step, reading::call)
     }
 

@@ -3,6 +3,7 @@
 use lists::image::Lengths;
 use lists::start::count_records;
 use reading::State;
+use reading::bytes::u64_at;
 
 use crate::case::{Case, FIELDS};
 use crate::list::List;
@@ -34,8 +35,13 @@ fn fewer_calls(mut list: List, fails: &mut impl FnMut(&List) -> bool) -> List {
         while from < list.cases.len() {
             let mut candidate = list.clone();
             candidate.cases.drain(from..(from + run).min(list.cases.len()));
-            let taken;
+            let mut lowered = candidate.clone();
+            lowered.cases[from..].iter_mut().for_each(lower_handle);
+            let mut taken;
             (list, taken) = tried(list, candidate, fails);
+            if !taken {
+                (list, taken) = tried(list, lowered, fails);
+            }
             from += if taken { 0 } else { run };
         }
         run /= 2;
@@ -43,9 +49,17 @@ fn fewer_calls(mut list: List, fails: &mut impl FnMut(&List) -> bool) -> List {
     list
 }
 
+/// One less, as the handle is where one instance fewer started before.
+fn lower_handle(case: &mut Case) {
+    if let Some(handle) = case.step.sheet.get_mut(32..40) {
+        let lower = u64_at(handle, 0).saturating_sub(1);
+        handle.copy_from_slice(&lower.to_be_bytes());
+    }
+}
+
 /// Takes out records of the start, and then what else its head has.
 fn emptier_start(mut list: List, fails: &mut impl FnMut(&List) -> bool) -> List {
-    let fresh = List { start: State::fresh(), ..list.clone() };
+    let fresh = List { start: State::fresh(list.start.head.places), ..list.clone() };
     (list, _) = tried(list, fresh, fails);
     let removals: [fn(&mut State, usize) -> bool; 3] = [
         |state, at| removed(&mut state.instances, at),
@@ -78,8 +92,9 @@ fn removed<T>(all: &mut Vec<T>, at: usize) -> bool {
 }
 
 fn plainer_calls(mut list: List, fails: &mut impl FnMut(&List) -> bool) -> List {
+    let stated = Lengths::stated(list.start.head.places);
     for number in 0..list.cases.len() {
-        for plainer in plainer(&list.cases[number]) {
+        for plainer in plainer(&list.cases[number], stated) {
             let mut candidate = list.clone();
             plainer(&mut candidate.cases[number]);
             (list, _) = tried(list, candidate, fails);
@@ -90,15 +105,20 @@ fn plainer_calls(mut list: List, fails: &mut impl FnMut(&List) -> bool) -> List 
 
 type Change = Box<dyn Fn(&mut Case)>;
 
-/// Ways to make a case plainer.
-fn plainer(case: &Case) -> Vec<Change> {
+/// Ways to make a case plainer, in a list with those lengths.
+fn plainer(case: &Case, stated: Lengths) -> Vec<Change> {
     let mut all: Vec<Change> = vec![
-        Box::new(|case| case.fault = None),
+        Box::new(|case| case.faults.clear()),
         Box::new(|case| case.step.damaged_head = None),
         Box::new(|case| case.step.damage.clear()),
-        Box::new(|case| case.step.lengths = Lengths::STATED),
+        Box::new(move |case| case.step.lengths = stated),
         Box::new(|case| case.step.fill = 0),
     ];
+    for at in 0..case.faults.len() {
+        all.push(Box::new(move |case| {
+            removed(&mut case.faults, at);
+        }));
+    }
     let length = case.step.sheet.len();
     for (_, from, to) in FIELDS {
         all.push(Box::new(move |case| case.step.sheet[from.min(length)..to.min(length)].fill(0)));

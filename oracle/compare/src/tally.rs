@@ -2,9 +2,14 @@
 
 use std::fmt;
 
-use lists::FirstOwners;
+use lists::figures::Met;
 use lists::generate::CODES;
-use reading::{Answer, State, sheet};
+use lists::image::Lengths;
+use lists::{Figures, FirstOwners, Step};
+use reading::head::HEAD_BYTES;
+use reading::layout::SMALL;
+use reading::sheet::{SHEET_BYTES, known_code};
+use reading::{Answer, Head, State};
 
 use crate::case::Case;
 
@@ -14,6 +19,11 @@ const NUMBERS: usize = 14;
 #[derive(Debug, Clone)]
 pub struct Tally {
     pub lists: u64,
+    /// Lists with 32 places for instances, and their calls.
+    pub small_lists: u64,
+    pub small_calls: u64,
+    /// Of the list that runs.
+    places: u16,
     pub stored_starts: u64,
     pub calls: u64,
     /// States on which the reads were compared, and the reads.
@@ -27,12 +37,16 @@ pub struct Tally {
     no_code: [u64; NUMBERS],
     outcomes: [u64; 5],
     first_owners: FirstOwners,
+    figures: Figures,
 }
 
 impl Default for Tally {
     fn default() -> Self {
         Self {
             lists: 0,
+            small_lists: 0,
+            small_calls: 0,
+            places: 0,
             stored_starts: 0,
             calls: 0,
             read: 0,
@@ -44,6 +58,7 @@ impl Default for Tally {
             no_code: [0; NUMBERS],
             outcomes: [0; 5],
             first_owners: FirstOwners::default(),
+            figures: Figures::default(),
         }
     }
 }
@@ -51,18 +66,17 @@ impl Default for Tally {
 impl Tally {
     pub fn list(&mut self, start: &State) {
         self.lists += 1;
-        self.stored_starts += u64::from(*start != State::fresh());
+        self.places = start.head.places;
+        self.small_lists += u64::from(self.places == SMALL);
+        self.stored_starts += u64::from(!start.is_fresh());
         self.first_owners.begin();
     }
 
-    /// A call, with the next handle before it.
-    pub fn call(&mut self, case: &Case, answer: &Answer, next_handle: u64) {
+    /// A call, with the head before it, but for a fault of the boundary's own.
+    pub fn call(&mut self, case: &Case, head: &Head, answer: &Answer) {
         self.calls += 1;
-        self.damaged += u64::from(case.step.damages());
-        self.boundary_faults += u64::from(case.fault.is_some());
-        let odd = case.step.lengths != lists::image::Lengths::STATED
-            || case.step.sheet.len() != sheet::SHEET_BYTES;
-        self.odd_lengths += u64::from(odd);
+        self.small_calls += u64::from(self.places == SMALL);
+        self.see_faults(case, head, answer);
         let row = match case.step.code() {
             Some(code) => &mut self.codes[usize::from(code)],
             None => &mut self.no_code,
@@ -71,7 +85,19 @@ impl Tally {
         if case.step.code() == Some(48) && answer.number == 0 {
             self.outcomes[usize::from(answer.outcome)] += 1;
         }
-        self.first_owners.see(&case.step.sheet, answer, next_handle);
+        self.first_owners.see(&case.step.sheet, answer, head.next_handle);
+    }
+
+    fn see_faults(&mut self, case: &Case, head: &Head, answer: &Answer) {
+        let Step { sheet, lengths, .. } = &case.step;
+        self.damaged += u64::from(case.step.damages());
+        self.boundary_faults += u64::from(!case.faults.is_empty());
+        let odd = *lengths != Lengths::stated(self.places) || sheet.len() != SHEET_BYTES;
+        self.odd_lengths += u64::from(odd);
+        let lent = case.head_bytes(head);
+        if lent.len() == HEAD_BYTES {
+            self.figures.see(Met { head: &Head::of_bytes(&lent), lengths, sheet, answer });
+        }
     }
 
     /// How often each number was answered.
@@ -94,6 +120,7 @@ impl fmt::Display for Tally {
             "{} calls of {} lists, {} of them from a state other than fresh",
             self.calls, self.lists, self.stored_starts
         )?;
+        writeln!(f, "{} calls of {} lists with 32 places", self.small_calls, self.small_lists)?;
         writeln!(
             f,
             "{} calls on damaged states, {} with another length of sheet or buffer, {} with a fault in head or answer",
@@ -106,8 +133,7 @@ impl fmt::Display for Tally {
         for code in CODES {
             row(f, &code.to_string(), &self.codes[usize::from(code)])?;
         }
-        let unknown =
-            (0..=255).filter(|c| !sheet::known_code(*c)).map(|c| &self.codes[usize::from(c)]);
+        let unknown = (0..=255).filter(|c| !known_code(*c)).map(|c| &self.codes[usize::from(c)]);
         row(f, "unknown", &sum(unknown))?;
         row(f, "none", &self.no_code)?;
         row(f, "all", &self.numbers())?;
@@ -115,7 +141,7 @@ impl fmt::Display for Tally {
         for (outcome, n) in self.outcomes.iter().enumerate() {
             write!(f, "  {outcome}: {n}")?;
         }
-        write!(f, "\n{}", self.first_owners)
+        write!(f, "\n{}\n{}", self.first_owners, self.figures)
     }
 }
 

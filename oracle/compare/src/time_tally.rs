@@ -4,7 +4,8 @@ use lists::times::{FRACTIONS, MOST_LEFT, REMAINDERS, WHOLE};
 use reading::wire_time::{MILLISECOND, SECOND, wire_fraction};
 
 use crate::counts::{Counts, Row, Table};
-use crate::reads::{ODD_ANSWERS, READ_BYTES};
+use crate::read::READ_BYTES;
+use crate::reads::ODD_ANSWERS;
 use crate::times::{Conversion, TimeCase, Told};
 
 /// What becomes of a conversion: nanoseconds that came back from what they

@@ -9,7 +9,8 @@ use reading::bytes::put;
 use reading::wire_time::{wire_fraction, wire_nanos};
 
 use crate::guarded::Guarded;
-use crate::reads::{FILL, READ_BYTES, answer_length, same_answer};
+use crate::read::{FILL, READ_BYTES, same_answer};
+use crate::reads::answer_length;
 use crate::run::Parting;
 use crate::time_tally::{TimeTally, fate, time_tally};
 

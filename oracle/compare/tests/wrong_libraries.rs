@@ -1,6 +1,8 @@
 //! Wrong implementations in place of the library are caught, and the lists that
 //! catch them come out small.
 
+mod over_bytes;
+
 use compare::library::Lent;
 use compare::list::Library;
 use compare::run::Parting;
@@ -8,35 +10,11 @@ use compare::shrink::shrink;
 use compare::{Case, Fault, List, Tally};
 use lists::Step;
 use lists::fill::Filled;
-use reading::answer::ANSWER_BYTES;
-use reading::head::HEAD_BYTES;
-use reading::{Head, Misreading, State, call_as};
+use over_bytes::over_bytes;
+use reading::layout::FIGURES;
+use reading::{Misreading, State};
 
 const LISTS: u64 = 600;
-
-/// The reading, or a misreading, over the boundary's bytes.
-fn over_bytes(lent: Lent<'_>, misreading: Option<Misreading>) -> u32 {
-    let Lent { head, sheet, pens, writers, lost, out, answer } = lent;
-    if answer.len() != ANSWER_BYTES {
-        return 1;
-    }
-    let mut number = 1;
-    let mut laid = reading::Answer::refused(number);
-    if head.len() == HEAD_BYTES {
-        let mut decoded = Head::of_bytes(head);
-        if decoded.bytes() != head {
-            decoded.next_handle = 0;
-        }
-        let lent = reading::Lent { pens, writers, lost, out };
-        laid = call_as(&mut decoded, sheet, lent, misreading);
-        number = laid.number;
-        if number == 0 {
-            head.copy_from_slice(&decoded.bytes());
-        }
-    }
-    answer.copy_from_slice(&laid.bytes());
-    u32::from(number)
-}
 
 /// The first list that catches a library, with what parts.
 fn caught(call: impl FnMut(Lent<'_>) -> u32 + Copy) -> Option<(List, Parting)> {
@@ -96,15 +74,20 @@ fn a_bad_head_that_wins_over_an_unknown_code_is_caught() {
         lent.answer[0] = number;
         u32::from(number)
     };
-    let case = |code, fault| Case { step: Step::of(Filled::code(code).0), fault };
-    let bad = Some(Fault::HeadByte(28, 7));
-    let list = List {
-        start: State::fresh(),
-        cases: vec![case(39, None), case(22, None), case(39, bad), case(22, bad), case(39, None)],
-    };
-    assert_eq!(list.parts(|lent| over_bytes(lent, None)), None);
-    let small = shrink(&list, |list| list.parts(wrong).is_some());
-    assert_eq!(small.cases, [case(22, bad)].map(plain));
+    for places in FIGURES {
+        let case = |code, faults: &[Fault]| Case {
+            step: Step::of(places, Filled::code(code).0),
+            faults: faults.to_vec(),
+        };
+        let bad = &[Fault::HeadByte(28, 7)];
+        let list = List {
+            start: State::fresh(places),
+            cases: vec![case(39, &[]), case(22, &[]), case(39, bad), case(22, bad), case(39, &[])],
+        };
+        assert_eq!(list.parts(|lent| over_bytes(lent, None)), None);
+        let small = shrink(&list, |list| list.parts(wrong).is_some());
+        assert_eq!(small.cases, [case(22, bad)].map(plain));
+    }
 }
 
 /// As a shrunk list has it.

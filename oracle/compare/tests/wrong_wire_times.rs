@@ -2,7 +2,7 @@
 //! conversion that it gets wrong.
 
 use compare::TimeCase;
-use compare::reads::READ_BYTES;
+use compare::read::READ_BYTES;
 use compare::times::Conversion::{self, Fraction, Nanos};
 use compare::times::{Told, compare_times, laid_out};
 use lists::times::{pairs, points, stretches};

@@ -6,7 +6,7 @@ use lists::rng::Rng;
 use lists::{FirstOwners, Generator, Image, Step};
 use original::Original;
 use reading::accounts::{Accounts, Fed};
-use reading::layout::{LOST_BYTES, PENS_BYTES, WRITERS_BYTES};
+use reading::layout::{LARGE, LOST_BYTES, SMALL, WRITERS_BYTES};
 use reading::{Answer, Misreading, Sheet, State, call_as};
 
 use crate::reads::same_reads;
@@ -18,6 +18,8 @@ const READS_ONE_IN: usize = 24;
 #[derive(Debug, Default, Clone)]
 pub struct Tally {
     pub lists: u64,
+    /// Lists with 32 places for instances.
+    pub small_lists: u64,
     pub calls: u64,
     pub accepted: u64,
     /// Refusals 9 to 13. The Rust's own result had no place either, but for
@@ -47,7 +49,7 @@ pub struct RustBeside {
 
 impl Default for RustBeside {
     fn default() -> Self {
-        Self { rust: None, scratch: Image::fresh() }
+        Self { rust: None, scratch: Image::fresh(LARGE) }
     }
 }
 
@@ -78,7 +80,7 @@ pub fn against_the_rust(
     misreading: Option<Misreading>,
 ) -> Result<Tally, Disagreement> {
     let mut tally = Tally::default();
-    let mut scratch = Image::fresh();
+    let mut scratch = Image::fresh(LARGE);
     for seed in seeds {
         if tally.calls >= calls {
             break;
@@ -97,6 +99,7 @@ fn one_list(
     let (mut generator, start) = Generator::new(seed);
     let mut run = Run::of(start, seed);
     tally.lists += 1;
+    tally.small_lists += u64::from(run.state.head.places == SMALL);
     tally.from_fresh += u64::from(run.accounts.is_some());
     tally.first_owners.begin();
     for call in 0..generator.length() {
@@ -126,7 +129,7 @@ impl Run {
         Self {
             image: Image::of_state(&start),
             rust: Original::at(&start),
-            accounts: (start == State::fresh()).then(Accounts::default),
+            accounts: start.is_fresh().then(Accounts::default),
             state: start,
             rng: Rng::new(seed),
         }
@@ -160,7 +163,7 @@ impl Run {
     fn same_accounts(&mut self, step: &Step, answer: &Answer) -> Result<(), String> {
         let Some(accounts) = &mut self.accounts else { return Ok(()) };
         accounts.feed(&step.sheet, Fed::of(answer));
-        let told = accounts.state();
+        let told = accounts.state(self.state.head.places);
         if told == self.state {
             Ok(())
         } else {
@@ -222,7 +225,7 @@ pub fn same_state(rust: &Original, image: &Image, scratch: &mut Image) -> Result
     let state = rust.state();
     state.write(
         &mut scratch.head,
-        &mut scratch.pens[..PENS_BYTES],
+        &mut scratch.pens,
         &mut scratch.writers[..WRITERS_BYTES],
         &mut scratch.lost[..LOST_BYTES],
     );
@@ -247,7 +250,8 @@ pub fn reading_alone(seeds: impl Iterator<Item = u64>) -> Result<Vec<(Clause, u6
         let (_, state) = Generator::new(seed);
         let mut image = Image::of_state(&state);
         for (clause, count) in &mut counts {
-            let mut step = Step::of(lists::fill::Filled::code(39).0);
+            let code = lists::fill::Filled::code(39);
+            let mut step = Step::of(state.head.places, code.0);
             if lists::damage::one(&mut rng, &state, *clause, &mut step) {
                 let (answer, _) = image.step(&step, reading::call);
                 if answer != Answer::refused(3) {

@@ -5,8 +5,15 @@ use lists::rng::Rng;
 use lists::{Image, Step};
 use original::Original;
 use reading::bytes::Guid;
-use reading::layout::{OUT_BYTES, PENS_BYTES};
+use reading::layout::{FIGURES, OUT_BYTES, pens_bytes};
 use reading::{Sheet, State, reads};
+
+/// Pens with either number of places that takes all instances.
+fn lent_pens<'a>(image: &'a Image, state: &State, rng: &mut Rng) -> &'a [u8] {
+    let places = rng.pick(&FIGURES);
+    let takes = state.instances.len() <= usize::from(places);
+    &image.pens[..pens_bytes(if takes { places } else { state.head.places })]
+}
 
 /// Asks both for every read, with the fields of a sheet.
 pub fn same_reads(
@@ -16,7 +23,7 @@ pub fn same_reads(
     sheet: Sheet<'_>,
     rng: &mut Rng,
 ) -> Result<(), String> {
-    let pens = &image.pens[..PENS_BYTES];
+    let pens = lent_pens(image, state, rng);
     let (key, time1, time2) = (sheet.key(), sheet.time1(), sheet.time2());
     let filter = reads::delivers_under_filter(pens, &key, time2, sheet.a());
     same(
@@ -92,7 +99,7 @@ fn same_ownership(state: &State, sheet: Sheet<'_>) -> Result<(), String> {
     let yes = rust.accepts_sample(&key, guid, strength);
     let asked = Filled::code(16).key(key).guid(guid).strength(strength);
     let mut image = Image::of_state(state);
-    let (answer, _) = image.step(&Step::of(asked.0), reading::call);
+    let (answer, _) = image.step(&Step::of(state.head.places, asked.0), reading::call);
     same("ownership", Ok(answer.yes), Some(yes))?;
     if image.state() == Some(rust.state()) {
         Ok(())

@@ -6,7 +6,7 @@ use lists::fill::{
 use lists::{Image, Step};
 use original::Original;
 use reading::bytes::{Guid, Key};
-use reading::layout::Time;
+use reading::layout::{FIGURES, Time};
 use reading::state::State;
 
 use crate::compare::{judged, same_state};
@@ -133,11 +133,16 @@ fn joined_sheets() -> Vec<Filled> {
     all
 }
 
-/// Runs every list of up to `length` of the sheets; gives the calls made.
+/// Runs every list of up to `length` of the sheets, with each number of places;
+/// gives the calls made.
 pub fn every_list(sheets: &[Filled], length: usize) -> Result<u64, String> {
-    let steps: Vec<Step> = sheets.iter().map(|sheet| Step::of(sheet.0.clone())).collect();
     let mut calls = 0;
-    explore(&steps, &State::fresh(), length, &mut Image::fresh(), &mut calls)?;
+    for places in FIGURES {
+        let of = |sheet: &Filled| Step::of(places, sheet.0.clone());
+        let steps: Vec<Step> = sheets.iter().map(of).collect();
+        let (start, mut scratch) = (State::fresh(places), Image::fresh(places));
+        explore(&steps, &start, length, &mut scratch, &mut calls)?;
+    }
     Ok(calls)
 }
 

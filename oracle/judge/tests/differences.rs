@@ -7,7 +7,7 @@ use lists::{Image, Step};
 use original::Original;
 use reading::bytes::Guid;
 use reading::key_hash::key_hash;
-use reading::layout::{Instance, Standing, Time, Writer};
+use reading::layout::{Instance, LARGE, SMALL, Standing, Time, Writer};
 use reading::md5::md5;
 use reading::{Answer, State};
 
@@ -35,11 +35,11 @@ fn run(start: State, sheets: Vec<Filled>) -> (Answer, State) {
     let mut last = Answer::default();
     let mut state = start;
     for sheet in sheets {
-        let step = Step::of(sheet.0);
+        let step = Step::of(state.head.places, sheet.0);
         let (answer, out) = image.step(&step, reading::call);
         if let Some(rust) = &mut rust {
             judged(rust, &state, &step, &answer, &out).expect("the Rust agrees");
-            same_state(rust, &image, &mut Image::fresh()).expect("the Rust agrees");
+            same_state(rust, &image, &mut Image::fresh(LARGE)).expect("the Rust agrees");
         }
         last = answer;
         state = image.state().expect("well formed");
@@ -52,8 +52,8 @@ fn number(start: State, sheets: Vec<Filled>) -> u8 {
 }
 
 /// `n` instances, the first with a writer set of a size.
-fn instances(n: u8, set: u8) -> State {
-    let mut state = State::fresh();
+fn instances(places: u16, n: u8, set: u8) -> State {
+    let mut state = State::fresh(places);
     for place in 0..n {
         state.instances.push(Instance::fresh([place; 16], u64::from(place) + 1));
     }
@@ -66,7 +66,7 @@ fn instances(n: u8, set: u8) -> State {
 }
 
 fn writers(n: u8) -> State {
-    let mut state = State::fresh();
+    let mut state = State::fresh(LARGE);
     state.writers = (0..n).map(|n| Writer { guid: guid(n), ..Writer::default() }).collect();
     state.head.writer_records = u32::from(n);
     state
@@ -74,7 +74,7 @@ fn writers(n: u8) -> State {
 
 #[test]
 fn what_the_sheet_is_refused_for() {
-    let fresh = State::fresh;
+    let fresh = || State::fresh(LARGE);
     assert_eq!(number(fresh(), vec![key(9).time1(at(0, 1_000_000_000))]), 4);
     assert_eq!(number(fresh(), vec![Filled::code(32).a(1 << 62)]), 5);
     assert_eq!(number(fresh(), vec![key(1).holder(145, &[])]), 6);
@@ -83,14 +83,16 @@ fn what_the_sheet_is_refused_for() {
 
 #[test]
 fn what_there_is_no_place_for() {
-    let mut first_owned = instances(1, 16);
+    let mut first_owned = instances(LARGE, 1, 16);
     first_owned.instances[0].owner = Some((guid(0), 1));
     let seventeenth = |code| Filled::code(code).handle(1).guid(guid(16)).limit(-1);
-    assert_eq!(number(instances(128, 0), vec![Filled::code(1).key([255; 16])]), 9);
-    assert_eq!(number(instances(1, 16), vec![seventeenth(6)]), 10);
+    assert_eq!(number(instances(LARGE, 128, 0), vec![Filled::code(1).key([255; 16])]), 9);
+    assert_eq!(number(instances(SMALL, 32, 0), vec![Filled::code(1).key([255; 16])]), 9);
+    assert_eq!(number(instances(LARGE, 32, 0), vec![Filled::code(1).key([255; 16])]), 0);
+    assert_eq!(number(instances(LARGE, 1, 16), vec![seventeenth(6)]), 10);
     assert_eq!(number(first_owned, vec![seventeenth(48)]), 10);
     assert_eq!(number(writers(128), vec![Filled::code(32).guid(guid(200))]), 11);
-    let mut last_handle = State::fresh();
+    let mut last_handle = State::fresh(LARGE);
     last_handle.head.next_handle = 1 << 63;
     assert_eq!(number(last_handle, vec![key(1)]), 13);
 }
@@ -109,7 +111,7 @@ fn no_place_in_lost() {
 #[test]
 fn a_departed_writer_stays_counted_when_unmatched() {
     let (status, _) =
-        run(State::fresh(), vec![32, 34, 33, 39].into_iter().map(Filled::code).collect());
+        run(State::fresh(LARGE), vec![32, 34, 33, 39].into_iter().map(Filled::code).collect());
     assert_eq!((status.alive, status.not_alive), (0, 1));
 }
 
@@ -118,9 +120,9 @@ fn a_departed_writer_stays_counted_when_unmatched() {
 fn an_admit_owns_what_it_starts() {
     let strong = |code| key(code).guid(guid(1)).strength(5);
     let weak = |code| key(code).guid(guid(2)).strength(1);
-    let (answer, _) = run(State::fresh(), vec![strong(48), weak(48)]);
+    let (answer, _) = run(State::fresh(LARGE), vec![strong(48), weak(48)]);
     assert_eq!((answer.number, answer.outcome), (0, 4));
-    let (answer, _) = run(State::fresh(), vec![strong(16), strong(9), strong(10), weak(16)]);
+    let (answer, _) = run(State::fresh(LARGE), vec![strong(16), strong(9), strong(10), weak(16)]);
     assert!(answer.yes);
 }
 
@@ -148,14 +150,14 @@ fn an_older_time_of_disposal_counts() {
     let disposed = Filled::code(3).handle(1);
     let timed = disposed.clone().time1(at(0, 10)).bits(TIME1_PRESENT);
     let purge = Filled::code(21).time2(at(0, 15)).a(5);
-    let (answer, _) = run(State::fresh(), vec![key(9), timed, key(9), disposed, purge]);
+    let (answer, _) = run(State::fresh(LARGE), vec![key(9), timed, key(9), disposed, purge]);
     assert_eq!(answer.count, 1);
 }
 
 #[test]
 fn unregister_stamps_again() {
     let unregister = |s| Filled::code(4).handle(1).time1(at(s, 0)).bits(TIME1_PRESENT);
-    let (_, state) = run(State::fresh(), vec![key(9), unregister(1), unregister(2)]);
+    let (_, state) = run(State::fresh(LARGE), vec![key(9), unregister(1), unregister(2)]);
     assert_eq!(state.instances[0].no_writers_at, Some(at(2, 0)));
 }
 
@@ -163,6 +165,6 @@ fn unregister_stamps_again() {
 fn a_match_revives_another_writer() {
     let of = |code: u8, n| Filled::code(code).guid(guid(n));
     let first = of(32, 2).b(10).bits(LEASE_PRESENT);
-    let (_, state) = run(State::fresh(), vec![first, Filled::code(37).a(10), of(32, 1).a(11)]);
+    let (_, state) = run(State::fresh(LARGE), vec![first, Filled::code(37).a(10), of(32, 1).a(11)]);
     assert_eq!((state.head.alive, state.head.last_writer), (2, Some(guid(2))));
 }

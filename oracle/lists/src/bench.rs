@@ -185,25 +185,59 @@ fn lapses() -> Vec<Filled> {
     list
 }
 
+/// A state of so many places, with that many instances, whose keys rise from
+/// 1 on as their handles do.
+pub fn numbered(places: u16, instances: u8) -> State {
+    let mut state = State::fresh(places);
+    state.instances = (1..=instances).map(|n| Instance::fresh([n; 16], u64::from(n))).collect();
+    state.head.instances = u32::from(instances);
+    state.head.next_handle = u64::from(instances) + 1;
+    state
+}
+
+/// The calls that start an instance, on key 0.
+fn starting(limit: i32) -> [Filled; 5] {
+    [1, 2, 8, 9, 48].map(|code| Filled::code(code).limit(limit))
+}
+
+/// Takes out the instance with a handle.
+fn purged(handle: u64) -> [Filled; 2] {
+    [Filled::code(3).handle(handle).bits(TIME1_PRESENT), Filled::code(21).b(u64::MAX)]
+}
+
 /// A full table whose next handle is the last, and the calls that would start
 /// an instance: at their limit, without one, and after a place came free.
-pub fn full_table() -> (State, Vec<Filled>) {
-    let mut state = State::fresh();
-    state.instances = (1..=128).map(|n| Instance::fresh([n; 16], u64::from(n))).collect();
-    state.head.instances = 128;
+pub fn full_table(places: u16) -> (State, Vec<Filled>) {
+    let mut state = numbered(places, places as u8);
     state.head.next_handle = 1 << 63;
-    let starting = |limit| [1, 2, 8, 9, 48].map(|code| Filled::code(code).limit(limit));
+    let full = i32::from(places);
     let mut list = Vec::new();
     list.extend(starting(-1));
-    list.extend(starting(128));
-    list.extend(starting(129));
+    list.extend(starting(full));
+    list.extend(starting(full + 1));
     list.push(key(2).limit(0));
     list.push(key(48).limit(0));
-    list.push(Filled::code(3).handle(5).bits(TIME1_PRESENT));
-    list.push(Filled::code(21));
+    list.extend(purged(5));
     list.extend(starting(-1));
-    list.extend(starting(127));
-    list.extend(starting(128));
+    list.extend(starting(full - 1));
+    list.extend(starting(full));
+    (state, list)
+}
+
+/// The last two places are taken, then each that comes free again, by each of
+/// the calls that start an instance.
+pub fn last_places(places: u16) -> (State, Vec<Filled>) {
+    let state = numbered(places, places as u8 - 2);
+    let further = |n: u8| move |sheet: Filled| sheet.key([0xc0 + n; 16]);
+    let mut list = Vec::new();
+    list.extend([9, 48].map(|code| further(code)(Filled::code(code).limit(-1))));
+    for (n, last) in (0..).zip(starting(-1)) {
+        list.extend(starting(-1).map(further(n)));
+        list.extend(starting(i32::from(places)).map(further(n)));
+        list.push(further(n)(Filled::code(48).limit(0)));
+        list.extend(purged(u64::from(n) + 1));
+        list.push(further(n)(last));
+    }
     (state, list)
 }
 

@@ -2,9 +2,11 @@
 
 use std::fmt;
 
+use reading::layout::{LARGE, SMALL};
 use reading::{Answer, Head};
 
-use crate::format::Record;
+use crate::figures::{Figures, Met};
+use crate::format::{Record, Recorded};
 use crate::generate::CODES;
 use crate::owners::FirstOwners;
 
@@ -36,7 +38,10 @@ pub struct Coverage {
     refusals: [u32; 14],
     outcomes: [u32; 5],
     first_owners: FirstOwners,
+    figures: Figures,
     pub lists: u32,
+    /// Lists with 32 places for instances.
+    pub small_lists: u32,
     pub calls: u32,
     /// Lists that do not start fresh.
     pub stored_starts: u32,
@@ -50,7 +55,9 @@ impl Default for Coverage {
             refusals: [0; 14],
             outcomes: [0; 5],
             first_owners: FirstOwners::default(),
+            figures: Figures::default(),
             lists: 0,
+            small_lists: 0,
             calls: 0,
             stored_starts: 0,
             full_records: 0,
@@ -62,14 +69,15 @@ impl Coverage {
     pub fn of(records: &[Record]) -> Self {
         let mut coverage = Self::default();
         let mut at_start = false;
-        let mut head = Head::fresh();
+        let mut head = Head::fresh(LARGE);
         for record in records {
             match record {
-                Record::List(_) => {
+                Record::List(title) => {
                     coverage.lists += 1;
+                    coverage.small_lists += u32::from(title.places == SMALL);
                     coverage.first_owners.begin();
                     at_start = true;
-                    head = Head::fresh();
+                    head = Head::fresh(title.places);
                 }
                 Record::Head(given) => {
                     coverage.stored_starts += u32::from(at_start);
@@ -78,8 +86,7 @@ impl Coverage {
                 }
                 Record::Call(call) => {
                     at_start = false;
-                    coverage.call(call.sheet.get(81).copied(), &call.answer);
-                    coverage.first_owners.see(&call.sheet, &call.answer, head.next_handle);
+                    coverage.recorded(call, &head);
                     head = call.head;
                 }
                 Record::Expect(_) => coverage.full_records += 1,
@@ -87,6 +94,14 @@ impl Coverage {
             }
         }
         coverage
+    }
+
+    /// A recorded call, and the head that it was lent.
+    fn recorded(&mut self, call: &Recorded, head: &Head) {
+        let Recorded { sheet, lengths, answer, .. } = call;
+        self.call(sheet.get(81).copied(), answer);
+        self.first_owners.see(sheet, answer, head.next_handle);
+        self.figures.see(Met { head, lengths, sheet, answer });
     }
 
     /// Whether a call like this is still met too seldom in some respect.
@@ -134,6 +149,11 @@ impl Coverage {
         }
     }
 
+    /// Each number of places, and how many lists have it.
+    fn lists_by_places(&self) -> [(u16, u32); 2] {
+        [(SMALL, self.small_lists), (LARGE, self.lists - self.small_lists)]
+    }
+
     /// What is met less often than it is to be.
     pub fn missing(&self) -> Vec<String> {
         let mut missing = Vec::new();
@@ -164,6 +184,12 @@ impl Coverage {
         }
         for (what, n) in self.first_owners.counts() {
             least(what.into(), n, MET_LEAST);
+        }
+        for (what, n) in self.figures.counts() {
+            least(what.into(), n as u32, MET_LEAST);
+        }
+        for (places, n) in self.lists_by_places() {
+            least(format!("lists with {places} places"), n, self.lists / 2);
         }
         missing
     }
@@ -208,6 +234,8 @@ impl fmt::Display for Coverage {
             "{} lists ({} from a stored state), {} calls, {} records in full",
             self.lists, self.stored_starts, self.calls, self.full_records
         )?;
+        let [(small, n), (large, m)] = self.lists_by_places();
+        writeln!(f, "lists with {small} places: {n}, with {large}: {m}")?;
         writeln!(
             f,
             "code accepted refused     yes/no  present/none  next due/none  listed/empty  counted/0"
@@ -229,6 +257,6 @@ impl fmt::Display for Coverage {
         for (outcome, n) in self.outcomes.iter().enumerate() {
             write!(f, "  {outcome}: {n}")?;
         }
-        writeln!(f, "\n{}", self.first_owners)
+        writeln!(f, "\n{}\n{}", self.first_owners, self.figures)
     }
 }

@@ -3,12 +3,15 @@
 use reading::head::Head;
 use reading::layout::{
     CLOCK_END, GUID_BYTES, HOLDER_PLACES, INSTANCE_BYTES, Instance, LAST_NEXT_HANDLE, LOST_BYTES,
-    NANOSECONDS, PENS_BYTES, SET_PLACES, WRITER_BYTES, WRITERS_BYTES, Writer,
+    NANOSECONDS, SET_PLACES, WRITER_BYTES, WRITERS_BYTES, Writer, pens_bytes,
 };
 use reading::state::State;
 
 use crate::image::{Buffer, Edit, Step};
 use crate::rng::Rng;
+
+/// Numbers of places that are neither console's.
+pub const WRONG_FIGURES: [u16; 8] = [0, 1, 31, 33, 64, 127, 129, u16::MAX];
 
 /// Where the six times of an instance stand.
 const TIMES: [usize; 6] = [44, 52, 60, 68, 76, 84];
@@ -36,6 +39,7 @@ macro_rules! clauses {
 }
 
 clauses! {
+    Places
     InstanceCount
     WriterCount
     LostCount
@@ -98,15 +102,30 @@ pub fn one(rng: &mut Rng, state: &State, clause: Clause, step: &mut Step) -> boo
     edits.is_some()
 }
 
+/// The head with the counts of the records.
+fn counted_head(state: &State) -> Head {
+    Head {
+        instances: state.instances.len() as u32,
+        writer_records: state.writers.len() as u32,
+        lost: state.lost.len() as u32,
+        ..state.head
+    }
+}
+
+/// Gives a step's head, damaged already or not, a number of places.
+pub fn set_places(places: u16, state: &State, step: &mut Step) {
+    let head = step.damaged_head.unwrap_or_else(|| counted_head(state));
+    step.damaged_head = Some(Head { places, ..head });
+}
+
 fn damaged_head(rng: &mut Rng, state: &State, clause: Clause) -> Option<Head> {
-    let mut head = state.head;
-    head.instances = state.instances.len() as u32;
-    head.writer_records = state.writers.len() as u32;
-    head.lost = state.lost.len() as u32;
+    let mut head = counted_head(state);
     match clause {
+        Clause::Places => head.places = rng.pick(&WRONG_FIGURES),
         Clause::InstanceCount => {
             let fewer = head.instances.saturating_sub(1);
-            let others = [fewer, head.instances + 1, 129, u32::MAX];
+            let beyond = u32::from(head.places) + 1;
+            let others = [fewer, head.instances + 1, beyond, 129, u32::MAX];
             head.instances = rng.pick(&others[usize::from(state.instances.is_empty())..]);
         }
         // One more or fewer is no damage where that record is all zero: the
@@ -331,7 +350,8 @@ fn damaged_writers(rng: &mut Rng, state: &State, clause: Clause) -> Option<Vec<E
 fn damaged_unused(rng: &mut Rng, state: &State, clause: Clause) -> Option<Vec<Edit>> {
     let (buffer, used, whole) = match clause {
         Clause::UnusedInstance => {
-            (Buffer::Pens, state.instances.len() * INSTANCE_BYTES, PENS_BYTES)
+            let used = state.instances.len() * INSTANCE_BYTES;
+            (Buffer::Pens, used, pens_bytes(state.head.places))
         }
         Clause::UnusedWriter => {
             (Buffer::Writers, state.writers.len() * WRITER_BYTES, WRITERS_BYTES)

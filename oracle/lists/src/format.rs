@@ -7,14 +7,14 @@
 use reading::answer::ANSWER_BYTES;
 use reading::bytes::{array_at, fnv1a, put, u16_at, u32_at, u64_at};
 use reading::head::HEAD_BYTES;
-use reading::layout::{GUID_BYTES, INSTANCE_BYTES, WRITER_BYTES};
+use reading::layout::{GUID_BYTES, INSTANCE_BYTES, WRITER_BYTES, is_figure};
 use reading::{Answer, Head};
 
 use crate::image::{
     Buffer, Edit, Image, LOST_MOST, Lengths, PENS_MOST, SHEET_MOST, Step, WRITERS_MOST,
 };
 
-pub const VERSION: u32 = 1;
+pub const VERSION: u32 = 2;
 const RECORD_HEAD: usize = 8;
 /// What a call record has before its sheet.
 const CALL_FIELDS: usize = 48 + ANSWER_BYTES + HEAD_BYTES;
@@ -37,6 +37,8 @@ pub const JOINED_CALLS: u8 = 4;
 pub struct Title {
     pub number: u32,
     pub calls: u8,
+    /// For instances: its head becomes fresh with that number.
+    pub places: u16,
     pub seed: u64,
     pub name: [u8; 16],
 }
@@ -123,6 +125,7 @@ fn title_bytes(title: &Title) -> Vec<u8> {
     let mut b = vec![0; 32];
     put(&mut b, 0, &title.number.to_be_bytes());
     b[4] = title.calls;
+    put(&mut b, 6, &title.places.to_be_bytes());
     put(&mut b, 8, &title.seed.to_be_bytes());
     put(&mut b, 16, &title.name);
     b
@@ -174,12 +177,13 @@ pub fn records(file: &[u8]) -> Option<Vec<Record>> {
 
 fn record(kind: u8, b: &[u8]) -> Option<Record> {
     Some(match kind {
-        BEGIN if b.len() == 16 => {
-            Record::Begin { version: u32_at(b, 0), lists: u32_at(b, 4), calls: u32_at(b, 8) }
+        BEGIN if b.len() == 16 && u32_at(b, 0) == VERSION => {
+            Record::Begin { version: VERSION, lists: u32_at(b, 4), calls: u32_at(b, 8) }
         }
-        LIST if b.len() == 32 => Record::List(Title {
+        LIST if b.len() == 32 && is_figure(u16_at(b, 6)) => Record::List(Title {
             number: u32_at(b, 0),
             calls: b[4],
+            places: u16_at(b, 6),
             seed: u64_at(b, 8),
             name: array_at(b, 16),
         }),
@@ -236,7 +240,8 @@ fn call(b: &[u8]) -> Option<Recorded> {
 impl Recorded {
     /// The step that this call was; damage stands in records of its own.
     pub fn step(&self) -> Step {
-        Step { lengths: self.lengths, fill: self.fill, ..Step::of(self.sheet.clone()) }
+        let (sheet, lengths, fill) = (self.sheet.clone(), self.lengths, self.fill);
+        Step { sheet, lengths, fill, damaged_head: None, damage: Vec::new() }
     }
 }
 

@@ -3,13 +3,13 @@
 //! The generator sees the state before each call, so that keys, handles,
 //! times and clocks often meet what is there, on it or one off.
 
-use reading::layout::{CLOCK_END, Instance, NANOSECONDS, Time};
+use reading::layout::{CLOCK_END, FIGURES, Instance, NANOSECONDS, Time};
 use reading::sheet::SHEET_BYTES;
 use reading::state::State;
 
 use crate::damage;
 use crate::fill::{self, Filled};
-use crate::image::{LOST_MOST, Lengths, OUT_MOST, PENS_MOST, SHEET_MOST, Step, WRITERS_MOST};
+use crate::image::{LOST_MOST, Lengths, OUT_MOST, SHEET_MOST, Step, WRITERS_MOST};
 use crate::pools::Pools;
 use crate::rng::Rng;
 use crate::start::{self, Start};
@@ -50,12 +50,23 @@ pub struct Rates {
     pub unknown_code: usize,
     pub odd_length: usize,
     pub damage: usize,
+    /// Another number of places than 32 or 128, in half of these beside another
+    /// length.
+    pub figure: usize,
     pub hostile_field: usize,
 }
 
 impl Rates {
     pub const USUAL: Self =
-        Self { unknown_code: 100, odd_length: 90, damage: 60, hostile_field: 25 };
+        Self { unknown_code: 100, odd_length: 90, damage: 60, figure: 250, hostile_field: 25 };
+    /// Nothing but fields of a sheet.
+    pub const NO_FAULTS: Self = Self {
+        unknown_code: usize::MAX,
+        odd_length: usize::MAX,
+        damage: usize::MAX,
+        figure: usize::MAX,
+        ..Self::USUAL
+    };
 }
 
 /// The calls of one list, made one after another.
@@ -64,14 +75,18 @@ pub struct Generator {
     pools: Pools,
     calls: Calls,
     start: Start,
+    /// For instances.
+    places: u16,
     pub rates: Rates,
     /// Where the list's clock stands; it moves on with the assertions.
     clock: u64,
 }
 
 impl Generator {
-    /// The list of a seed, and the state it starts from.
+    /// The list of a seed, and the state it starts from: that of every other
+    /// seed has 32 places.
     pub fn new(seed: u64) -> (Self, State) {
+        let places = places_of_seed(seed);
         let mut rng = Rng::new(seed);
         let calls =
             rng.pick(&[Calls::Instance, Calls::Liveliness, Calls::Joined, Calls::All, Calls::All]);
@@ -84,15 +99,15 @@ impl Generator {
             18 => Start::NearlyFullLost,
             _ => Start::LastHandles,
         };
-        Self::with(rng, calls, start)
+        Self::with(rng, places, calls, start)
     }
 
-    /// A list of the wanted calls and start.
-    pub fn of(seed: u64, calls: Calls, start: Start) -> (Self, State) {
-        Self::with(Rng::new(seed), calls, start)
+    /// A list of the wanted places, calls and start.
+    pub fn of(seed: u64, places: u16, calls: Calls, start: Start) -> (Self, State) {
+        Self::with(Rng::new(seed), places, calls, start)
     }
 
-    fn with(mut rng: Rng, calls: Calls, start: Start) -> (Self, State) {
+    fn with(mut rng: Rng, places: u16, calls: Calls, start: Start) -> (Self, State) {
         // Full sets and many expiries take many GUIDs; the joined calls meet
         // the same writers again with few.
         let guids = match (start, calls) {
@@ -101,9 +116,9 @@ impl Generator {
             _ => rng.pick(&[2, 4, 6, 20, 24]),
         };
         let pools = Pools::new(&mut rng, guids);
-        let state = start::state(&mut rng, &pools, start);
+        let state = start::state(&mut rng, &pools, places, start);
         let clock = pools.clock;
-        (Self { rng, pools, calls, start, rates: Rates::USUAL, clock }, state)
+        (Self { rng, pools, calls, start, places, rates: Rates::USUAL, clock }, state)
     }
 
     /// A length for the list.
@@ -114,13 +129,19 @@ impl Generator {
     /// The next call of a list whose state is `state`.
     pub fn next(&mut self, state: &State) -> Step {
         let code = self.code();
-        let mut step = Step::of(self.sheet(state, code));
+        let mut step = Step::of(self.places, self.sheet(state, code));
         step.fill = self.rng.pick(&[0, 0x5a, 0xff]);
         if self.rng.one_in(self.rates.odd_length) {
             self.odd_length(&mut step);
         }
         if self.rng.one_in(self.rates.damage) {
             damage::any(&mut self.rng, state, &mut step);
+        }
+        if self.rng.one_in(self.rates.figure) {
+            damage::set_places(self.rng.pick(&damage::WRONG_FIGURES), state, &mut step);
+            if self.rng.one_in(2) {
+                self.odd_length(&mut step);
+            }
         }
         step
     }
@@ -160,14 +181,18 @@ impl Generator {
     /// One length other than stated; a longer sheet, or a shorter one.
     fn odd_length(&mut self, step: &mut Step) {
         let l = &mut step.lengths;
-        let stated = Lengths::STATED;
+        let stated = Lengths::stated(self.places);
+        let other = Lengths::of_other_places(self.places).pens;
         match self.rng.below(5) {
             0 => {
                 let length =
                     self.rng.pick(&[0, 1, 81, 82, SHEET_BYTES - 1, SHEET_BYTES + 1, SHEET_MOST]);
                 step.sheet.resize(length, 0x11);
             }
-            1 => l.pens = self.rng.pick(&[0, 16_384, stated.pens - 1, stated.pens + 1, PENS_MOST]),
+            1 => {
+                let (less, more) = (stated.pens - 1, stated.pens + 1);
+                l.pens = self.rng.pick(&[0, other, other, less, more, stated.pens + 512]);
+            }
             2 => l.writers = self.rng.pick(&[0, stated.writers - 40, WRITERS_MOST]),
             3 => l.lost = self.rng.pick(&[0, stated.lost - 16, LOST_MOST]),
             _ => l.out = self.rng.pick(&[0, stated.out - 8, stated.out + 1, OUT_MOST]),
@@ -406,7 +431,8 @@ impl Generator {
             return (alive, self.acknowledged(head.not_alive, head.not_alive_change));
         }
         let n = state.instances.len() as i32;
-        let limits = [-1, -1, -1, i32::MIN, 0, 1, n - 1, n, n, n + 1, 128, i32::MAX];
+        let full = i32::from(self.places);
+        let limits = [-1, -1, -1, i32::MIN, 0, 1, n - 1, n, n, n + 1, full, i32::MAX];
         let limit = self.rng.pick(&limits);
         let second = match (code, found) {
             (12 | 15, Some(i)) => {
@@ -447,6 +473,11 @@ impl Generator {
         }
         (holder.len() as u16, holder)
     }
+}
+
+/// The number of places in the list of a seed.
+pub fn places_of_seed(seed: u64) -> u16 {
+    FIGURES[(seed % 2) as usize]
 }
 
 /// A clock on `at` or one off.

@@ -1,11 +1,11 @@
 //! Head and buffers as a list keeps them between calls, and one step of a list.
 
-use reading::layout::{LOST_BYTES, OUT_BYTES, PENS_BYTES, WRITERS_BYTES};
+use reading::layout::{LARGE, LOST_BYTES, OUT_BYTES, SMALL, WRITERS_BYTES, pens_bytes};
 use reading::sheet::SHEET_BYTES;
 use reading::{Answer, Head, Lent, State};
 
 /// Longest lengths a list lends; each leaves room for one record too many.
-pub const PENS_MOST: usize = PENS_BYTES + 512;
+pub const PENS_MOST: usize = pens_bytes(LARGE + 1);
 pub const WRITERS_MOST: usize = WRITERS_BYTES + 40;
 pub const LOST_MOST: usize = LOST_BYTES + 16;
 pub const OUT_MOST: usize = OUT_BYTES + 16;
@@ -46,8 +46,16 @@ pub struct Lengths {
 }
 
 impl Lengths {
-    pub const STATED: Self =
-        Self { pens: PENS_BYTES, writers: WRITERS_BYTES, lost: LOST_BYTES, out: OUT_BYTES };
+    /// With so many places for instances.
+    pub const fn stated(places: u16) -> Self {
+        let pens = pens_bytes(places);
+        Self { pens, writers: WRITERS_BYTES, lost: LOST_BYTES, out: OUT_BYTES }
+    }
+
+    /// Pens as long as the other number of places has them.
+    pub fn of_other_places(places: u16) -> Self {
+        Self::stated(if places == SMALL { LARGE } else { SMALL })
+    }
 
     pub fn in_range(&self) -> bool {
         self.pens <= PENS_MOST
@@ -69,8 +77,10 @@ pub struct Step {
 }
 
 impl Step {
-    pub fn of(sheet: Vec<u8>) -> Self {
-        Self { sheet, lengths: Lengths::STATED, fill: 0xa5, damaged_head: None, damage: Vec::new() }
+    /// In a list with so many places for instances.
+    pub fn of(places: u16, sheet: Vec<u8>) -> Self {
+        let lengths = Lengths::stated(places);
+        Self { sheet, lengths, fill: 0xa5, damaged_head: None, damage: Vec::new() }
     }
 
     pub fn damages(&self) -> bool {
@@ -83,9 +93,9 @@ impl Step {
 }
 
 impl Image {
-    pub fn fresh() -> Self {
+    pub fn fresh(places: u16) -> Self {
         Self {
-            head: Head::fresh(),
+            head: Head::fresh(places),
             pens: vec![0; PENS_MOST],
             writers: vec![0; WRITERS_MOST],
             lost: vec![0; LOST_MOST],
@@ -93,7 +103,7 @@ impl Image {
     }
 
     pub fn of_state(state: &State) -> Self {
-        let mut image = Self::fresh();
+        let mut image = Self::fresh(state.head.places);
         state.write(&mut image.head, &mut image.pens, &mut image.writers, &mut image.lost);
         image
     }
@@ -102,7 +112,7 @@ impl Image {
     pub fn state(&self) -> Option<State> {
         State::read(
             &self.head,
-            &self.pens[..PENS_BYTES],
+            self.pens.get(..pens_bytes(self.head.places))?,
             &self.writers[..WRITERS_BYTES],
             &self.lost[..LOST_BYTES],
         )

@@ -4,6 +4,7 @@
 pub mod bench;
 pub mod coverage;
 pub mod damage;
+pub mod figures;
 pub mod fill;
 pub mod first_owner;
 pub mod format;
@@ -22,6 +23,7 @@ pub mod start;
 pub mod times;
 
 pub use coverage::Coverage;
+pub use figures::Figures;
 pub use generate::Generator;
 pub use image::{Image, Step};
 pub use keys::SerializedKey;

@@ -52,7 +52,9 @@ impl Recorder {
         let title = self.records.len();
         let mut named = [0; 16];
         named[..name.len()].copy_from_slice(name.as_bytes());
-        self.records.push(Record::List(Title { number: self.lists, calls: 0, seed, name: named }));
+        let places = start.head.places;
+        let (number, calls) = (self.lists, 0);
+        self.records.push(Record::List(Title { number, calls, places, seed, name: named }));
         let mut image = Image::of_state(start);
         self.start(&image);
         witness.start(start)?;
@@ -78,7 +80,7 @@ impl Recorder {
     }
 
     fn start(&mut self, image: &Image) {
-        if image.head != Head::fresh() {
+        if image.head != Head::fresh(image.head.places) {
             self.records.push(Record::Head(image.head));
         }
         self.records.extend(used(image).into_iter().map(Record::Put));

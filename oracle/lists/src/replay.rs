@@ -1,5 +1,6 @@
 //! Replaying recorded lists.
 
+use reading::layout::LARGE;
 use reading::{Answer, Head, Lent};
 
 use crate::format::{Digests, Record, Recorded};
@@ -20,13 +21,13 @@ pub fn replay(
     records: &[Record],
     mut call: impl FnMut(&mut Head, &[u8], Lent<'_>) -> Answer,
 ) -> (u32, Vec<Difference>) {
-    let mut image = Image::fresh();
+    let mut image = Image::fresh(LARGE);
     let mut differences = Vec::new();
     let (mut list, mut number, mut calls, mut code) = (0, 0, 0, None);
     for record in records {
         let what = match record {
             Record::List(title) => {
-                image = Image::fresh();
+                image = Image::fresh(title.places);
                 (list, number) = (title.number, 0);
                 continue;
             }

@@ -1,7 +1,10 @@
 //! The sample that the repository keeps: section 10's lists and those of 02's
-//! requests, one list that breaks each clause of well-formedness, and generated
-//! lists of every sort.
+//! requests, lists that break each clause of well-formedness, and generated
+//! lists of every sort. Half of each have 32 places for instances.
 
+use std::iter::repeat_n;
+
+use reading::layout::FIGURES;
 use reading::state::State;
 
 use crate::bench;
@@ -20,12 +23,12 @@ const LENGTH: usize = 44;
 /// Steps drawn, every other time, to find one that the sample is short of.
 const DRAWS: usize = 16;
 
-/// Generated lists: which calls, which start, and how many.
-const PLAN: [(Calls, Start, u64); 18] = [
+/// Generated lists: which calls, which start, and how many, an even number.
+const PLAN: [(Calls, Start, usize); 18] = [
     (Calls::Instance, Start::Fresh, 8),
     (Calls::Instance, Start::Any, 6),
     (Calls::Instance, Start::FullInstances, 2),
-    (Calls::Instance, Start::FullSets, 3),
+    (Calls::Instance, Start::FullSets, 4),
     (Calls::Instance, Start::LastHandles, 2),
     (Calls::Liveliness, Start::Fresh, 6),
     (Calls::Liveliness, Start::Any, 4),
@@ -33,11 +36,11 @@ const PLAN: [(Calls, Start, u64); 18] = [
     (Calls::Liveliness, Start::NearlyFullLost, 2),
     (Calls::Joined, Start::Fresh, 8),
     (Calls::Joined, Start::FullSets, 2),
-    (Calls::Joined, Start::NearlyFullLost, 1),
-    (Calls::All, Start::Fresh, 5),
+    (Calls::Joined, Start::NearlyFullLost, 2),
+    (Calls::All, Start::Fresh, 6),
     (Calls::All, Start::Any, 6),
-    (Calls::All, Start::FullInstances, 1),
-    (Calls::All, Start::FullSets, 1),
+    (Calls::All, Start::FullInstances, 2),
+    (Calls::All, Start::FullSets, 2),
     (Calls::All, Start::NearlyFullLost, 2),
     (Calls::All, Start::LastHandles, 2),
 ];
@@ -46,45 +49,62 @@ const PLAN: [(Calls, Start, u64); 18] = [
 const DAMAGES: usize = 3;
 
 /// Refused calls stand closer in the sample than in the long runs.
-const RATES: Rates = Rates { unknown_code: 60, odd_length: 50, damage: 60, hostile_field: 16 };
+const RATES: Rates =
+    Rates { unknown_code: 60, odd_length: 50, damage: 60, figure: 120, hostile_field: 16 };
 
 /// Records the sample of a seed.
 pub fn make(seed: u64, witness: &mut dyn Witness) -> Result<Vec<u8>, String> {
     let mut recorder = Recorder::default();
     for (name, start, sheets) in written() {
-        let mut steps = sheets.into_iter().map(|sheet| Step::of(sheet.0));
+        let of = |sheet: Filled| Step::of(start.head.places, sheet.0);
+        let mut steps = sheets.into_iter().map(of);
         recorder.list(name, 0, &start, |_, _| steps.next(), witness)?;
     }
-    damaged(&mut recorder, seed, witness)?;
-    let mut rng = Rng::new(seed);
-    for (calls, start, many) in PLAN {
-        for _ in 0..many {
-            generated(&mut recorder, rng.number(), calls, start, witness)?;
-        }
+    for places in FIGURES {
+        damaged(&mut recorder, places, seed, witness)?;
     }
-    let mut steps = hostile::several_faults().into_iter();
-    recorder.list("several faults", 0, &State::fresh(), |_, _| steps.next(), witness)?;
+    let mut rng = Rng::new(seed);
+    let planned = PLAN.into_iter().flat_map(|(calls, start, many)| repeat_n((calls, start), many));
+    for ((calls, start), places) in planned.zip(FIGURES.into_iter().cycle()) {
+        generated(&mut recorder, rng.number(), places, calls, start, witness)?;
+    }
+    for places in FIGURES {
+        let mut steps = hostile::several_faults(places).into_iter();
+        let start = State::fresh(places);
+        recorder.list("several faults", 0, &start, |_, _| steps.next(), witness)?;
+        let (start, steps) = hostile::one_too_many(places);
+        let mut steps = steps.into_iter();
+        recorder.list("one too many", 0, &start, |_, _| steps.next(), witness)?;
+    }
     Ok(recorder.bytes())
 }
 
 /// The lists that no seed makes, each with its start.
 fn written() -> Vec<(&'static str, State, Vec<Filled>)> {
+    let lists = bench::lists().into_iter().zip(FIGURES.into_iter().cycle());
     let mut all: Vec<_> =
-        bench::lists().into_iter().map(|(name, sheets)| (name, State::fresh(), sheets)).collect();
-    let (start, sheets) = bench::full_table();
-    all.push(("full table", start, sheets));
-    all.push(("hostile fields", State::fresh(), hostile::sheets()));
+        lists.map(|((name, sheets), places)| (name, State::fresh(places), sheets)).collect();
+    for places in FIGURES {
+        let (start, sheets) = bench::full_table(places);
+        all.push(("full table", start, sheets));
+        let (start, sheets) = bench::last_places(places);
+        all.push(("last places", start, sheets));
+    }
+    for (places, sheets) in hostile::sheets() {
+        all.push(("hostile fields", State::fresh(places), sheets));
+    }
     all
 }
 
 fn generated(
     recorder: &mut Recorder,
     seed: u64,
+    places: u16,
     calls: Calls,
     start: Start,
     witness: &mut dyn Witness,
 ) -> Result<(), String> {
-    let (mut generator, state) = Generator::of(seed, calls, start);
+    let (mut generator, state) = Generator::of(seed, places, calls, start);
     generator.rates = RATES;
     let name = match calls {
         Calls::Instance => "instance calls",
@@ -115,11 +135,15 @@ fn wanted(generator: &mut Generator, state: &State, covered: &Coverage, draws: u
 
 /// A list that damages each clause, from a state that has what each
 /// needs.
-fn damaged(recorder: &mut Recorder, seed: u64, witness: &mut dyn Witness) -> Result<(), String> {
-    let (state, seed) = rich_state(seed);
-    let (mut generator, _) = Generator::of(seed, Calls::All, Start::Any);
-    generator.rates =
-        Rates { unknown_code: usize::MAX, odd_length: usize::MAX, damage: usize::MAX, ..RATES };
+fn damaged(
+    recorder: &mut Recorder,
+    places: u16,
+    seed: u64,
+    witness: &mut dyn Witness,
+) -> Result<(), String> {
+    let (state, seed) = rich_state(places, seed);
+    let (mut generator, _) = Generator::of(seed, places, Calls::All, Start::Any);
+    generator.rates = Rates { hostile_field: RATES.hostile_field, ..Rates::NO_FAULTS };
     let mut rng = Rng::new(seed);
     let mut clauses = (0..DAMAGES).flat_map(|_| Clause::all());
     let mut codes = CODES.iter().cycle();
@@ -134,13 +158,13 @@ fn damaged(recorder: &mut Recorder, seed: u64, witness: &mut dyn Witness) -> Res
 }
 
 /// The first state, from a seed on, that every clause can be broken in.
-fn rich_state(seed: u64) -> (State, u64) {
+fn rich_state(places: u16, seed: u64) -> (State, u64) {
     let mut seed = seed;
     loop {
-        let (_, state) = Generator::of(seed, Calls::All, Start::Any);
+        let (_, state) = Generator::of(seed, places, Calls::All, Start::Any);
         let mut rng = Rng::new(seed);
-        let breaks =
-            |clause: &Clause| damage::one(&mut rng, &state, *clause, &mut Step::of(Vec::new()));
+        let mut step = Step::of(places, Vec::new());
+        let breaks = |clause: &Clause| damage::one(&mut rng, &state, *clause, &mut step);
         if Clause::all().iter().all(breaks) {
             return (state, seed);
         }

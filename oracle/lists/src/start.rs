@@ -13,7 +13,7 @@ pub enum Start {
     Fresh,
     /// A few records, any fields.
     Any,
-    /// 126 to 128 instances.
+    /// All places for instances taken, or all but one or two.
     FullInstances,
     /// Writer sets of 14 to 16 GUIDs.
     FullSets,
@@ -27,15 +27,15 @@ pub enum Start {
 
 const CHANGE_ENDS: [i64; 6] = [-(1 << 30), 1 - (1 << 30), -1, 0, (1 << 30) - 1, 1 << 30];
 
-/// A well-formed state of the wanted sort.
-pub fn state(rng: &mut Rng, pools: &Pools, start: Start) -> State {
-    let mut state = State::fresh();
+/// A well-formed state of the wanted sort, with so many places for instances.
+pub fn state(rng: &mut Rng, pools: &Pools, places: u16, start: Start) -> State {
+    let mut state = State::fresh(places);
     if start == Start::Fresh {
         return state;
     }
     let few = rng.below(6);
     let (instances, writers, lost) = match start {
-        Start::FullInstances => (rng.pick(&[126, 127, 128, 128]), few, rng.below(3)),
+        Start::FullInstances => (usize::from(places) - rng.pick(&[2, 1, 0, 0]), few, rng.below(3)),
         Start::FullWriters => (few, 126 + rng.below(3), rng.below(3)),
         Start::NearlyFullLost => (few, 4 + rng.below(6), 250 + rng.below(7)),
         Start::FullSets => (1 + few, rng.below(7), rng.below(4)),

@@ -7,7 +7,7 @@ use lists::fill::{Filled, LEASE_PRESENT};
 use lists::generate::{Calls, Rates};
 use lists::start::Start;
 use lists::{Generator, Image, Step};
-use reading::layout::{Instance, Kind, Standing, Writer};
+use reading::layout::{FIGURES, Instance, Kind, SMALL, Standing, Writer};
 use reading::{Answer, Sheet, State};
 
 const LISTS: u64 = 100_000;
@@ -183,7 +183,8 @@ struct Met {
 /// One list of at most 30 calls; gives the sentence that fails, if one does.
 fn one_list(seed: u64, console: bool, wrong: Wrong, met: &mut Met) -> Result<(), &'static str> {
     let calls = if seed.is_multiple_of(2) { Calls::Joined } else { Calls::All };
-    let (mut generator, mut before) = Generator::of(seed, calls, Start::Fresh);
+    let places = FIGURES[(seed / 2 % 2) as usize];
+    let (mut generator, mut before) = Generator::of(seed, places, calls, Start::Fresh);
     generator.rates = Rates { damage: usize::MAX, ..Rates::USUAL };
     let mut stands = Stands::default();
     let mut image = Image::of_state(&before);
@@ -339,9 +340,9 @@ fn the_smallest_lists_end_as_stated() {
         (vec![matched(1), admit(1, 2), sheet(34, 1), lapse(9)], &[0, 0, 0, 0], &[1]),
     ];
     for (list, outcomes, writers) in lists {
-        let mut image = Image::fresh();
+        let mut image = Image::fresh(SMALL);
         for (Filled(bytes), outcome) in list.into_iter().zip(outcomes) {
-            let (answer, _) = image.step(&Step::of(bytes), reading::call);
+            let (answer, _) = image.step(&Step::of(SMALL, bytes), reading::call);
             assert_eq!((answer.number, answer.outcome), (0, *outcome));
         }
         let i = find(&image.state().expect("well formed"), &id(7)).expect("there");

@@ -2,8 +2,9 @@
 //! request 1 what 02 says.
 
 use lists::bench;
+use lists::fill::Filled;
 use lists::{Image, Step};
-use reading::layout::Time;
+use reading::layout::{FIGURES, Time};
 use reading::{Answer, State};
 
 /// The answers of a list and the state after it.
@@ -11,17 +12,22 @@ fn run(name: &str) -> (Vec<Answer>, State) {
     run_to(name, usize::MAX)
 }
 
-/// The same of its first calls.
+/// The same of its first calls, which are all accepted and answered alike with
+/// either number of places.
 fn run_to(name: &str, calls: usize) -> (Vec<Answer>, State) {
     let lists = bench::lists();
     let (_, sheets) = lists.into_iter().find(|(n, _)| *n == name).expect("a list of that name");
-    let mut image = Image::fresh();
-    let answers = sheets
-        .into_iter()
-        .take(calls)
-        .map(|sheet| image.step(&Step::of(sheet.0), reading::call).0)
-        .inspect(|answer| assert_eq!(answer.number, 0))
-        .collect();
+    let sheets: Vec<_> = sheets.into_iter().take(calls).collect();
+    let [small, large] = FIGURES.map(|places| answers(State::fresh(places), sheets.clone()));
+    assert_eq!(small.0, large.0);
+    assert!(large.0.iter().all(|answer| answer.number == 0));
+    large
+}
+
+fn answers(start: State, sheets: Vec<Filled>) -> (Vec<Answer>, State) {
+    let mut image = Image::of_state(&start);
+    let step = |sheet: Filled| image.step(&Step::of(start.head.places, sheet.0), reading::call).0;
+    let answers = sheets.into_iter().map(step).collect();
     (answers, image.state().expect("well formed"))
 }
 
@@ -133,9 +139,40 @@ fn a_purged_instance_starts_again() {
 fn other_calls_start_without_an_owner() {
     let (asked, state) = run_to("no first owner", 2);
     assert_eq!((asked[0].yes, asked[1].present), (true, false));
-    assert_eq!(state, State::fresh());
+    assert!(state.is_fresh());
     let (singly, started) = ([0; 4], [[0, 0, 0, 4]; 4].concat());
     assert_eq!(outcomes("no first owner"), [&[0, 0, 0, 4], &singly[..], &started].concat());
     let released = run("no first owner").0.into_iter().skip(9).step_by(4).map(|a| a.yes);
     assert_eq!(released.collect::<Vec<_>>(), [false; 4]);
+}
+
+/// A full table, with its next handle the last: nothing starts, and none at a
+/// limit comes before 9, and that before 13.
+#[test]
+fn a_full_table_of_either_size() {
+    for places in FIGURES {
+        let (start, sheets) = bench::full_table(places);
+        let (answers, _) = self::answers(start, sheets);
+        let numbers: Vec<u8> = answers.iter().map(|a| a.number).collect();
+        let limited = |last| [last, 0, last, 0, 0];
+        let full = [&[9; 5][..], &limited(9), &[9; 5]].concat();
+        let freed = [&[13; 5][..], &limited(13), &[13; 5]].concat();
+        assert_eq!(numbers, [&full[..], &[0; 4], &freed].concat());
+        assert_eq!([answers[9].outcome, answers[28].outcome], [3; 2]);
+    }
+}
+
+/// The last places are taken, and refused and taken again as they come free:
+/// as many instances stand there in the end as there are places.
+#[test]
+fn the_last_places_of_either_size() {
+    for places in FIGURES {
+        let (start, sheets) = bench::last_places(places);
+        let (answers, state) = self::answers(start, sheets);
+        assert_eq!(state.instances.len(), usize::from(places));
+        assert_eq!(state.head.next_handle, u64::from(places) + 6);
+        let round = [9, 9, 9, 9, 9, 9, 0, 9, 0, 0, 0, 0, 0, 0];
+        let numbers: Vec<u8> = answers.iter().map(|a| a.number).collect();
+        assert_eq!(numbers, [&[0; 2][..], &round.repeat(5)].concat());
+    }
 }

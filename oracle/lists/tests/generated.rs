@@ -1,7 +1,9 @@
 //! Generated lists reach what seldom comes about by chance.
 
-use lists::{FirstOwners, Generator, Image, Step, first_owner};
+use lists::figures::Met;
+use lists::{Figures, FirstOwners, Generator, Image, Step, first_owner};
 use reading::State;
+use reading::layout::{FIGURES, SMALL};
 
 const LISTS: u64 = 1_000;
 /// Each is met so often.
@@ -36,10 +38,11 @@ fn admits_start_instances_and_meet_their_first_owners() {
 /// outcomes 4 before another call has set its owner.
 #[test]
 fn first_owners_are_counted() {
-    let counted = first_owner::lists().into_iter().map(|(name, sheets)| {
+    let lists = first_owner::lists().into_iter().zip(FIGURES.into_iter().cycle());
+    let counted = lists.map(|((name, sheets), places)| {
         let mut owners = FirstOwners::default();
-        let mut steps = sheets.into_iter().map(|sheet| Step::of(sheet.0));
-        follow(&mut owners, State::fresh(), |_| steps.next());
+        let mut steps = sheets.into_iter().map(|sheet| Step::of(places, sheet.0));
+        follow(&mut owners, State::fresh(places), |_| steps.next());
         (name, owners.counts().map(|(_, n)| n))
     });
     let expected = [
@@ -50,4 +53,29 @@ fn first_owners_are_counted() {
         ("no first owner", [1, 1]),
     ];
     assert_eq!(counted.collect::<Vec<_>>(), expected);
+}
+
+/// Half of the lists have 32 places, and among them and among the others each
+/// sort of what the number of places decides is met.
+#[test]
+fn either_number_of_places_is_met() {
+    let mut figures = Figures::default();
+    let mut small = 0;
+    for seed in 1..=LISTS {
+        let (mut generator, mut state) = Generator::new(seed);
+        small += u64::from(state.head.places == SMALL);
+        let mut image = Image::of_state(&state);
+        for _ in 0..generator.length() {
+            let step = generator.next(&state);
+            let head = step.damaged_head.unwrap_or(image.head);
+            let (answer, _) = image.step(&step, reading::call);
+            let (lengths, sheet) = (&step.lengths, &step.sheet);
+            figures.see(Met { head: &head, lengths, sheet, answer: &answer });
+            assert_eq!(image.head.places, state.head.places);
+            state = image.state().expect("well formed");
+        }
+    }
+    assert_eq!(small, LISTS / 2);
+    let missing: Vec<_> = figures.counts().filter(|(_, n)| *n == 0).collect();
+    assert!(missing.is_empty(), "{missing:?}");
 }

@@ -23,6 +23,8 @@ pub struct Original {
     instances: InstanceTracker,
     liveliness: LivelinessTracker,
     allocator: Arc<InstanceHandleAllocator>,
+    /// For instances; the trackers have no such number.
+    places: u16,
 }
 
 /// An accepted call's answer and what Out lists, or the refusal of a call
@@ -37,7 +39,7 @@ impl Original {
         let all = state.instances.iter().map(|i| (i.key, to_instance(i))).collect();
         instance_tracker::access::set(&instances, all);
         let liveliness = liveliness_tracker::access::set(&to_held(state));
-        Some(Self { instances, liveliness, allocator })
+        Some(Self { instances, liveliness, allocator, places: state.head.places })
     }
 
     /// The trackers' state in 01's terms.
@@ -58,6 +60,7 @@ impl Original {
                 alive_change: held.alive_change,
                 not_alive_change: held.not_alive_change,
                 last_writer: held.last_writer,
+                places: self.places,
                 next_handle: instance_handle::access::next(&self.allocator),
                 changes: held.changes,
             },
@@ -301,7 +304,7 @@ impl Original {
             return None;
         }
         match t.get_by_keyhash(&sheet.key()) {
-            None if t.len() == layout::PLACES => Some(9),
+            None if t.len() == usize::from(self.places) => Some(9),
             None if self.state_next_handle() == layout::LAST_NEXT_HANDLE => Some(13),
             Some(s)
                 if s.writers.len() == layout::SET_PLACES && !s.writers.contains(&sheet.guid()) =>
@@ -347,11 +350,11 @@ impl Original {
         instance_tracker::access::each(&self.instances, |_, s| {
             set_overflows |= s.writers.len() > layout::SET_PLACES;
         });
-        if self.instances.len() > layout::PLACES {
+        if self.instances.len() > usize::from(self.places) {
             Some(9)
         } else if set_overflows {
             Some(10)
-        } else if held.writers.len() > layout::PLACES {
+        } else if held.writers.len() > layout::WRITER_PLACES {
             Some(11)
         } else if held.lost.len() > layout::LOST_PLACES {
             Some(12)

@@ -112,8 +112,9 @@ impl Accounts {
         }
     }
 
-    /// Head and records as the accounts have them.
-    pub fn state(&self) -> State {
+    /// Head and records as the accounts have them, on either console: what
+    /// they tell does not depend on its number of places.
+    pub fn state(&self, places: u16) -> State {
         let [alive, not_alive] = self.counts();
         State {
             head: Head {
@@ -125,6 +126,7 @@ impl Accounts {
                 alive_change: (alive - self.acknowledged[0]) as i32,
                 not_alive_change: (not_alive - self.acknowledged[1]) as i32,
                 last_writer: self.last_writer,
+                places,
                 next_handle: self.started + 1,
                 changes: self.changes,
             },

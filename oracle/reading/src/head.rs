@@ -14,12 +14,14 @@ pub struct Head {
     pub alive_change: i32,
     pub not_alive_change: i32,
     pub last_writer: Option<Guid>,
+    /// The number of places for instances, set when the state is fresh.
+    pub places: u16,
     pub next_handle: u64,
     pub changes: u64,
 }
 
 impl Head {
-    pub fn fresh() -> Self {
+    pub fn fresh(places: u16) -> Self {
         Self {
             instances: 0,
             writer_records: 0,
@@ -29,6 +31,7 @@ impl Head {
             alive_change: 0,
             not_alive_change: 0,
             last_writer: None,
+            places,
             next_handle: 1,
             changes: 0,
         }
@@ -44,6 +47,7 @@ impl Head {
         put(&mut b, 20, &self.alive_change.to_be_bytes());
         put(&mut b, 24, &self.not_alive_change.to_be_bytes());
         put(&mut b, 28, &u16::from(self.last_writer.is_some()).to_be_bytes());
+        put(&mut b, 30, &self.places.to_be_bytes());
         put(&mut b, 32, &self.next_handle.to_be_bytes());
         put(&mut b, 40, &self.changes.to_be_bytes());
         put(&mut b, 48, &self.last_writer.unwrap_or([0; 16]));
@@ -60,6 +64,7 @@ impl Head {
             alive_change: i32_at(b, 20),
             not_alive_change: i32_at(b, 24),
             last_writer: (u16_at(b, 28) != 0).then(|| array_at(b, 48)),
+            places: u16_at(b, 30),
             next_handle: u64_at(b, 32),
             changes: u64_at(b, 40),
         }

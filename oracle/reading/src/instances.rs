@@ -8,7 +8,7 @@ use crate::answer::Answer;
 use crate::bytes::{Guid, Key, prefix_of};
 use crate::effects;
 use crate::handles;
-use crate::layout::{Instance, LAST_NEXT_HANDLE, PLACES, Time};
+use crate::layout::{Instance, LAST_NEXT_HANDLE, SMALL, Time};
 use crate::sheet::Sheet;
 use crate::state::State;
 
@@ -75,9 +75,11 @@ fn on_key(state: &mut State, sheet: Sheet<'_>, act: impl Fn(&mut Instance, Sheet
 
 /// Refusals 9 and 13, for a key that is not there.
 pub fn no_room(state: &State, key: &Key) -> Option<u8> {
+    let misread = state.misreads(Misreading::NineAtThirtyTwo);
+    let places = if misread { SMALL } else { state.head.places };
     if state.place(key).is_ok() {
         None
-    } else if state.instances.len() == PLACES {
+    } else if state.instances.len() >= usize::from(places) {
         Some(9)
     } else if state.head.next_handle == LAST_NEXT_HANDLE {
         Some(13)

@@ -8,15 +8,19 @@ use crate::bytes::{Guid, Key, array_at, i32_at, put, u16_at, u32_at, u64_at};
 pub const INSTANCE_BYTES: usize = 512;
 pub const WRITER_BYTES: usize = 40;
 pub const GUID_BYTES: usize = 16;
-/// Instances, and writer records, that there are places for.
-pub const PLACES: usize = 128;
+/// Instances that there are places for: on the bench-top console, and on the
+/// large one.
+pub const SMALL: u16 = 32;
+pub const LARGE: u16 = 128;
+pub const FIGURES: [u16; 2] = [SMALL, LARGE];
+/// Writer records that there are places for, on either.
+pub const WRITER_PLACES: usize = 128;
 /// GUIDs that one instance's writer set has places for.
 pub const SET_PLACES: usize = 16;
 /// GUIDs that Lost has places for.
 pub const LOST_PLACES: usize = 256;
 pub const HOLDER_PLACES: usize = 144;
-pub const PENS_BYTES: usize = PLACES * INSTANCE_BYTES;
-pub const WRITERS_BYTES: usize = PLACES * WRITER_BYTES;
+pub const WRITERS_BYTES: usize = WRITER_PLACES * WRITER_BYTES;
 pub const LOST_BYTES: usize = LOST_PLACES * GUID_BYTES;
 pub const OUT_BYTES: usize = 4096;
 /// Clocks and leases stay below this.
@@ -24,6 +28,21 @@ pub const CLOCK_END: u64 = 1 << 62;
 /// The last value the next handle may have.
 pub const LAST_NEXT_HANDLE: u64 = 1 << 63;
 pub const NANOSECONDS: u32 = 1_000_000_000;
+
+/// The length of pens with so many places.
+pub const fn pens_bytes(places: u16) -> usize {
+    places as usize * INSTANCE_BYTES
+}
+
+/// The number of places that a length of pens has, where it has one.
+pub fn places_of(length: usize) -> Option<u16> {
+    FIGURES.into_iter().find(|places| pens_bytes(*places) == length)
+}
+
+/// Whether a head may have that number of places.
+pub fn is_figure(places: u16) -> bool {
+    FIGURES.contains(&places)
+}
 
 #[derive(Debug, Clone, Copy, PartialEq, Eq, Default)]
 pub struct Time {

@@ -28,7 +28,7 @@ pub use sheet::Sheet;
 pub use state::State;
 
 use instances::Turn;
-use layout::{LOST_BYTES, OUT_BYTES, PENS_BYTES, WRITERS_BYTES};
+use layout::{LARGE, LOST_BYTES, OUT_BYTES, WRITERS_BYTES, is_figure, pens_bytes, places_of};
 
 /// Readings that are wrong in one place; the comparison must catch each.
 #[derive(Debug, Clone, Copy, PartialEq, Eq)]
@@ -47,10 +47,14 @@ pub enum Misreading {
     ObservedOwns,
     /// An instance that a sample revives counts as started: nobody is asked.
     RevivedHandedOver,
+    /// Refusal 9 counts to 32 on the large console too.
+    NineAtThirtyTwo,
+    /// An accepted call leaves the large console's number of places.
+    PlacesBecomeLarge,
 }
 
 impl Misreading {
-    pub const ALL: [Self; 10] = [
+    pub const ALL: [Self; 12] = [
         Self::RevivesOnLastAssertion,
         Self::RegisterSetsViewNew,
         Self::UnregisterEmptiesWriters,
@@ -61,6 +65,8 @@ impl Misreading {
         Self::FirstOwnerAtSampleTime,
         Self::ObservedOwns,
         Self::RevivedHandedOver,
+        Self::NineAtThirtyTwo,
+        Self::PlacesBecomeLarge,
     ];
 }
 
@@ -70,6 +76,17 @@ pub struct Lent<'a> {
     pub writers: &'a mut [u8],
     pub lost: &'a mut [u8],
     pub out: &'a mut [u8],
+}
+
+/// Makes the fresh state; the length of pens tells its number of places. The
+/// number of a refusal, which writes nothing, or 0.
+pub fn fresh(head: &mut Head, pens: &mut [u8], writers: &mut [u8], lost: &mut [u8]) -> u8 {
+    let Some(places) = places_of(pens.len()) else { return 1 };
+    if [writers.len(), lost.len()] != [WRITERS_BYTES, LOST_BYTES] {
+        return 1;
+    }
+    State::fresh(places).write(head, pens, writers, lost);
+    0
 }
 
 /// One call. A refused one writes nothing.
@@ -92,6 +109,9 @@ pub fn call_as(
     match act(&mut state, sheet) {
         Ok((answer, listed)) => {
             state.write(head, lent.pens, lent.writers, lent.lost);
+            if misreading == Some(Misreading::PlacesBecomeLarge) {
+                head.places = LARGE;
+            }
             lent.out[..listed.len()].copy_from_slice(&listed);
             answer
         }
@@ -99,11 +119,15 @@ pub fn call_as(
     }
 }
 
-/// Refusals 1 to 8, lowest first.
+/// Refusals 1 to 8, lowest first but for a number of places that is neither
+/// console's: no length can be judged by it.
 fn accept<'a>(head: &Head, sheet: &'a [u8], lent: &Lent<'_>) -> Result<(Sheet<'a>, State), u8> {
+    if !is_figure(head.places) {
+        return Err(3);
+    }
     let sheet = Sheet::of(sheet).ok_or(1)?;
     let lengths = [lent.pens.len(), lent.writers.len(), lent.lost.len(), lent.out.len()];
-    if lengths != [PENS_BYTES, WRITERS_BYTES, LOST_BYTES, OUT_BYTES] {
+    if lengths != [pens_bytes(head.places), WRITERS_BYTES, LOST_BYTES, OUT_BYTES] {
         return Err(1);
     }
     if !sheet::known_code(sheet.code()) {

@@ -10,7 +10,7 @@ use crate::bytes::{Guid, Prefix, prefix_of};
 use crate::handles;
 use crate::head::Head;
 use crate::instances::Turn;
-use crate::layout::{LOST_PLACES, PLACES, Standing, Writer, WriterKind};
+use crate::layout::{LOST_PLACES, Standing, WRITER_PLACES, Writer, WriterKind};
 use crate::sheet::Sheet;
 use crate::state::{Class, State, class, count, within_span};
 
@@ -69,7 +69,7 @@ fn matched(state: &mut State, sheet: Sheet<'_>) -> Result<Answer, u8> {
     let kind = WriterKind::from_bits(sheet.kind_bits()).unwrap_or_default();
     let (guid, lease, clock) = (sheet.guid(), sheet.optional_lease(), sheet.a());
     let place = place(&state.writers, &guid);
-    if place.is_err() && state.writers.len() == PLACES {
+    if place.is_err() && state.writers.len() == WRITER_PLACES {
         return Err(11);
     }
     let twisted = state.misreads(Misreading::RevivesOnLastAssertion);

@@ -1,5 +1,6 @@
-//! Section 7's reads. Those of instances are lent the table and no head: its
-//! used records are the ones before the first whose handle is 0.
+//! Section 7's reads. Those of instances are lent the table and no head: it
+//! has either length, and its used records are the ones before the first whose
+//! handle is 0.
 
 use crate::Answer;
 use crate::bytes::{Guid, Key, array_at};
@@ -7,7 +8,7 @@ use crate::effects::{filter_admits, order_admits};
 use crate::head::Head;
 use crate::layout::{
     GUID_BYTES, INSTANCE_BYTES, Instance, Kind, LAST_NEXT_HANDLE, LOST_BYTES, LOST_PLACES,
-    OUT_BYTES, PENS_BYTES, PLACES, Time, WRITERS_BYTES,
+    OUT_BYTES, Time, WRITER_PLACES, WRITERS_BYTES, is_figure, places_of,
 };
 use crate::liveliness;
 use crate::state::{State, within_span};
@@ -18,14 +19,12 @@ pub const VIEW_NOT_NEW: u32 = 2;
 
 /// The instances of a table, or refusal 1 or 3.
 pub fn table(pens: &[u8]) -> Result<Vec<Instance>, u8> {
-    if pens.len() != PENS_BYTES {
-        return Err(1);
-    }
+    let places = places_of(pens.len()).ok_or(1)?;
     let used = |record: &&[u8]| record[16..24] != [0; 8];
     let head = Head {
         instances: pens.chunks(INSTANCE_BYTES).take_while(used).count() as u32,
         next_handle: LAST_NEXT_HANDLE,
-        ..Head::fresh()
+        ..Head::fresh(places)
     };
     let state = State::read(&head, pens, &[0; WRITERS_BYTES], &[0; LOST_BYTES]).ok_or(3)?;
     Ok(state.instances)
@@ -129,9 +128,9 @@ pub fn holder_in_force(pens: &[u8], key: &Key, offered: &[u8]) -> Vec<u8> {
 
 /// Refusal 3 for a head that no buffers go with.
 fn head_fits(head: &Head) -> Result<(), u8> {
-    let places = PLACES as u32;
-    let fits = head.instances <= places
-        && head.writer_records <= places
+    let fits = is_figure(head.places)
+        && head.instances <= u32::from(head.places)
+        && head.writer_records <= WRITER_PLACES as u32
         && head.lost <= LOST_PLACES as u32
         && u64::from(head.alive) + u64::from(head.not_alive) <= u64::from(head.writer_records)
         && (1..=LAST_NEXT_HANDLE).contains(&head.next_handle)

@@ -4,8 +4,8 @@ use crate::Misreading;
 use crate::bytes::{Guid, Key, all_zero};
 use crate::head::Head;
 use crate::layout::{
-    GUID_BYTES, INSTANCE_BYTES, Instance, LAST_NEXT_HANDLE, LOST_PLACES, PLACES, Standing,
-    WRITER_BYTES, Writer, strictly_rising,
+    GUID_BYTES, INSTANCE_BYTES, Instance, LAST_NEXT_HANDLE, LOST_PLACES, Standing, WRITER_BYTES,
+    WRITER_PLACES, Writer, is_figure, strictly_rising,
 };
 
 /// Count minus change stays within this on both sides of 0.
@@ -23,9 +23,9 @@ pub struct State {
 }
 
 impl State {
-    pub fn fresh() -> Self {
+    pub fn fresh(places: u16) -> Self {
         Self {
-            head: Head::fresh(),
+            head: Head::fresh(places),
             instances: Vec::new(),
             writers: Vec::new(),
             lost: Vec::new(),
@@ -33,17 +33,26 @@ impl State {
         }
     }
 
+    /// Whether nothing has happened yet.
+    pub fn is_fresh(&self) -> bool {
+        *self == Self::fresh(self.head.places)
+    }
+
     /// None where head and buffers are not well formed. The buffers have
     /// their lengths.
     pub fn read(head: &Head, pens: &[u8], writers: &[u8], lost: &[u8]) -> Option<Self> {
+        if !is_figure(head.places) {
+            return None;
+        }
+        let places = usize::from(head.places);
         let state = Self {
             head: *head,
-            instances: records(pens, INSTANCE_BYTES, head.instances, PLACES, Instance::of_record)?,
+            instances: records(pens, INSTANCE_BYTES, head.instances, places, Instance::of_record)?,
             writers: records(
                 writers,
                 WRITER_BYTES,
                 head.writer_records,
-                PLACES,
+                WRITER_PLACES,
                 Writer::of_record,
             )?,
             lost: records(lost, GUID_BYTES, head.lost, LOST_PLACES, |b| b.try_into().ok())?,
@@ -55,7 +64,8 @@ impl State {
     /// The clauses beyond those of single records and unused bytes.
     pub fn well_formed(&self) -> bool {
         let head = &self.head;
-        strictly_rising(&self.instances, |i| i.key)
+        is_figure(head.places)
+            && strictly_rising(&self.instances, |i| i.key)
             && strictly_rising(&self.writers, |w| w.guid)
             && (1..=LAST_NEXT_HANDLE).contains(&head.next_handle)
             && handles_fit(&self.instances, head.next_handle)

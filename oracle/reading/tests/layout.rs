@@ -103,7 +103,12 @@ fn a_departed_writer_and_an_all_zero_one() {
 
 #[test]
 fn a_head_comes_back() {
-    let head =
-        Head { alive_change: -5, last_writer: Some([9; 16]), changes: u64::MAX, ..Head::fresh() };
+    let head = Head {
+        alive_change: -5,
+        last_writer: Some([9; 16]),
+        changes: u64::MAX,
+        ..Head::fresh(0x1234)
+    };
+    assert_eq!(head.bytes()[28..32], [0, 1, 0x12, 0x34]);
     assert_eq!(Head::of_bytes(&head.bytes()), head);
 }

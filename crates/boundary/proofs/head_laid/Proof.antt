@@ -1,58 +1,36 @@
 -- `boundary::head_laid` meets its contract. Assumes nothing.
 use native.Mathlib.Omega.{arith}
 use borrow.Author.Needs.{needs}
-use Rattle.boundary.proofs.Read.{laid-many, laid-spare, laid-present, laid-high, laid-low}
+use Rattle.boundary.proofs.Read.{laid-many, laid-present, laid-high, laid-low}
 use Rattle.boundary.proofs.head_laid.Statement.{statement}
 use Rattle.boundary.proofs.head_laid.Tie as tie
 
 get-u16-requires : tie.Need-get-u16-requires
 get-u16-requires c κs = search needs
 
-get-u16-requires-2 : tie.Need-get-u16-requires-2
-get-u16-requires-2 c κs = search needs
-
 returns : tie.Need-returns
-returns c = laid-many (c .before .before .before .before .args .b .now) (c .before .before .get-u16 .ensures) (omega arith)
+returns c = laid-many (c .before .before .before .args .b .now) (c .before .get-u16 .ensures) (omega arith)
 
 returns-2 : tie.Need-returns-2
-returns-2 c = laid-spare (c .before .before .before .before .before .args .b .now) (c .before .before .get-u162 .ensures) (λ e. omega arith)
-
-returns-3 : tie.Need-returns-3
-returns-3 c =
-    let a = c .before .before .before .before .before .before in
-    laid-present (a .args .b .now) (c .before .before .before .before .get-u16 .ensures) (c .before .before .before .get-u162 .ensures) (omega arith)
-    (omega arith)
+returns-2 c = laid-present (c .before .before .before .before .args .b .now) (c .before .before .get-u16 .ensures) (omega arith)
 
 get-u64-requires : tie.Need-get-u64-requires
 get-u64-requires c κs = search needs
 
-returns-4 : tie.Need-returns-4
-returns-4 c =
-    let k = c .before .before .before .before .before .before in
-    let a = k .before .before in
-    laid-high (a .args .b .now) (k .get-u16 .ensures) (c .before .get-u64 .ensures) (λ e. omega arith) (λ e. omega arith)
+returns-3 : tie.Need-returns-3
+returns-3 c =
+    let k = c .before .before .before .before in
+    laid-high (k .before .before .args .b .now) (k .get-u16 .ensures) (c .before .get-u64 .ensures) (λ e. omega arith) (λ e. omega arith)
 
 get-u64-requires-2 : tie.Need-get-u64-requires-2
 get-u64-requires-2 c κs = search needs
 
-returns-5 : tie.Need-returns-5
-returns-5 c =
-    let k = c .before .before .before .before .before .before in
-    let l = k .before in
-    let a = l .before .before in
-    laid-low (a .args .b .now) (l .get-u16 .ensures) (k .get-u162 .ensures) (c .before .before .get-u64 .ensures) (c .get-u642 .ensures) (omega arith)
-    (omega arith) (λ e. omega arith) (omega arith)
+returns-4 : tie.Need-returns-4
+returns-4 c =
+    let k = c .before .before .before .before .before in
+    laid-low (k .before .before .args .b .now) (k .get-u16 .ensures) (c .before .before .get-u64 .ensures) (c .get-u642 .ensures) (omega arith)
+    (λ e. omega arith) (omega arith)
 
 pub head-laid-spec : {M : Type 1} → statement M
 head-laid-spec =
-    tie.close
-    (tie.spec
-    get-u16-requires
-    get-u16-requires-2
-    returns
-    returns-2
-    returns-3
-    get-u64-requires
-    returns-4
-    get-u64-requires-2
-    returns-5)
+    tie.close (tie.spec get-u16-requires returns returns-2 get-u64-requires returns-3 get-u64-requires-2 returns-4)

@@ -34,8 +34,12 @@ signed-at-requires-2 c κs = search needs
 get-u64-requires-2 : tie.Need-get-u64-requires-2
 get-u64-requires-2 c κs = search needs
 
+get-u16-requires : tie.Need-get-u16-requires
+get-u16-requires c κs = search needs
+
 returns : tie.Need-returns
-returns c =
+returns d =
+    let c = d .before in
     head-read (c .before .before .before .before .before .before .before .before .before .before .before .args .b .now)
     (c .before .before .before .before .before .before .before .get-u32 .ensures)
     (c .before .before .before .before .before .before .get-u322 .ensures)
@@ -47,6 +51,7 @@ returns c =
     (c .before .before .before .before .before .before .before .before .before .read-last .ensures)
     (c .before .before .before .before .before .before .before .before .get-u64 .ensures)
     (c .get-u642 .ensures)
+    (d .get-u16 .ensures)
 
 pub read-head-spec : {M : Type 1} → statement M
 read-head-spec =
@@ -62,4 +67,5 @@ read-head-spec =
     signed-at-requires
     signed-at-requires-2
     get-u64-requires-2
+    get-u16-requires
     returns)

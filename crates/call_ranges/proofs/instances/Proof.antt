@@ -1,5 +1,4 @@
 -- `instances` meets its contract: refused as 3, else the call on the instances. Assumes nothing.
-use native.Mathlib.Omega.{arith}
 use borrow.Author.Needs.{needs}
 use Rattle.model.specs.Calls.{instances}
 use Rattle.call_ranges.proofs.Ranges.{formed-parts, entered, refused-3, by-code}
@@ -10,7 +9,7 @@ instance-call-requires : tie.Need-instance-call-requires
 instance-call-requires c κs = let a = c .before .before .before .before in (a .pre .4, a .pre .5)
 
 state-ok-requires : tie.Need-state-ok-requires
-state-ok-requires c κs = let a = c .before .before .before .before .before .before in (a .pre .0, a .pre .1, a .pre .2)
+state-ok-requires c κs = let a = c .before .before .before .before .before .before in (a .pre .0, a .pre .1, a .pre .2, a .pre .6)
 
 refused-requires : tie.Need-refused-requires
 refused-requires c κs = search needs
@@ -24,7 +23,7 @@ returns c =
     let k = s .before .before in
     let a = k .before .before .before .before .before in
     let g = a .args in
-    refused-3 (g .head) (g .pens .now) (g .writers .now) (g .lost .now) (g .out .now) (g .s) (s .state-ok .result) (s .state-ok .ensures (g .out .now))
+    refused-3 (g .places) (g .head) (g .pens .now) (g .writers .now) (g .lost .now) (g .out .now) (g .s) (s .state-ok .result) (s .state-ok .ensures (g .out .now))
     (instances (k .instance-call .result)) (k .instance-call .ensures) (c .before .if1 .taken) (c .refused .result) (c .refused .ensures)
 
 instance-turn-requires : tie.Need-instance-turn-requires
@@ -34,7 +33,7 @@ instance-turn-requires c κs =
     let k = s .before .before in
     let a = k .before .before .before .before .before in
     let g = a .args in
-    (omega arith, a .pre .0, a .pre .3, formed-parts (g .head) (g .pens .now) (g .writers .now) (g .lost .now) (g .out .now) (g .s) (s .state-ok .result) (s .state-ok .ensures (g .out .now)) (f .if1 .left) .pens)
+    (a .pre .7, a .pre .0, a .pre .3, formed-parts (g .places) (g .head) (g .pens .now) (g .writers .now) (g .lost .now) (g .out .now) (g .s) (s .state-ok .result) (s .state-ok .ensures (g .out .now)) (f .if1 .left) .pens)
 
 same-length-2 : tie.Need-same-length-2
 same-length-2 c = search needs
@@ -50,9 +49,9 @@ returns-2 c =
     let k = s .before .before in
     let a = k .before .before .before .before .before in
     let g = a .args in
-    by-code (g .head) (g .pens .now) (g .writers .now) (g .lost .now) (g .out .now) (g .s) (s .state-ok .result) (s .state-ok .ensures (g .out .now))
+    by-code (g .places) (g .head) (g .pens .now) (g .writers .now) (g .lost .now) (g .out .now) (g .s) (s .state-ok .result) (s .state-ok .ensures (g .out .now))
     (instances (k .instance-call .result)) (k .instance-call .ensures) (f .if1 .left) _
-    (t .instance-turn .ensures (g .writers .now) (g .lost .now) (entered (g .head) (g .pens .now) (g .writers .now) (g .lost .now) (g .out .now) (g .s) (s .state-ok .result) (s .state-ok .ensures (g .out .now))
+    (t .instance-turn .ensures (g .writers .now) (g .lost .now) (entered (g .places) (g .head) (g .pens .now) (g .writers .now) (g .lost .now) (g .out .now) (g .s) (s .state-ok .result) (s .state-ok .ensures (g .out .now))
     (f .if1 .left) (a .pre .0) (a .pre .1) (a .pre .2) (a .pre .3)
     (λ j. (k .before .before .before .before .slice-known .given) j .fits) (λ j. (k .before .before .before .shared-slice-known .given) j .fits)
     (λ j. (k .before .before .shared-slice-known2 .given) j .fits)))

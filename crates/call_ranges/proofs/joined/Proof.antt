@@ -1,5 +1,4 @@
 -- `joined` meets its contract: refused as 3, else the joined call. Assumes nothing.
-use native.Mathlib.Omega.{arith}
 use borrow.Author.Needs.{needs}
 use Rattle.model.specs.Calls.{joined}
 use Rattle.call_ranges.proofs.Ranges.{entered, refused-3, by-code}
@@ -10,7 +9,7 @@ joined-call-requires : tie.Need-joined-call-requires
 joined-call-requires c κs = let a = c .before .before .before .before in (a .pre .4, a .pre .5)
 
 state-ok-requires : tie.Need-state-ok-requires
-state-ok-requires c κs = let a = c .before .before .before .before .before .before .before .before in (a .pre .0, a .pre .1, a .pre .2)
+state-ok-requires c κs = let a = c .before .before .before .before .before .before .before .before in (a .pre .0, a .pre .1, a .pre .2, a .pre .6)
 
 refused-requires : tie.Need-refused-requires
 refused-requires c κs = search needs
@@ -30,7 +29,7 @@ returns c =
     let k = s .before .before .before .before in
     let a = k .before .before .before .before .before in
     let g = a .args in
-    refused-3 (g .head) (g .pens .now) (g .writers .now) (g .lost .now) (g .out .now) (g .s) (s .state-ok .result) (s .state-ok .ensures (g .out .now))
+    refused-3 (g .places) (g .head) (g .pens .now) (g .writers .now) (g .lost .now) (g .out .now) (g .s) (s .state-ok .result) (s .state-ok .ensures (g .out .now))
     (joined (k .joined-call .result)) (k .joined-call .ensures) (c .before .if1 .taken) (c .refused .result) (c .refused .ensures)
 
 joined-turn-requires : tie.Need-joined-turn-requires
@@ -40,8 +39,8 @@ joined-turn-requires c κs =
     let k = s .before .before .before .before in
     let a = k .before .before .before .before .before in
     let g = a .args in (
-      omega arith,
-      entered (g .head) (g .pens .now) (g .writers .now) (g .lost .now) (g .out .now) (g .s) (s .state-ok .result) (s .state-ok .ensures (g .out .now))
+      a .pre .7,
+      entered (g .places) (g .head) (g .pens .now) (g .writers .now) (g .lost .now) (g .out .now) (g .s) (s .state-ok .result) (s .state-ok .ensures (g .out .now))
           (f .if1 .left) (a .pre .0) (a .pre .1) (a .pre .2) (a .pre .3)
           (λ j. (k .before .before .before .before .slice-known .given) j .fits) (λ j. (k .before .before .before .slice-known2 .given) j .fits)
           (λ j. (k .before .before .slice-known3 .given) j .fits),
@@ -67,7 +66,7 @@ returns-2 c =
     let k = s .before .before .before .before in
     let a = k .before .before .before .before .before in
     let g = a .args in
-    by-code (g .head) (g .pens .now) (g .writers .now) (g .lost .now) (g .out .now) (g .s) (s .state-ok .result) (s .state-ok .ensures (g .out .now))
+    by-code (g .places) (g .head) (g .pens .now) (g .writers .now) (g .lost .now) (g .out .now) (g .s) (s .state-ok .result) (s .state-ok .ensures (g .out .now))
     (joined (k .joined-call .result)) (k .joined-call .ensures) (f .if1 .left) _
     (t .joined-turn .ensures)
 

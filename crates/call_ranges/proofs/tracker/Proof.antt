@@ -9,7 +9,7 @@ tracker-call-requires : tie.Need-tracker-call-requires
 tracker-call-requires c κs = let a = c .before .before .before .before in (a .pre .4, a .pre .5)
 
 state-ok-requires : tie.Need-state-ok-requires
-state-ok-requires c κs = let a = c .before .before .before .before .before .before .before in (a .pre .0, a .pre .1, a .pre .2)
+state-ok-requires c κs = let a = c .before .before .before .before .before .before .before in (a .pre .0, a .pre .1, a .pre .2, a .pre .6)
 
 refused-requires : tie.Need-refused-requires
 refused-requires c κs = search needs
@@ -26,7 +26,7 @@ returns c =
     let k = s .before .before .before in
     let a = k .before .before .before .before .before in
     let g = a .args in
-    refused-3 (g .head) (g .pens .now) (g .writers .now) (g .lost .now) (g .out .now) (g .s) (s .state-ok .result) (s .state-ok .ensures (g .out .now))
+    refused-3 (g .places) (g .head) (g .pens .now) (g .writers .now) (g .lost .now) (g .out .now) (g .s) (s .state-ok .result) (s .state-ok .ensures (g .out .now))
     (tracker (k .tracker-call .result)) (k .tracker-call .ensures) (c .before .if1 .taken) (c .refused .result) (c .refused .ensures)
 
 tracker-turn-requires : tie.Need-tracker-turn-requires
@@ -36,7 +36,7 @@ tracker-turn-requires c κs =
     let k = s .before .before .before in
     let a = k .before .before .before .before .before in
     let g = a .args in
-    let p = formed-parts (g .head) (g .pens .now) (g .writers .now) (g .lost .now) (g .out .now) (g .s) (s .state-ok .result) (s .state-ok .ensures (g .out .now)) (f .if1 .left) in
+    let p = formed-parts (g .places) (g .head) (g .pens .now) (g .writers .now) (g .lost .now) (g .out .now) (g .s) (s .state-ok .result) (s .state-ok .ensures (g .out .now)) (f .if1 .left) in
     (record { long = a .pre .1; headFormed = p .head; table = p .writers; counted = p .counts }, a .pre .2, p .lost, a .pre .3)
 
 same-length-3 : tie.Need-same-length-3
@@ -56,9 +56,9 @@ returns-2 c =
     let k = s .before .before .before in
     let a = k .before .before .before .before .before in
     let g = a .args in
-    by-code (g .head) (g .pens .now) (g .writers .now) (g .lost .now) (g .out .now) (g .s) (s .state-ok .result) (s .state-ok .ensures (g .out .now))
+    by-code (g .places) (g .head) (g .pens .now) (g .writers .now) (g .lost .now) (g .out .now) (g .s) (s .state-ok .result) (s .state-ok .ensures (g .out .now))
     (tracker (k .tracker-call .result)) (k .tracker-call .ensures) (f .if1 .left) _
-    (t .tracker-turn .ensures 128 (g .pens .now) (entered (g .head) (g .pens .now) (g .writers .now) (g .lost .now) (g .out .now) (g .s) (s .state-ok .result) (s .state-ok .ensures (g .out .now))
+    (t .tracker-turn .ensures (g .places) (g .pens .now) (entered (g .places) (g .head) (g .pens .now) (g .writers .now) (g .lost .now) (g .out .now) (g .s) (s .state-ok .result) (s .state-ok .ensures (g .out .now))
     (f .if1 .left) (a .pre .0) (a .pre .1) (a .pre .2) (a .pre .3)
     (λ j. (k .before .before .before .before .shared-slice-known .given) j .fits) (λ j. (k .before .before .before .slice-known .given) j .fits)
     (λ j. (k .before .before .slice-known2 .given) j .fits)))

@@ -14,17 +14,17 @@ use Rattle.dcps.proofs.coded.Tie as tie
 instances-requires : tie.Need-instances-requires
 instances-requires c κs =
     let a = c .before .before .before .before .before .before .before .before .before .before in
-    (a .pre .0, a .pre .1, a .pre .2, a .pre .3, omega (arith, c .before .before .before .before .before .if1 .left), omega (arith, c .before .before .before .before .if2 .taken))
+    (a .pre .0, a .pre .1, a .pre .2, a .pre .3, omega (arith, c .before .before .before .before .before .if1 .left), omega (arith, c .before .before .before .before .if2 .taken), a .pre .4, a .pre .5)
 
 tracker-requires : tie.Need-tracker-requires
 tracker-requires c κs =
     let a = c .before .before .before .before .before .before .before .before .before .before .before .before in
-    (a .pre .0, a .pre .1, a .pre .2, a .pre .3, omega (arith, c .before .before .before .before .before .if3 .left), omega (arith, c .before .before .before .before .if4 .taken))
+    (a .pre .0, a .pre .1, a .pre .2, a .pre .3, omega (arith, c .before .before .before .before .before .if3 .left), omega (arith, c .before .before .before .before .if4 .taken), a .pre .4, a .pre .5)
 
 joined-requires : tie.Need-joined-requires
 joined-requires c κs =
     let a = c .before .before .before .before .before .before .before .before .before .before .before .before .before .before in
-    (a .pre .0, a .pre .1, a .pre .2, a .pre .3, omega (arith, c .before .before .before .before .before .if5 .left), omega (arith, c .before .before .before .before .if6 .taken))
+    (a .pre .0, a .pre .1, a .pre .2, a .pre .3, omega (arith, c .before .before .before .before .before .if5 .left), omega (arith, c .before .before .before .before .if6 .taken), a .pre .4, a .pre .5)
 
 refused-requires : tie.Need-refused-requires
 refused-requires c κs = search needs
@@ -89,7 +89,7 @@ returns-4 c =
     more)
     rest)
     (c .before .if1 .came) in
-    refused-left 2 _ (a .head) (a .pens .now) (a .writers .now) (a .lost .now) (a .out .now) (c .refused .ensures) ∙ coded-2 128 (a .s) l none-such
+    refused-left 2 _ (a .head) (a .pens .now) (a .writers .now) (a .lost .now) (a .out .now) (c .refused .ensures) ∙ coded-2 (a .places) (a .s) l none-such
 
 pub coded-spec : {M : Type 1} → statement M
 coded-spec =

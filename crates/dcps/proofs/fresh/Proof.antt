@@ -1,4 +1,5 @@
 -- `fresh` meets its contract: a wrong length is refused, else the three buffers are cleared. Assumes nothing.
+use Prim.Native.Nat.{_*_}
 use mathlib.Core.Path.{sym, ap, _∙_}
 use native.Mathlib.Omega.{arith}
 use borrow.Author.Needs.{needs}
@@ -10,6 +11,12 @@ use Rattle.dcps.proofs.Beginnings.{cleared, room-is, rooms, fresh-refus
 use Rattle.dcps.proofs.fresh.Statement.{statement}
 use Rattle.dcps.proofs.fresh.Tie as tie
 
+places-in-requires : tie.Need-places-in-requires
+places-in-requires c κs = search needs
+
+cast-fresh-head : tie.Need-cast-fresh-head
+cast-fresh-head c = search needs
+
 fresh-head-requires : tie.Need-fresh-head-requires
 fresh-head-requires c κs = search needs
 
@@ -19,46 +26,66 @@ room-ok-requires c κs = search needs
 refused-requires : tie.Need-refused-requires
 refused-requires c κs = search needs
 
+same-length : tie.Need-same-length
+same-length c = search needs
+
 returns : tie.Need-returns
 returns c =
     let h = c .before .before .before in
-    let a = h .before .before .before .before .args in
-    fresh-refused 128 (a .pens .now) (a .writers .now) (a .lost .now) _
-    (room-is (a .pens .now) (a .writers .now) (a .lost .now) _ (sym (c .before .before .room-ok .ensures) ∙ not-true _ (c .before .if1 .taken)))
+    let k = h .before in
+    let a = k .before .before .before .before .before .args in
+    fresh-refused (k .places-in .result) (a .pens .now) (a .writers .now) (a .lost .now) (k .places-in .ensures .0) _
+    (room-is (k .places-in .result) (a .pens .now) (a .writers .now) (a .lost .now) _
+    (sym (c .before .before .room-ok .ensures) ∙ not-true _ (c .before .if1 .taken)))
     (c .refused .ensures ∙ ap (called (refusedWith 1)) (h .fresh-head .ensures))
+
+mul-clear : tie.Need-mul-clear
+mul-clear c = search needs
 
 clear-requires : tie.Need-clear-requires
 clear-requires c κs =
     let r = c .before in
-    let a = r .before .before .before .before .before .before .args in
-    omega
-    (arith, rooms (length (a .pens .now)) (length (a .writers .now)) (length (a .lost .now)) (sym (r .before .room-ok .ensures) ∙ not-false _ (r .if1 .left)) .pens)
+    let k = r .before .before .before in
+    let a = k .before .before .before .before .before .args in
+    omega (
+      arith,
+      rooms (k .places-in .result) (length (a .pens .now)) (length (a .writers .now)) (length (a .lost .now))
+          (sym (r .before .room-ok .ensures) ∙ not-false _ (r .if1 .left)) .pens,
+    )
 
 clear-requires-2 : tie.Need-clear-requires-2
 clear-requires-2 c κs =
     let r = c .before .before .before .before .before in
-    let a = r .before .before .before .before .before .before .args in
-    omega
-    (arith, rooms (length (a .pens .now)) (length (a .writers .now)) (length (a .lost .now)) (sym (r .before .room-ok .ensures) ∙ not-false _ (r .if1 .left)) .writers)
+    let k = r .before .before .before in
+    let a = k .before .before .before .before .before .args in
+    omega (
+      arith,
+      rooms (k .places-in .result) (length (a .pens .now)) (length (a .writers .now)) (length (a .lost .now))
+          (sym (r .before .room-ok .ensures) ∙ not-false _ (r .if1 .left)) .writers,
+    )
 
 clear-requires-3 : tie.Need-clear-requires-3
 clear-requires-3 c κs =
     let r = c .before .before .before .before .before .before .before .before .before in
-    let a = r .before .before .before .before .before .before .args in
-    omega
-    (arith, rooms (length (a .pens .now)) (length (a .writers .now)) (length (a .lost .now)) (sym (r .before .room-ok .ensures) ∙ not-false _ (r .if1 .left)) .lost)
+    let k = r .before .before .before in
+    let a = k .before .before .before .before .before .args in
+    omega (
+      arith,
+      rooms (k .places-in .result) (length (a .pens .now)) (length (a .writers .now)) (length (a .lost .now))
+          (sym (r .before .room-ok .ensures) ∙ not-false _ (r .if1 .left)) .lost,
+    )
 
 refused-requires-2 : tie.Need-refused-requires-2
 refused-requires-2 c κs = search needs
-
-same-length : tie.Need-same-length
-same-length c = search needs
 
 same-length-2 : tie.Need-same-length-2
 same-length-2 c = search needs
 
 same-length-3 : tie.Need-same-length-3
 same-length-3 c = search needs
+
+same-length-4 : tie.Need-same-length-4
+same-length-4 c = search needs
 
 returns-2 : tie.Need-returns-2
 returns-2 c =
@@ -67,12 +94,14 @@ returns-2 c =
     let p = w .before .before .before .before in
     let r = p .before .before in
     let h = r .before .before in
-    let a = h .before .before .before .before .args in
-    let n = rooms (length (a .pens .now)) (length (a .writers .now)) (length (a .lost .now)) (sym (r .before .room-ok .ensures) ∙ not-false _ (r .if1 .left)) in
-    fresh-left 128 (a .pens .now) (a .writers .now) (a .lost .now) _ _ _ _
-    (room-is (a .pens .now) (a .writers .now) (a .lost .now) _ (sym (r .before .room-ok .ensures) ∙ not-false _ (r .if1 .left)))
+    let k = h .before in
+    let places = k .places-in .result in
+    let a = k .before .before .before .before .before .args in
+    let n = rooms places (length (a .pens .now)) (length (a .writers .now)) (length (a .lost .now)) (sym (r .before .room-ok .ensures) ∙ not-false _ (r .if1 .left)) in
+    fresh-left places (a .pens .now) (a .writers .now) (a .lost .now) (k .places-in .ensures .0) _ _ _ _
+    (room-is places (a .pens .now) (a .writers .now) (a .lost .now) _ (sym (r .before .room-ok .ensures) ∙ not-false _ (r .if1 .left)))
     (c .refused2 .ensures ∙ ap (called (refusedWith 0)) (h .fresh-head .ensures))
-    (cleared 65536 (a .pens .now) _ (n .pens) (p .clear .ensures))
+    (cleared (places * 512) (a .pens .now) _ (n .pens) (p .clear .ensures))
     (cleared 5120 (a .writers .now) _ (n .writers) (w .clear2 .ensures))
     (cleared 4096 (a .lost .now) _ (n .lost) (l .clear3 .ensures))
 
@@ -80,15 +109,19 @@ pub fresh-spec : {M : Type 1} → statement M
 fresh-spec =
     tie.close
     (tie.spec
+    places-in-requires
+    cast-fresh-head
     fresh-head-requires
     room-ok-requires
     refused-requires
+    same-length
     returns
+    mul-clear
     clear-requires
     clear-requires-2
     clear-requires-3
     refused-requires-2
-    same-length
     same-length-2
     same-length-3
+    same-length-4
     returns-2)

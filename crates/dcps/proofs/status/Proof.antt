@@ -7,7 +7,7 @@ status-requires : tie.Need-status-requires
 status-requires c κs = search needs
 
 returns : tie.Need-returns
-returns c = (c .status .ensures, status-number _ _ (c .status .ensures))
+returns c = (c .status .ensures, status-number _ (c .status .ensures))
 
 pub status-spec : {M : Type 1} → statement M
 status-spec = tie.close (tie.spec status-requires returns)

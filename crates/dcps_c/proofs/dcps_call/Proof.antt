@@ -4,17 +4,23 @@ use Rattle.dcps_c.proofs.Crossing.{short-answer, short-head, made}
 use Rattle.dcps_c.proofs.dcps_call.Statement.{statement}
 use Rattle.dcps_c.proofs.dcps_call.Tie as tie
 
+unanswered-requires : tie.Need-unanswered-requires
+unanswered-requires c κs = search needs
+
+same-length : tie.Need-same-length
+same-length c = search needs
+
 returns : tie.Need-returns
 returns c =
-    let a = c .before .before .before .before .before .before .before .before in
+    let a = c .before .before .before .before .before .before .before .before .before .before in
     short-answer (a .args .head .now) (a .args .sheet .now) (a .args .pens .now) (a .args .writers .now) (a .args .lost .now) (a .args .out .now)
-    (a .args .answer .now) (c .if1 .taken)
+    (a .args .answer .now) _ (c .before .before .if1 .taken) (c .unanswered .ensures)
 
 refuse-requires : tie.Need-refuse-requires
 refuse-requires c κs = search needs
 
-same-length : tie.Need-same-length
-same-length c = search needs
+same-length-2 : tie.Need-same-length-2
+same-length-2 c = search needs
 
 returns-2 : tie.Need-returns-2
 returns-2 c =
@@ -32,9 +38,6 @@ call-requires c κs = search needs
 settle-requires : tie.Need-settle-requires
 settle-requires c κs = search needs
 
-same-length-2 : tie.Need-same-length-2
-same-length-2 c = search needs
-
 same-length-3 : tie.Need-same-length-3
 same-length-3 c = search needs
 
@@ -49,6 +52,9 @@ same-length-6 c = search needs
 
 same-length-7 : tie.Need-same-length-7
 same-length-7 c = search needs
+
+same-length-8 : tie.Need-same-length-8
+same-length-8 c = search needs
 
 returns-3 : tie.Need-returns-3
 returns-3 c =
@@ -65,17 +71,19 @@ pub dcps-call-spec : {M : Type 1} → statement M
 dcps-call-spec =
     tie.close
     (tie.spec
+    unanswered-requires
+    same-length
     returns
     refuse-requires
-    same-length
+    same-length-2
     returns-2
     lent-head-requires
     call-requires
     settle-requires
-    same-length-2
     same-length-3
     same-length-4
     same-length-5
     same-length-6
     same-length-7
+    same-length-8
     returns-3)

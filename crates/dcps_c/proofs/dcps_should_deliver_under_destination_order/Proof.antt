@@ -7,6 +7,7 @@ use lib.IntN.{ℤ}
 use mir.Facts.{toZ-ofZ}
 use mir.Syntax.{w32}
 use mir.Val.{SFits}
+use Rattle.model.specs.State.{placesIn}
 use Rattle.model.specs.Reads.{orderRead}
 use Rattle.dcps_c.specs.Reads.{guidOf, timeAt}
 use Rattle.dcps_c.proofs.Tellings.{decided}
@@ -33,7 +34,7 @@ returns c =
     let fits : SFits w32 (a .sec) = search needs in
     decided _ _ (t .tell .ensures) (t .before .decision-answer .ensures)
     (t .before .before .before .should-deliver-under-destination-order .ensures .0
-    ∙ ap (λ (z : ℤ). orderRead 128 (a .pens .now) (guidOf (a .high) (a .low)) (timeAt z (a .nanosec)) (not (eqb (a .by-source) 0))) (toZ-ofZ fits))
+    ∙ ap (λ (z : ℤ). orderRead (placesIn (a .pens .now)) (a .pens .now) (guidOf (a .high) (a .low)) (timeAt z (a .nanosec)) (not (eqb (a .by-source) 0))) (toZ-ofZ fits))
 
 pub dcps-should-deliver-under-destination-order-spec : {M : Type 1} → statement M
 dcps-should-deliver-under-destination-order-spec =

@@ -5,6 +5,7 @@ use lib.IntN.{ℤ}
 use mir.Facts.{toZ-ofZ}
 use mir.Syntax.{w32}
 use mir.Val.{SFits}
+use Rattle.model.specs.State.{placesIn}
 use Rattle.model.specs.Reads.{filterRead}
 use Rattle.dcps_c.specs.Reads.{guidOf, timeAt}
 use Rattle.dcps_c.proofs.Tellings.{decided}
@@ -31,7 +32,7 @@ returns c =
     let fits : SFits w32 (a .sec) = search needs in
     decided _ _ (t .tell .ensures) (t .before .decision-answer .ensures)
     (t .before .before .before .should-deliver-under-time-based-filter .ensures .0
-    ∙ ap (λ (z : ℤ). filterRead 128 (a .pens .now) (guidOf (a .high) (a .low)) (timeAt z (a .nanosec)) (a .min-separation)) (toZ-ofZ fits))
+    ∙ ap (λ (z : ℤ). filterRead (placesIn (a .pens .now)) (a .pens .now) (guidOf (a .high) (a .low)) (timeAt z (a .nanosec)) (a .min-separation)) (toZ-ofZ fits))
 
 pub dcps-should-deliver-under-time-based-filter-spec : {M : Type 1} → statement M
 dcps-should-deliver-under-time-based-filter-spec =

@@ -4,8 +4,13 @@ use Rattle.dcps_c.proofs.HeadReads.{status-untold, status-told}
 use Rattle.dcps_c.proofs.dcps_status.Statement.{statement}
 use Rattle.dcps_c.proofs.dcps_status.Tie as tie
 
+unanswered-requires : tie.Need-unanswered-requires
+unanswered-requires c κs = search needs
+
 returns : tie.Need-returns
-returns c = status-untold (c .before .before .before .args .head .now) (c .before .before .before .args .answer .now) (c .if1 .taken)
+returns c =
+    let a = c .before .before .before .before .args in
+    status-untold (a .head .now) (a .answer .now) _ (c .before .if1 .taken) (c .unanswered .ensures)
 
 status-of-requires : tie.Need-status-of-requires
 status-of-requires c κs = search needs
@@ -29,4 +34,4 @@ returns-2 c =
 pub dcps-status-spec : {M : Type 1} → statement M
 dcps-status-spec =
     tie.close
-    (tie.spec returns status-of-requires write-answer-requires cast-result same-length returns-2)
+    (tie.spec unanswered-requires returns status-of-requires write-answer-requires cast-result same-length returns-2)

@@ -4,18 +4,23 @@ use Rattle.instance_reads.proofs.Walks.{walk-refused, walk-is}
 use Rattle.instance_reads.proofs.handle_at_position.Statement.{statement}
 use Rattle.instance_reads.proofs.handle_at_position.Tie as tie
 
-table-refusal-requires : tie.Need-table-refusal-requires
-table-refusal-requires c κs = search needs
+places-in-requires : tie.Need-places-in-requires
+places-in-requires c κs = search needs
+
+refusal-of-requires : tie.Need-refusal-of-requires
+refusal-of-requires c κs = search needs
 
 returns : tie.Need-returns
-returns c = walk-refused _ _ _ (c .before .table-refusal .ensures) _ (c .if1 .taken)
+returns c = rw (← c .before .before .places-in .ensures .0) (walk-refused _ _ _ (c .before .refusal-of .ensures) _ (c .if1 .taken))
 
 handle-in-requires : tie.Need-handle-in-requires
 handle-in-requires c κs = search needs
 
 returns-2 : tie.Need-returns-2
-returns-2 c = walk-is _ _ _ (c .before .before .table-refusal .ensures) (c .before .if1 .left) _ _ (c .handle-in .ensures)
+returns-2 c =
+    rw (← c .before .before .before .places-in .ensures .0)
+    (walk-is _ _ _ (c .before .before .refusal-of .ensures) (c .before .if1 .left) _ _ (c .handle-in .ensures))
 
 pub handle-at-position-spec : {M : Type 1} → statement M
 handle-at-position-spec =
-    tie.close (tie.spec table-refusal-requires returns handle-in-requires returns-2)
+    tie.close (tie.spec places-in-requires refusal-of-requires returns handle-in-requires returns-2)

@@ -6,15 +6,19 @@ use Rattle.instance_reads.proofs.Stored.{force-at, place-refused, place
 use Rattle.instance_reads.proofs.holder_place.Statement.{statement}
 use Rattle.instance_reads.proofs.holder_place.Tie as tie
 
-table-refusal-requires : tie.Need-table-refusal-requires
-table-refusal-requires c κs = search needs
+places-in-requires : tie.Need-places-in-requires
+places-in-requires c κs = search needs
+
+refusal-of-requires : tie.Need-refusal-of-requires
+refusal-of-requires c κs = search needs
 
 nowhere-requires : tie.Need-nowhere-requires
 nowhere-requires c κs = search needs
 
 returns : tie.Need-returns
 returns c =
-    force-at _ _ _ _ (c .nowhere .ensures ∙ place-refused _ _ _ _ (c .before .before .table-refusal .ensures) (c .before .if1 .taken))
+    rw (← c .before .before .before .places-in .ensures .0)
+    (force-at _ _ _ _ (c .nowhere .ensures ∙ place-refused _ _ _ _ (c .before .before .refusal-of .ensures) (c .before .if1 .taken)))
 
 locate-requires : tie.Need-locate-requires
 locate-requires c κs = search needs
@@ -25,7 +29,7 @@ enum-known-i c = search needs
 holder-at-requires : tie.Need-holder-at-requires
 holder-at-requires c κs =
     let l = c .before .before .before in
-    let r = sym (l .before .before .table-refusal .ensures) ∙ l .before .if1 .left in
+    let r = sym (l .before .before .refusal-of .ensures) ∙ l .before .if1 .left in
     found-room _ _ r _ _ _ (l .locate .ensures) (c .before .i .given .1)
 
 enum-told : tie.Need-enum-told
@@ -38,20 +42,23 @@ returns-2 : tie.Need-returns-2
 returns-2 c =
     let i = c .before .before in
     let l = i .before .before in
-    let r = sym (l .before .before .table-refusal .ensures) ∙ l .before .if1 .left in
-    force-at _ _ _ _ (place-here _ _ _ r _ _ (l .locate .ensures) (i .i .given .1) _ (c .holder-at .ensures))
+    let r = sym (l .before .before .refusal-of .ensures) ∙ l .before .if1 .left in
+    rw (← l .before .before .before .places-in .ensures .0)
+    (force-at _ _ _ _ (place-here _ _ _ r _ _ (l .locate .ensures) (i .i .given .1) _ (c .holder-at .ensures)))
 
 returns-3 : tie.Need-returns-3
 returns-3 c =
     let l = c .before .before .before in
-    let r = sym (l .before .before .table-refusal .ensures) ∙ l .before .if1 .left in
-    force-at _ _ _ _ (c .nowhere2 .ensures ∙ place-none _ _ _ r (found-none _ _ r _ _ _ (l .locate .ensures) (c .before .enum-told .given .1)))
+    let r = sym (l .before .before .refusal-of .ensures) ∙ l .before .if1 .left in
+    rw (← l .before .before .before .places-in .ensures .0)
+    (force-at _ _ _ _ (c .nowhere2 .ensures ∙ place-none _ _ _ r (found-none _ _ r _ _ _ (l .locate .ensures) (c .before .enum-told .given .1))))
 
 pub holder-place-spec : {M : Type 1} → statement M
 holder-place-spec =
     tie.close
     (tie.spec
-    table-refusal-requires
+    places-in-requires
+    refusal-of-requires
     nowhere-requires
     returns
     locate-requires

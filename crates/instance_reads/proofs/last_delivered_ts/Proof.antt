@@ -8,11 +8,14 @@ use Rattle.instance_reads.proofs.Answers.{delivered-is, delivered-missi
 use Rattle.instance_reads.proofs.last_delivered_ts.Statement.{statement}
 use Rattle.instance_reads.proofs.last_delivered_ts.Tie as tie
 
-table-refusal-requires : tie.Need-table-refusal-requires
-table-refusal-requires c κs = search needs
+places-in-requires : tie.Need-places-in-requires
+places-in-requires c κs = search needs
+
+refusal-of-requires : tie.Need-refusal-of-requires
+refusal-of-requires c κs = search needs
 
 returns : tie.Need-returns
-returns c = delivered-refused _ _ _ _ (c .before .table-refusal .ensures) (c .if1 .taken)
+returns c = rw (← c .before .before .places-in .ensures .0) (delivered-refused _ _ _ _ (c .before .refusal-of .ensures) (c .if1 .taken))
 
 times-of-requires : tie.Need-times-of-requires
 times-of-requires c κs = search needs
@@ -20,7 +23,8 @@ times-of-requires c κs = search needs
 returns-2 : tie.Need-returns-2
 returns-2 c =
     let h = c .before .before .before in
-    delivered-missing _ _ _ _ (h .before .table-refusal .ensures) _ (c .before .before .times-of .ensures) (h .if1 .left) (not-true _ (c .if2 .taken))
+    rw (← h .before .before .places-in .ensures .0)
+    (delivered-missing _ _ _ _ (h .before .refusal-of .ensures) _ (c .before .before .times-of .ensures) (h .if1 .left) (not-true _ (c .if2 .taken)))
 
 of-bits-requires : tie.Need-of-bits-requires
 of-bits-requires c κs = search needs
@@ -28,14 +32,16 @@ of-bits-requires c κs = search needs
 returns-3 : tie.Need-returns-3
 returns-3 c =
     let h = c .before .before .before .before in
-    delivered-is _ _ _ _ (h .before .table-refusal .ensures) _ (c .before .before .before .times-of .ensures) (h .if1 .left)
-    (not-false _ (c .before .if2 .left)) _ (toZ-ofZ w32 (c .of-bits .result) (record { sfits = c .of-bits .ok }) ∙ c .of-bits .ensures)
+    rw (← h .before .before .places-in .ensures .0)
+    (delivered-is _ _ _ _ (h .before .refusal-of .ensures) _ (c .before .before .before .times-of .ensures) (h .if1 .left)
+    (not-false _ (c .before .if2 .left)) _ (toZ-ofZ w32 (c .of-bits .result) (record { sfits = c .of-bits .ok }) ∙ c .of-bits .ensures))
 
 pub last-delivered-ts-spec : {M : Type 1} → statement M
 last-delivered-ts-spec =
     tie.close
     (tie.spec
-    table-refusal-requires
+    places-in-requires
+    refusal-of-requires
     returns
     times-of-requires
     returns-2

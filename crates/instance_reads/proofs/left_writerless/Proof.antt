@@ -12,24 +12,28 @@ returns : tie.Need-returns
 returns c =
     left-refused _ _ _ _ _ (left-short _ _ _ _ (c .if1 .taken)) _ (λ z. omega arith)
 
+places-in-requires : tie.Need-places-in-requires
+places-in-requires c κs = search needs
+
 list-refusal-requires : tie.Need-list-refusal-requires
 list-refusal-requires c κs = search needs
 
 returns-2 : tie.Need-returns-2
 returns-2 c =
-    left-refused _ _ _ _ _ (left-number _ _ _ _ (c .before .before .if1 .left) _ (c .before .list-refusal .ensures)) _ (c .if2 .taken)
+    rw (← c .before .before .places-in .ensures .0)
+    (left-refused _ _ _ _ _ (left-number _ _ _ _ (c .before .before .before .if1 .left) _ (c .before .list-refusal .ensures)) _ (c .if2 .taken))
 
 list-all-left-requires : tie.Need-list-all-left-requires
 list-all-left-requires c κs =
     let h = c .before .before in
-    (list-free _ _ _ (sym (h .list-refusal .ensures) ∙ c .before .if2 .left), omega arith, omega (arith, h .before .if1 .left))
+    (list-free _ _ _ (sym (h .list-refusal .ensures) ∙ c .before .if2 .left), omega arith, omega (arith, h .before .before .if1 .left, h .before .places-in .ensures .1))
 
-cast-t12 : tie.Need-cast-t12
-cast-t12 c =
-    let a = c .before .before .before .before .before .before .before .before .before .before in
+cast-t13 : tie.Need-cast-t13
+cast-t13 c =
+    let a = c .before .before .before .before .before .before .before .before .before .before .before in
     let h = c .before .before .before .before in
     let r = list-free _ _ _ (sym (h .before .list-refusal .ensures) ∙ h .if2 .left) in
-    omega (arith, listed-few (c .before .before .list-all-left .ensures), count-table 128 (a .args .pens .now), whole _ _ r .few)
+    omega (arith, listed-few (c .before .before .list-all-left .ensures), count-table (h .before .before .places-in .result) (a .args .pens .now), whole _ _ r .few, h .before .before .places-in .ensures .1)
 
 same-length : tie.Need-same-length
 same-length c = search needs
@@ -37,17 +41,19 @@ same-length c = search needs
 returns-3 : tie.Need-returns-3
 returns-3 c =
     let h = c .before .before .before .before in
-    left-listed _ _ _ _ _ (left-number _ _ _ _ (h .before .before .if1 .left) _ (h .before .list-refusal .ensures)) _ (h .if2 .left) _ _
-    (c .before .before .list-all-left .ensures)
+    rw (← h .before .before .places-in .ensures .0)
+    (left-listed _ _ _ _ _ (left-number _ _ _ _ (h .before .before .before .if1 .left) _ (h .before .list-refusal .ensures)) _ (h .if2 .left) _ _
+    (c .before .before .list-all-left .ensures))
 
 pub left-writerless-spec : {M : Type 1} → statement M
 left-writerless-spec =
     tie.close
     (tie.spec
     returns
+    places-in-requires
     list-refusal-requires
     returns-2
     list-all-left-requires
-    cast-t12
+    cast-t13
     same-length
     returns-3)

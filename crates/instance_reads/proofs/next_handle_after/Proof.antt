@@ -7,33 +7,37 @@ use Rattle.instance_reads.proofs.Walks.{next-refused, next-first, next-
 use Rattle.instance_reads.proofs.next_handle_after.Statement.{statement}
 use Rattle.instance_reads.proofs.next_handle_after.Tie as tie
 
-table-refusal-requires : tie.Need-table-refusal-requires
-table-refusal-requires c κs = search needs
+places-in-requires : tie.Need-places-in-requires
+places-in-requires c κs = search needs
+
+refusal-of-requires : tie.Need-refusal-of-requires
+refusal-of-requires c κs = search needs
 
 returns : tie.Need-returns
-returns c = next-refused _ _ _ (c .before .table-refusal .ensures) _ (c .if1 .taken)
+returns c = rw (← c .before .before .places-in .ensures .0) (next-refused _ _ _ (c .before .refusal-of .ensures) _ (c .if1 .taken))
 
 handle-in-requires : tie.Need-handle-in-requires
 handle-in-requires c κs = search needs
 
 returns-2 : tie.Need-returns-2
 returns-2 c =
-    next-first _ _ _ (c .before .before .before .table-refusal .ensures) (c .before .before .if1 .left) _ _ (c .before .if2 .taken)
-    (c .handle-in .ensures)
+    rw (← c .before .before .before .before .places-in .ensures .0)
+    (next-first _ _ _ (c .before .before .before .refusal-of .ensures) (c .before .before .if1 .left) _ _ (c .before .if2 .taken)
+    (c .handle-in .ensures))
 
 used-requires : tie.Need-used-requires
-used-requires c κs = whole _ _ (sym (c .before .before .table-refusal .ensures) ∙ c .before .if1 .left) .size
+used-requires c κs = whole _ _ (sym (c .before .before .refusal-of .ensures) ∙ c .before .if1 .left) .size
 
 find-handle-requires : tie.Need-find-handle-requires
 find-handle-requires c κs =
     let h = c .before .before in
-    omega (arith, whole _ _ (sym (h .before .table-refusal .ensures) ∙ h .if1 .left) .room, c .used .ensures)
+    omega (arith, whole _ _ (sym (h .before .refusal-of .ensures) ∙ h .if1 .left) .room, c .used .ensures)
 
 add-handle-in : tie.Need-add-handle-in
 add-handle-in c =
     let h = c .before .before .before in
     omega
-    (arith, whole _ _ (sym (h .before .table-refusal .ensures) ∙ h .if1 .left) .few, c .before .used .ensures, place-few _ _ _ _ (c .find-handle .ensures))
+    (arith, whole _ _ (sym (h .before .refusal-of .ensures) ∙ h .if1 .left) .few, h .before .before .places-in .ensures .1, c .before .used .ensures, place-few _ _ _ _ (c .find-handle .ensures))
 
 handle-in-requires-2 : tie.Need-handle-in-requires-2
 handle-in-requires-2 c κs = search needs
@@ -41,14 +45,16 @@ handle-in-requires-2 c κs = search needs
 returns-3 : tie.Need-returns-3
 returns-3 c =
     let h = c .before .before .before in
-    next-after _ _ _ (h .before .before .table-refusal .ensures) (h .before .if1 .left) _ _ (h .if2 .left) _ _ (c .before .before .used .ensures)
-    (c .before .find-handle .ensures) (c .handle-in2 .ensures)
+    rw (← h .before .before .before .places-in .ensures .0)
+    (next-after _ _ _ (h .before .before .refusal-of .ensures) (h .before .if1 .left) _ _ (h .if2 .left) _ _ (c .before .before .used .ensures)
+    (c .before .find-handle .ensures) (c .handle-in2 .ensures))
 
 pub next-handle-after-spec : {M : Type 1} → statement M
 next-handle-after-spec =
     tie.close
     (tie.spec
-    table-refusal-requires
+    places-in-requires
+    refusal-of-requires
     returns
     handle-in-requires
     returns-2

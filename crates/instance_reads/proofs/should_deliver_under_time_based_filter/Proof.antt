@@ -1,19 +1,21 @@
 -- `should_deliver_under_time_based_filter` meets its contract, by its tests and what it calls. Assumes nothing.
 use mathlib.Core.Path.{sym, _∙_}
-use native.Mathlib.Omega.{arith}
 use borrow.Author.Needs.{needs}
 use Rattle.instance_reads.proofs.Answers.{filter-is, filter-refused, table-free}
 use Rattle.instance_reads.proofs.should_deliver_under_time_based_filter.Statement.{statement}
 use Rattle.instance_reads.proofs.should_deliver_under_time_based_filter.Tie as tie
 
+places-in-requires : tie.Need-places-in-requires
+places-in-requires c κs = search needs
+
 time-refusal-requires : tie.Need-time-refusal-requires
 time-refusal-requires c κs = search needs
 
 returns : tie.Need-returns
-returns c = filter-refused _ _ _ _ _ (c .before .time-refusal .ensures) _ (c .if1 .taken)
+returns c = rw (← c .before .before .places-in .ensures .0) (filter-refused _ _ _ _ _ (c .before .time-refusal .ensures) _ (c .if1 .taken))
 
 times-of-requires : tie.Need-times-of-requires
-times-of-requires c κs = (omega arith, table-free _ _ _ (sym (c .before .time-refusal .ensures) ∙ c .if1 .left))
+times-of-requires c κs = (c .before .before .places-in .ensures .1, table-free _ _ _ (sym (c .before .time-refusal .ensures) ∙ c .if1 .left))
 
 bits-of-time-requires : tie.Need-bits-of-time-requires
 bits-of-time-requires c κs = search needs
@@ -24,13 +26,15 @@ filter-admits-requires c κs = search needs
 returns-2 : tie.Need-returns-2
 returns-2 c =
     let h = c .before .before .before .before in
-    filter-is _ _ _ _ _ (h .before .time-refusal .ensures) _ (c .before .before .before .times-of .ensures) _ (c .before .bits-of-time .ensures) _ _
-    (h .if1 .left) (c .filter-admits .ensures)
+    rw (← h .before .before .places-in .ensures .0)
+    (filter-is _ _ _ _ _ (h .before .time-refusal .ensures) _ (c .before .before .before .times-of .ensures) _ (c .before .bits-of-time .ensures) _ _
+    (h .if1 .left) (c .filter-admits .ensures))
 
 pub should-deliver-under-time-based-filter-spec : {M : Type 1} → statement M
 should-deliver-under-time-based-filter-spec =
     tie.close
     (tie.spec
+    places-in-requires
     time-refusal-requires
     returns
     times-of-requires

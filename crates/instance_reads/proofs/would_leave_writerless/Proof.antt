@@ -7,12 +7,15 @@ use Rattle.instance_reads.proofs.Table.{whole}
 use Rattle.instance_reads.proofs.would_leave_writerless.Statement.{statement}
 use Rattle.instance_reads.proofs.would_leave_writerless.Tie as tie
 
+places-in-requires : tie.Need-places-in-requires
+places-in-requires c κs = search needs
+
 list-refusal-requires : tie.Need-list-refusal-requires
 list-refusal-requires c κs = search needs
 
 returns : tie.Need-returns
 returns c =
-    would-refused _ _ _ _ _ (c .before .list-refusal .ensures) (c .if1 .taken)
+    rw (← c .before .before .places-in .ensures .0) (would-refused _ _ _ _ _ (c .before .list-refusal .ensures) (c .if1 .taken))
 
 used-requires : tie.Need-used-requires
 used-requires c κs =
@@ -26,8 +29,9 @@ left-place-requires c κs =
 returns-2 : tie.Need-returns-2
 returns-2 c =
     let h = c .before .before in
-    would-is _ _ _ _ _ (h .before .list-refusal .ensures) (h .if1 .left) _ _ (c .before .used .ensures) (c .left-place .ensures)
+    rw (← h .before .before .places-in .ensures .0)
+    (would-is _ _ _ _ _ (h .before .list-refusal .ensures) (h .if1 .left) _ _ (c .before .used .ensures) (c .left-place .ensures))
 
 pub would-leave-writerless-spec : {M : Type 1} → statement M
 would-leave-writerless-spec =
-    tie.close (tie.spec list-refusal-requires returns used-requires left-place-requires returns-2)
+    tie.close (tie.spec places-in-requires list-refusal-requires returns used-requires left-place-requires returns-2)

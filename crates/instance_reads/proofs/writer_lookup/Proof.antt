@@ -6,14 +6,17 @@ use Rattle.instance_reads.proofs.Walks.{lookup-refused, lookup-is}
 use Rattle.instance_reads.proofs.writer_lookup.Statement.{statement}
 use Rattle.instance_reads.proofs.writer_lookup.Tie as tie
 
-table-refusal-requires : tie.Need-table-refusal-requires
-table-refusal-requires c κs = search needs
+places-in-requires : tie.Need-places-in-requires
+places-in-requires c κs = search needs
+
+refusal-of-requires : tie.Need-refusal-of-requires
+refusal-of-requires c κs = search needs
 
 returns : tie.Need-returns
-returns c = lookup-refused _ _ _ (c .before .table-refusal .ensures) _ (c .if1 .taken)
+returns c = rw (← c .before .before .places-in .ensures .0) (lookup-refused _ _ _ (c .before .refusal-of .ensures) _ (c .if1 .taken))
 
 used-requires : tie.Need-used-requires
-used-requires c κs = whole _ _ (sym (c .before .table-refusal .ensures) ∙ c .if1 .left) .size
+used-requires c κs = whole _ _ (sym (c .before .refusal-of .ensures) ∙ c .if1 .left) .size
 
 writer-place-requires : tie.Need-writer-place-requires
 writer-place-requires c κs = search needs
@@ -24,13 +27,15 @@ handle-in-requires c κs = search needs
 returns-2 : tie.Need-returns-2
 returns-2 c =
     let h = c .before .before .before in
-    lookup-is _ _ _ (h .before .table-refusal .ensures) (h .if1 .left) _ _ _ (c .before .writer-place .ensures) (c .handle-in .ensures)
+    rw (← h .before .before .places-in .ensures .0)
+    (lookup-is _ _ _ (h .before .refusal-of .ensures) (h .if1 .left) _ _ _ (c .before .writer-place .ensures) (c .handle-in .ensures))
 
 pub writer-lookup-spec : {M : Type 1} → statement M
 writer-lookup-spec =
     tie.close
     (tie.spec
-    table-refusal-requires
+    places-in-requires
+    refusal-of-requires
     returns
     used-requires
     writer-place-requires

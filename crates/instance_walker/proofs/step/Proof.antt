@@ -45,6 +45,7 @@ use denote.Triple.Spec.{Meets, tripleOf}
 use denote.Triple.Table.{entered, cited}
 use denote.Triple.Walked.{says, Stays, stay-ref, walkOf, goes-ref, Walks, ends-at, walked, walk-meets}
 use denote.Triple.Clauses.{ensured, lasts}
+use Rattle.model.specs.State.{placesIn}
 use Rattle.instance_walker.specs.Walk.{walked as walkedBy}
 use Rattle.instance_walker.specs.declared.InstanceWalker.{InstanceWalker}
 use Rattle.instance_walker.specs.declared.Walked.{Walked}
@@ -112,7 +113,7 @@ module _ {M : Type 1} (𝓤 : URA M) (H : Heap 𝓤) (A : Atoms 𝓤) (W : Given
 
   -- what `step_by_value` says
   abbrev Said : Walked → Type 0
-  Said r = r ≡ walkedBy 128 (now (h .pens)) (h .position)
+  Said r = r ≡ walkedBy (placesIn (now (h .pens))) (now (h .pens)) (h .position)
 
   said : (r : Walked) → ent 𝓤 (ensured 𝓤 H A by-value.ended (by-value.clauses 𝓤 H A at-mem run) (κ′, tt) (h .pens, (h .position, tt)) tt r) (fact 𝓤 (Said r))
   said r = exE 𝓤 _ (λ ws. snd∗ 𝓤 (sem 𝓤 H A (lasts by-value.ended (κ′, tt) (h .pens, (h .position, tt)) ws)) (fact 𝓤 (Said r)))

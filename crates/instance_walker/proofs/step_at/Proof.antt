@@ -49,6 +49,7 @@ use denote.Triple.Walked.{says, Stays, stay-none, stay-none-slice, walkOf, goes-
 use denote.Triple.Clauses.{ensured, lasts}
 use denote.Exit.{yes}
 use Rattle.model.specs.declared.FoundHandle.{FoundHandle}
+use Rattle.model.specs.State.{placesIn}
 use Rattle.instance_walker.specs.Walk.{walked as walkedBy}
 use Rattle.instance_walker.specs.declared.InstanceWalker.{InstanceWalker}
 use Rattle.instance_walker.specs.declared.Walked.{Walked}
@@ -132,7 +133,7 @@ module _ {M : Type 1} (𝓤 : URA M) (H : Heap 𝓤) (A : Atoms 𝓤) (W : Given
   abbrev Post : Val → SProp 𝓤
   Post = walkOf 𝓤 H A step-at.ended stayed (step-at.clauses 𝓤 H A at-mem run) .post (((κ, tt), (q, tt), tt, (s, (m, tt)), at), tt)
 
-  exits : (r : Walked) → Is S.the-row r (S′.lowered r ∷ []) → r ≡ walkedBy 128 (now s) m → ent 𝓤 (sep 𝓤 (sep 𝓤 (A .lft κ q) (emp 𝓤)) (sem 𝓤 H A Params)) (Post (S′.lowered r))
+  exits : (r : Walked) → Is S.the-row r (S′.lowered r ∷ []) → r ≡ walkedBy (placesIn (now s)) (now s) m → ent 𝓤 (sep 𝓤 (sep 𝓤 (A .lft κ q) (emp 𝓤)) (sem 𝓤 H A Params)) (Post (S′.lowered r))
   exits r ok e =
       qed W ((‵ (flft κ q) ⊛ ‵ ftrue) ∷ ‵ Params ∷ []) ∵
       suffices ! _ (ends-at 𝓤 H A step-at.ended stayed (step-at.clauses 𝓤 H A at-mem run) W (((κ, tt), (q, tt), tt, (s, (m, tt)), at), tt) (S′.lowered r) r (tt, (tt, tt)) (tt, (tt, tt))) $ says ! e $
@@ -158,7 +159,7 @@ module _ {M : Type 1} (𝓤 : URA M) (H : Heap 𝓤) (A : Atoms 𝓤) (W : Given
 
   -- what `step` says of its answer and of the last value
   abbrev Said : FoundHandle → InstanceWalker → Type 0
-  Said f z = (f ≡ walkedBy 128 (now s) m .found) × ((z .pens ≡ s) × (z .position ≡ walkedBy 128 (now s) m .position))
+  Said f z = (f ≡ walkedBy (placesIn (now s)) (now s) m .found) × ((z .pens ≡ s) × (z .position ≡ walkedBy (placesIn (now s)) (now s) m .position))
 
   module _ (C : Calls 𝓤 H) (Λ : Loops 𝓤 H) (fm : FmC 𝓤 H (W .laws) C) (known : Triple 𝓤 (C #instance-walker·step) (Step 𝓤 H A at-mem run)) where
     walk : Is (ShrSlice (named 0) κ u8) s (v ∷ []) → ent 𝓤 (onEntry 𝓤 H A step-at.signature (κ, tt) (q, tt) (s, (m, tt)) at) (WpFn 𝓤 H C Λ code.function (v ∷ vint w64 m ∷ []) Post)
@@ -201,7 +202,7 @@ module _ {M : Type 1} (𝓤 : URA M) (H : Heap 𝓤) (A : Atoms 𝓤) (W : Given
         assigns ! (agg ! (and-then ! (load ! (from ! (stop !)) (look ! 8 refl)) (and-then ! (load ! (from ! (stop !)) (look ! 4 refl)) (no-more !)))) (from ! (stop !)) (init ! 15 refl (LL.lawful S.the-type S′.the-laws 𝓤 H A W .typed (answer f (zs .0 .position)) _ (answered f (found-as f _ is) (zs .0 .position) (was .1 .1 .1 .0 .1)) .0)) $
         returns ! (look ! 15 refl) $ forget ! 0 refl $ forget ! 4 refl $ forget ! 6 refl $ forget ! 8 refl $ forget ! 11 refl $ forget ! 13 refl $ forget ! 15 refl $
         move ! (15 ∷ 16 ∷ []) $ free1 ! $ move ! (13 ∷ 14 ∷ []) $ free1 ! $ move ! (11 ∷ 12 ∷ []) $ free1 ! $ move ! (0 ∷ 10 ∷ []) $ free1 ! $ move ! (7 ∷ 8 ∷ []) $ free1 ! $ move ! (5 ∷ 6 ∷ []) $ free1 ! $ move ! (3 ∷ 4 ∷ []) $ free1 ! $ free0 ! $
-        keep ! (1 ∷ 2 ∷ []) $ by ! (exits (answer f (zs .0 .position)) (answered f (found-as f _ is) (zs .0 .position) (was .1 .1 .1 .0 .1)) (whole-is f (zs .0 .position) (walkedBy 128 (now s) m) (e .0) (e .1 .1)))))))))))))))))))
+        keep ! (1 ∷ 2 ∷ []) $ by ! (exits (answer f (zs .0 .position)) (answered f (found-as f _ is) (zs .0 .position) (was .1 .1 .1 .0 .1)) (whole-is f (zs .0 .position) (walkedBy (placesIn (now s)) (now s) m) (e .0) (e .1 .1)))))))))))))))))))
 
 module _ {M : Type 1} (𝓤 : URA M) (H : Heap 𝓤) (A : Atoms 𝓤) (W : Given 𝓤 H A) (at-mem : Memory → SProp 𝓤) (run : Routine → Fun 𝓤) where
   at-walks : (C : Calls 𝓤 H) (Λ : Loops 𝓤 H) → FmC 𝓤 H (W .laws) C → Triple 𝓤 (C #instance-walker·step) (Step 𝓤 H A at-mem run)

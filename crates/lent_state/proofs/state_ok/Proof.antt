@@ -12,8 +12,9 @@ head-ok-requires c κs = search needs
 
 returns : tie.Need-returns
 returns c =
-    let a = c .before .before .before .before .before .args in
-    λ out. formed-by (a .places) (a .head) (a .pens .now) (a .writers .now) (a .lost .now) out
+    let b = c .before .before .before .before .before in
+    let a = b .args in
+    λ out. formed-by (a .places) (a .head) (a .pens .now) (a .writers .now) (a .lost .now) out (b .pre .3)
     (sym (c .before .head-ok .ensures) ∙ not-true _ (c .if1 .taken)) refl refl refl refl
 
 cast-table-ok : tie.Need-cast-table-ok
@@ -25,8 +26,9 @@ table-ok-requires c κs = search needs
 returns-2 : tie.Need-returns-2
 returns-2 c =
     let d = c .before .before .before .before in
-    let a = d .before .before .before .before .before .args in
-    λ out. formed-by (a .places) (a .head) (a .pens .now) (a .writers .now) (a .lost .now) out
+    let b = d .before .before .before .before .before in
+    let a = b .args in
+    λ out. formed-by (a .places) (a .head) (a .pens .now) (a .writers .now) (a .lost .now) out (b .pre .3)
     (sym (d .before .head-ok .ensures) ∙ not-false _ (d .if1 .left)) (sym (c .before .table-ok .ensures) ∙ not-true _ (c .if2 .taken)) refl refl refl
 
 cast-count : tie.Need-cast-count
@@ -39,8 +41,9 @@ returns-3 : tie.Need-returns-3
 returns-3 c =
     let e = c .before .before .before in
     let d = e .before .before .before .before in
-    let a = d .before .before .before .before .before .args in
-    λ out. formed-by (a .places) (a .head) (a .pens .now) (a .writers .now) (a .lost .now) out
+    let b = d .before .before .before .before .before in
+    let a = b .args in
+    λ out. formed-by (a .places) (a .head) (a .pens .now) (a .writers .now) (a .lost .now) out (b .pre .3)
     (sym (d .before .head-ok .ensures) ∙ not-false _ (d .if1 .left)) (sym (e .before .table-ok .ensures) ∙ not-false _ (e .if2 .left))
     (sym (c .before .writers-ok .ensures) ∙ not-true _ (c .if3 .taken)) refl refl
 
@@ -55,8 +58,9 @@ returns-4 c =
     let f = c .before .before .before in
     let e = f .before .before .before in
     let d = e .before .before .before .before in
-    let a = d .before .before .before .before .before .args in
-    λ out. formed-by (a .places) (a .head) (a .pens .now) (a .writers .now) (a .lost .now) out
+    let b = d .before .before .before .before .before in
+    let a = b .args in
+    λ out. formed-by (a .places) (a .head) (a .pens .now) (a .writers .now) (a .lost .now) out (b .pre .3)
     (sym (d .before .head-ok .ensures) ∙ not-false _ (d .if1 .left)) (sym (e .before .table-ok .ensures) ∙ not-false _ (e .if2 .left))
     (sym (f .before .writers-ok .ensures) ∙ not-false _ (f .if3 .left)) (sym (c .before .lost-ok .ensures) ∙ not-true _ (c .if4 .taken)) refl
 
@@ -73,8 +77,9 @@ returns-5 c =
     let f = g .before .before .before in
     let e = f .before .before .before in
     let d = e .before .before .before .before in
-    let a = d .before .before .before .before .before .args in
-    λ out. formed-by (a .places) (a .head) (a .pens .now) (a .writers .now) (a .lost .now) out
+    let b = d .before .before .before .before .before in
+    let a = b .args in
+    λ out. formed-by (a .places) (a .head) (a .pens .now) (a .writers .now) (a .lost .now) out (b .pre .3)
     (sym (d .before .head-ok .ensures) ∙ not-false _ (d .if1 .left)) (sym (e .before .table-ok .ensures) ∙ not-false _ (e .if2 .left))
     (sym (f .before .writers-ok .ensures) ∙ not-false _ (f .if3 .left)) (sym (g .before .lost-ok .ensures) ∙ not-false _ (g .if4 .left))
     (sym (c .counts-ok .ensures))

@@ -10,13 +10,13 @@ slice-relend-prefix-fresh : tie.Need-slice-relend-prefix-fresh
 slice-relend-prefix-fresh c = search needs
 
 slice-aggregate-fresh : tie.Need-slice-aggregate-fresh
-slice-aggregate-fresh c = let d = c .before .before .before .before in sym (length-take-le 65536 (d .args .pens .now) (omega (arith, d .pre .0)))
+slice-aggregate-fresh c = let d = c .before .before .before .before in sym (length-take-le (d .args .n) (d .args .pens .now) (omega (arith, d .pre .0, d .pre .1)))
 
 slice-relend-prefix-fresh-2 : tie.Need-slice-relend-prefix-fresh-2
 slice-relend-prefix-fresh-2 c = search needs
 
 slice-aggregate-fresh-2 : tie.Need-slice-aggregate-fresh-2
-slice-aggregate-fresh-2 c = let d = c .before .before .before .before .before in sym (length-take-le 5120 (d .args .writers .now) (omega (arith, d .pre .1)))
+slice-aggregate-fresh-2 c = let d = c .before .before .before .before .before in sym (length-take-le 5120 (d .args .writers .now) (omega (arith, d .pre .2)))
 
 slice-relend-prefix-fresh-3 : tie.Need-slice-relend-prefix-fresh-3
 slice-relend-prefix-fresh-3 c = search needs
@@ -24,7 +24,7 @@ slice-relend-prefix-fresh-3 c = search needs
 slice-aggregate-fresh-3 : tie.Need-slice-aggregate-fresh-3
 slice-aggregate-fresh-3 c =
     let d = c .before .before .before .before .before .before in
-    sym (length-take-le 4096 (d .args .lost .now) (omega (arith, d .pre .2)))
+    sym (length-take-le 4096 (d .args .lost .now) (omega (arith, d .pre .3)))
 
 fresh-requires : tie.Need-fresh-requires
 fresh-requires c κs = search needs

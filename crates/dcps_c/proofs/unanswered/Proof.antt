@@ -1,0 +1,30 @@
+-- `unanswered` meets its contract. Assumes nothing.
+use mathlib.Core.Path.{sym, _∙_}
+use borrow.Author.Needs.{needs}
+use Rattle.dcps_c.proofs.HeadReads.{unanswered-short, unanswered-one, unanswered-three}
+use Rattle.dcps_c.proofs.unanswered.Statement.{statement}
+use Rattle.dcps_c.proofs.unanswered.Tie as tie
+
+returns : tie.Need-returns
+returns c = unanswered-short (c .before .before .args .head .now) (c .if1 .taken)
+
+get-u16-requires : tie.Need-get-u16-requires
+get-u16-requires c κs = search needs
+
+figure-ok-requires : tie.Need-figure-ok-requires
+figure-ok-requires c κs = search needs
+
+returns-2 : tie.Need-returns-2
+returns-2 c =
+    let k = c .before .before in
+    unanswered-one (k .before .before .before .args .head .now) (k .before .if1 .left) (k .get-u16 .ensures)
+    (sym (c .before .figure-ok .ensures) ∙ c .if2 .taken)
+
+returns-3 : tie.Need-returns-3
+returns-3 c =
+    let k = c .before .before in
+    unanswered-three (k .before .before .before .args .head .now) (k .before .if1 .left) (k .get-u16 .ensures)
+    (sym (c .before .figure-ok .ensures) ∙ c .if2 .left)
+
+pub unanswered-spec : {M : Type 1} → statement M
+unanswered-spec = tie.close (tie.spec returns get-u16-requires figure-ok-requires returns-2 returns-3)

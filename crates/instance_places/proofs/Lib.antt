@@ -1,0 +1,1 @@
+-- No laws beside the proofs of the functions.
