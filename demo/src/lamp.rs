@@ -4,7 +4,7 @@
 use crate::history::Guid;
 use crate::names::Names;
 use crate::play::{Step, Watch};
-use crate::table::shown;
+use crate::table::{shown, written_by};
 use crate::tell::{counted, listed};
 use crate::words::{self, quoted, show_guid};
 use dcps::{InstanceStateKind, KeyHash, Refusal, State};
@@ -24,9 +24,7 @@ pub fn writer(word: &str) -> Result<Guid, String> {
 /// Where the lamp of a writer goes, as the library says.
 fn looked_up(state: &State, writer: &Guid) -> Result<Option<KeyHash>, Refusal> {
     let handle = state.writer_lookup(writer)?;
-    let key = handle.and_then(|handle| state.key_hash_for_handle(handle));
-    debug_assert_eq!(key, Written::of(state, writer).alive.first().copied());
-    Ok(key)
+    Ok(handle.and_then(|handle| state.key_hash_for_handle(handle)))
 }
 
 /// The instances with a writer among their writers, in key order. They explain the lamp and do not move it.
@@ -38,7 +36,7 @@ struct Written {
 impl Written {
     fn of(state: &State, writer: &Guid) -> Self {
         let (mut alive, mut abandoned) = (Vec::new(), Vec::new());
-        for instance in state.instances().filter(|i| i.writers.contains(writer)) {
+        for instance in written_by(state, writer) {
             match instance.kind {
                 InstanceStateKind::Alive => alive.push(instance.keyhash),
                 _ => abandoned.push(instance.keyhash),
@@ -95,14 +93,19 @@ impl Lamp {
         };
         let name = names.show(&from);
         match state.get_by_keyhash(&from) {
+            // Never met: what a purge takes was abandoned before, and had no lamp.
+            None => format!("{moved}: {name} is purged"),
             Some(i) if i.kind != InstanceStateKind::Alive => {
                 format!("{moved}: {name} is {}", shown(i.kind))
             }
             Some(i) if i.writers.contains(&self.writer) => {
                 format!("{moved}, which comes before it in key order")
             }
-            // It is there still: what a purge takes was abandoned before, and had no lamp.
-            _ => format!("{moved}: {} has left {name}", show_guid(&self.writer)),
+            // It need not have left by itself: a lapse takes it out too.
+            Some(_) => {
+                let writer = show_guid(&self.writer);
+                format!("{moved}: {writer} is no longer among the writers of {name}")
+            }
         }
     }
 
@@ -204,46 +207,54 @@ mod tests {
         [moved.clone(), stands.clone()]
     }
 
+    const DARK: &str = "dark: no alive instance has a/b among its writers.";
+    const ON_PEN_2: &str = "on pen-2, the only alive instance with a/b among its writers.";
+    const TAKEN_OUT: &str = "pen-1 → dark: a/b is no longer among the writers of pen-1";
+
+    /// Calls behind `DRAWN`, the last move, and where the lamp then stands.
+    const MOVES: &[[&str; 3]] = &[
+        [
+            "dispose pen-1",
+            "pen-1 → pen-2: pen-1 is abandoned (disposed)",
+            "on pen-2, the only alive instance with a/b among its writers. \
+             1 abandoned instance has a/b among its writers and does not count: pen-1.",
+        ],
+        [
+            "unregister pen-1\ndispose pen-2",
+            "pen-2 → dark: pen-2 is abandoned (disposed)",
+            "dark: no alive instance has a/b among its writers. \
+             2 abandoned instances have a/b among their writers and do not count: pen-1 and pen-2.",
+        ],
+        ["unregister pen-1 from a/b", "pen-1 → pen-2: pen-1 is abandoned (no writers)", ON_PEN_2],
+        ["part a/b", "pen-1 → dark: pen-1 is abandoned (no writers)", DARK],
+        ["part a/b\nadmit pen-2 from a/b at 2s", "dark → pen-2", ON_PEN_2],
+        // Purged and started again, it has another handle and the same key.
+        [
+            "dispose pen-1 at 1s\nautopurge at 9s disposed 1s\n\
+             unregister pen-2 from a/b\nadmit pen-1 from a/b at 9s",
+            "dark → pen-1",
+            "on pen-1, the only alive instance with a/b among its writers.",
+        ],
+        // With another writer in its set pen-1 stays alive.
+        [
+            "note_writer pen-1 from a/c\nunregister pen-1 from a/b",
+            "pen-1 → pen-2: a/b is no longer among the writers of pen-1",
+            ON_PEN_2,
+        ],
+        ["note_writer pen-1 from a/c\npart a/b", TAKEN_OUT, DARK],
+        ["note_writer pen-1 from a/c\ndepart a/b", TAKEN_OUT, DARK],
+        ["note_writer pen-1 from a/c\ndrop_writer a/b", TAKEN_OUT, DARK],
+        [
+            "note_writer pen-1 from a/c\nmatch a/b kind automatic lease 1s at 1s\nlapse at 2s",
+            TAKEN_OUT,
+            DARK,
+        ],
+    ];
+
     #[test]
     fn why_it_moved_and_where_it_stands() {
-        let only = |key: &str| {
-            format!(
-                "The lamp of a/b is on {key}, the only alive instance with a/b among its writers."
-            )
-        };
-        let dark = "The lamp of a/b is dark: no alive instance has a/b among its writers.";
-        for (calls, moved, stands) in [
-            (
-                "dispose pen-1",
-                "pen-1 → pen-2: pen-1 is abandoned (disposed)",
-                only("pen-2") + " 1 abandoned instance has a/b among its writers and does not count: pen-1.",
-            ),
-            (
-                "unregister pen-1 from a/b",
-                "pen-1 → pen-2: pen-1 is abandoned (no writers)",
-                only("pen-2"),
-            ),
-            (
-                "note_writer pen-1 from a/c\nunregister pen-1 from a/b",
-                "pen-1 → pen-2: a/b has left pen-1",
-                only("pen-2"),
-            ),
-            ("part a/b", "pen-1 → dark: pen-1 is abandoned (no writers)", dark.to_owned()),
-            (
-                "unregister pen-1\ndispose pen-2",
-                "pen-2 → dark: pen-2 is abandoned (disposed)",
-                dark.to_owned()
-                    + " 2 abandoned instances have a/b among their writers and do not count: pen-1 and pen-2.",
-            ),
-            ("part a/b\nadmit pen-2 from a/b at 2s", "dark → pen-2", only("pen-2")),
-            // Purged and started again, it has another handle and the same key.
-            (
-                "dispose pen-1 at 1s\nautopurge at 9s disposed 1s\nunregister pen-2 from a/b\nadmit pen-1 from a/b at 9s",
-                "dark → pen-1",
-                only("pen-1"),
-            ),
-        ] {
-            assert_eq!(after(calls), [moved.to_owned(), stands], "{calls}");
+        for [calls, moved, stands] in MOVES {
+            assert_eq!(after(calls), [*moved, &format!("The lamp of a/b is {stands}")], "{calls}");
         }
     }
 
@@ -312,21 +323,45 @@ mod tests {
         }
     }
 
-    /// Over any day the library and the records agree after every call, and the text says so at the end.
+    /// Every sort of reason and of standing that is met.
+    const SORTS: &[&str] = &[
+        "dark → ",
+        " → dark: ",
+        ", which comes before it in key order",
+        " is abandoned (disposed)",
+        " is abandoned (no writers)",
+        " is no longer among the writers of ",
+        " is dark: no alive instance",
+        ", the only alive instance",
+        ", the first in key order of 2 alive",
+        " does not count: ",
+        " do not count: ",
+    ];
+
+    /// Over any day the library and the records agree after every call, and the text says so at the end. Over all of them
+    /// each sort is met, of both writers.
     #[test]
     fn any_day_is_explained() {
         let mut days = Days::new(11);
-        let sizes = [FITTING, LARGEST].into_iter().cycle();
-        let writers =
-            ["a/b", "a/c"].map(|word| writer(word).expect("a writer")).into_iter().cycle();
-        for (largest, writer) in sizes.zip(writers.flat_map(|w| [w, w])).take(120) {
-            let (day, mut names) = (days.next_day(40), Names::new(largest));
-            let mut lamp = Lamp::new(writer);
-            let state = play_text(&day, &mut names, &mut [&mut lamp, &mut Agrees(writer)]);
-            let text = lamp.text(&state, &names).expect("a state of calls is not refused");
-            let on = lamp.on.map(|key| format!(" is on {}, the ", names.show_with_hash(&key)));
-            let stands = on.unwrap_or_else(|| " is dark: ".to_owned());
-            assert!(text.is_none_or(|text| text.contains(&stands)), "{day}");
+        for word in ["a/b", "a/c"] {
+            let (writer, mut all) = (writer(word).expect("a writer"), String::new());
+            for largest in [FITTING, LARGEST].into_iter().cycle().take(500) {
+                let (day, mut names) = (days.next_day(40), Names::new(largest));
+                let mut lamp = Lamp::new(writer);
+                let state = play_text(&day, &mut names, &mut [&mut lamp, &mut Agrees(writer)]);
+                let text = lamp.text(&state, &names).expect("a state of calls is not refused");
+                assert_eq!(text.is_some(), day.contains(word), "{day}");
+                let Some(text) = text else {
+                    continue;
+                };
+                let on = lamp.on.map(|key| format!(" is on {}, the ", names.show_with_hash(&key)));
+                let stands = on.unwrap_or_else(|| " is dark: ".to_owned());
+                assert!(text.contains(&stands), "{day}");
+                all += &text;
+            }
+            let unseen: Vec<_> = SORTS.iter().filter(|sort| !all.contains(**sort)).collect();
+            assert!(unseen.is_empty(), "{word}: {unseen:?}");
+            assert!(!all.contains(" is purged"), "{word}: a purge moves no lamp");
         }
     }
 }
