@@ -13,6 +13,7 @@ mod c;
 
 const WRITER: [u8; 16] = [9; 16];
 const OTHER: [u8; 16] = [8; 16];
+const SECOND: Duration = Duration::from_secs(1);
 
 fn at(sec: i32) -> Time {
     Time { sec, nanosec: 0 }
@@ -162,6 +163,80 @@ fn nothing_else_moves_it() -> Result<(), Refusal> {
     assert_eq!(state.lookup(&key(3)), None);
     state.matched(WRITER, LivelinessKind::Automatic, None, Duration::ZERO)?;
     assert_eq!(state.writer_lookup(&WRITER)?, before);
+    Ok(())
+}
+
+/// The writer has a lease of 1 s from 1 s on, and two instances that the other one writes as well.
+fn leased() -> Result<State, Refusal> {
+    let mut state = drawn(Places::Small, &[key(2), key(1)])?;
+    draw(&mut state, key(1), OTHER)?;
+    draw(&mut state, key(2), OTHER)?;
+    state.matched(WRITER, LivelinessKind::Automatic, Some(SECOND), SECOND)?;
+    Ok(state)
+}
+
+/// The call takes the writer out of every set, and so out of the answer: the instances stay alive by the other one.
+fn takes_it_out(state: &State, sheet: &Sheet) -> Result<(), Refusal> {
+    let mut state = state.clone();
+    state.call(sheet)?;
+    for instance in state.instances() {
+        assert_eq!(instance.kind, InstanceStateKind::Alive, "{sheet:?}");
+        assert_eq!(instance.writers, [OTHER], "{sheet:?}");
+    }
+    assert_eq!([named(&state, &WRITER)?, named(&state, &OTHER)?], [None, Some(key(1))]);
+    Ok(())
+}
+
+/// Codes 33, 34 and 37 leave the sets. A later lapse takes out only whom it expires itself, so 7, 50 or 51 has to.
+#[test]
+fn lost_and_still_in_its_sets() -> Result<(), Refusal> {
+    let (gone, lost) = (Sheet::unmatched(&WRITER), Sheet::lost_with_participant(&WRITER));
+    for left in [gone, lost, Sheet::expire(2 * SECOND)] {
+        let mut state = leased()?;
+        let pens = state.parts().1.to_vec();
+        for (sheet, moved) in [(left, true), (Sheet::lapse(3 * SECOND, None), false)] {
+            assert_eq!(state.call(&sheet)?.yes, moved, "{sheet:?}");
+            assert_eq!(state.parts().1, pens, "{sheet:?}");
+            assert_eq!(named(&state, &WRITER)?, Some(key(1)), "{sheet:?}");
+        }
+        takes_it_out(&state, &Sheet::drop_writer(&WRITER, None))?;
+        takes_it_out(&state, &Sheet::part(&WRITER, None))?;
+        takes_it_out(&state, &Sheet::depart(&WRITER, None))?;
+    }
+    Ok(())
+}
+
+#[test]
+fn out_of_every_set() -> Result<(), Refusal> {
+    let state = leased()?;
+    assert_eq!(named(&state, &WRITER)?, Some(key(1)));
+    takes_it_out(&state, &Sheet::lapse(2 * SECOND, None))?;
+    takes_it_out(&state, &Sheet::part(&WRITER, None))?;
+    takes_it_out(&state, &Sheet::depart(&WRITER, None))?;
+    Ok(())
+}
+
+/// Codes 6 and 10 put the writer into a set that does not count, until a sample of the other one revives the instance.
+#[test]
+fn noted_before_it_is_revived() -> Result<(), Refusal> {
+    let mut disposed = drawn(Places::Small, &[key(2)])?;
+    let first = draw(&mut disposed, key(1), OTHER)?;
+    let mut left = disposed.clone();
+    disposed.dispose(first, None)?;
+    left.unregister_writer(first, OTHER, None)?;
+    let admitted = Sheet::note_admitted(&key(1), at(2), at(2), &WRITER);
+    for sheet in [Sheet::note_writer(first, &WRITER), admitted] {
+        for ended in [&disposed, &left] {
+            let mut state = ended.clone();
+            state.call(&sheet)?;
+            let instance = state.get_by_handle(first).expect("it is known");
+            assert_ne!(instance.kind, InstanceStateKind::Alive);
+            assert!(instance.writers.contains(&WRITER), "{sheet:?}");
+            assert_eq!(named(&state, &WRITER)?, Some(key(2)), "{sheet:?}");
+            draw(&mut state, key(1), OTHER)?;
+            assert_eq!(named(&state, &WRITER)?, Some(key(1)), "{sheet:?}");
+        }
+    }
     Ok(())
 }
 
