@@ -25,7 +25,7 @@
  *     its participant is heard       participant_asserted
  *     it disposes an instance        observe_lifecycle, which answers the handle and counts the marker as a sample; dispose
  *     it unregisters one             where the key is known: unregister_writer, release_owner_of
- *     an instance is asked for       dcps_writer_lookup: its first alive one in the order of the keys
+ *     an instance of it is asked for dcps_writer_lookup: its first alive one in the order of the keys
  *     time goes by                   lapse, at the latest when its answer's next due says; take_lost before 256 are in lost;
  *                                    autopurge, where instances that are not alive are to go
  *     samples are taken or seen      note_taken, mark_view_seen
