@@ -16,6 +16,7 @@ use crate::lookup_tally::{LookupTally, Met, lookup_tally};
 use crate::read::{READ_BYTES, Read};
 use crate::reads::answer_length;
 use crate::run::Parting;
+use crate::shrink::Shrink;
 
 /// Pens as lent, and the instances that the reading finds there, or its
 /// refusal.
@@ -183,19 +184,9 @@ impl LookupCase {
         pens.same("pens of a lookup", &self.pens.bytes)?;
         Ok(number)
     }
+}
 
-    /// A small case, by steps that each still fail.
-    pub fn shrunk(&self, mut fails: impl FnMut(&Self) -> bool) -> Self {
-        let mut small = self.clone();
-        loop {
-            let smaller = small.smaller().find(|case| fails(case));
-            match smaller {
-                Some(smaller) => small = smaller,
-                None => return small,
-            }
-        }
-    }
-
+impl Shrink for LookupCase {
     /// Smaller ones: asked once, by the answer, by the table.
     fn smaller(&self) -> impl Iterator<Item = Self> {
         let once = self.again.then(|| Self { again: false, ..self.clone() });

@@ -10,7 +10,7 @@ use compare::keys::compare_keys;
 use compare::list::Library;
 use compare::lookups::{self, compare_lookups};
 use compare::run::Parting;
-use compare::shrink::shrink;
+use compare::shrink::{Shrink, shrink};
 use compare::times::{Conversion, compare_times};
 use compare::{KeyCase, List, LookupCase, Tally, library};
 

@@ -4,6 +4,7 @@
 use compare::LookupCase;
 use compare::lookups::{cases, compare_lookups};
 use compare::read::{READ_BYTES, Read, Told, laid_out};
+use compare::shrink::Shrink;
 use reading::bytes::{Guid, u32_at, u64_at};
 use reading::layout::{
     INSTANCE_BYTES, Instance, Kind, LARGE, NANOSECONDS, SET_PLACES, SMALL, pens_bytes,
@@ -79,6 +80,23 @@ fn a_comparison_of_too_few_says_what_is_missing() {
     assert!(missing.contains(&"places 32".into()) && missing.contains(&"3".into()), "{missing:?}");
 }
 
+/// Full tables of the other size do not make up for it.
+#[test]
+fn a_sort_that_one_size_lacks_is_missing() {
+    for places in [SMALL, LARGE] {
+        let full = |case: &LookupCase| {
+            let all_taken = |all: &Vec<Instance>| all.len() == usize::from(places);
+            let of_size = case.pens.bytes.len() == pens_bytes(places);
+            of_size && case.pens.instances.as_ref().is_ok_and(all_taken)
+        };
+        let lookups = cases(1, LOOKUPS).filter(|(_, case)| !full(case));
+        let compared = compare_lookups(lookups, right);
+        let missing = compared.unwrap_or_else(|(_, case, _)| panic!("{case}")).missing();
+        let instances = format!("instances {places}: all places");
+        assert_eq!(missing, [instances, format!("place in the table {places}: last of all")]);
+    }
+}
+
 fn alive(i: &Instance) -> bool {
     i.kind == Kind::Alive
 }
@@ -128,10 +146,19 @@ fn signed_search(set: &[Guid], guid: &Guid) -> bool {
     set.iter().take_while(|other| signed(other) <= signed(guid)).any(|other| other == guid)
 }
 
+/// The first alive one that has the GUID in its set, or elsewhere.
+fn in_set_or<'a>(
+    all: &'a [Instance],
+    guid: &Guid,
+    elsewhere: impl Fn(&Instance) -> bool,
+) -> Option<&'a Instance> {
+    all.iter().find(|i| alive(i) && (has(i, guid) || elsewhere(i)))
+}
+
 type Rule = for<'a> fn(&'a [Instance], &Guid) -> Option<&'a Instance>;
 
 /// Wrong rules, each with the number of instances that catches it.
-const WRONG: [(&str, Rule, usize); 26] = [
+const WRONG: [(&str, Rule, usize); 29] = [
     ("the last in key order", |all, guid| fitting(all, guid).pop(), 2),
     ("the second", |all, guid| fitting(all, guid).into_iter().take(2).next_back(), 2),
     ("the lowest handle", |all, guid| fitting(all, guid).into_iter().min_by_key(|i| i.handle), 2),
@@ -139,6 +166,11 @@ const WRONG: [(&str, Rule, usize); 26] = [
     (
         "by the last half of the key",
         |all, guid| fitting(all, guid).into_iter().min_by_key(|i| u64_at(&i.key, 8)),
+        2,
+    ),
+    (
+        "keys as signed numbers",
+        |all, guid| fitting(all, guid).into_iter().min_by_key(|i| i128::from_be_bytes(i.key)),
         2,
     ),
     ("dead ones too", of_any_kind, 1),
@@ -192,12 +224,15 @@ const WRONG: [(&str, Rule, usize); 26] = [
     ),
     (
         "an owner too",
-        |all, guid| {
-            let owns = |i: &Instance| i.owner.is_some_and(|(owner, _)| owner == *guid);
-            all.iter().find(|i| alive(i) && (has(i, guid) || owns(i)))
-        },
+        |all, guid| in_set_or(all, guid, |i| i.owner.is_some_and(|(owner, _)| owner == *guid)),
         1,
     ),
+    (
+        "a holder too",
+        |all, guid| in_set_or(all, guid, |i| i.holder.as_deref() == Some(&guid[..])),
+        1,
+    ),
+    ("a key too", |all, guid| in_set_or(all, guid, |i| i.key == *guid), 1),
     ("sets in signed order", |all, guid| by_set(all, |set| signed_search(set, guid)), 1),
 ];
 
@@ -232,7 +267,8 @@ fn a_choice_that_does_not_stay_is_caught() {
     assert!(small.again && instances(&small) == 2, "{small}");
 }
 
-/// Handle 0 for none, and the place in the table for the handle.
+/// Handle 0 for none, the place in the table for the handle, and its high bytes
+/// lost.
 #[test]
 fn another_number_for_the_handle_is_caught() {
     let found = smallest_unrefused(|answer, _| answer[2] = 1);
@@ -243,6 +279,8 @@ fn another_number_for_the_handle_is_caught() {
         over_bytes(reads::table(pens).map(|all| Told::handle(place(all))), answer)
     });
     assert_eq!(instances(&place), 1, "{place}");
+    let low = smallest_unrefused(|answer, _| answer[8..12].fill(0));
+    assert_eq!(instances(&low), 1, "{low}");
 }
 
 /// Bytes that are left as they were, or that are not zero where none is named.

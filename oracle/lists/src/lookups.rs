@@ -1,6 +1,6 @@
 //! Tables of instances from a seed, each with GUIDs to look up in it: well
-//! formed, damaged, or of another length. Keys and GUIDs share halves, and
-//! handles are in no order of keys.
+//! formed, damaged, or of another length. Keys and GUIDs share halves, handles
+//! are in no order of keys, and some GUIDs are in the last instance's set alone.
 
 use reading::State;
 use reading::bytes::{Guid, Key, put};
@@ -21,6 +21,9 @@ const HALVES: usize = 14;
 const GUID_HALVES: usize = 6;
 /// Halves that an order of signed numbers, or of fewer bits, gets wrong.
 const ENDS: [u64; 6] = [0, 1, 1 << 32, (1 << 63) - 1, 1 << 63, u64::MAX];
+/// The last instance is alive, and the only one with some GUID, in one of so many
+/// tables: a search that ends before the last place shows.
+const LONE_ONE_IN: usize = 2;
 
 /// A table as lent, and the GUIDs that it is asked for.
 pub struct LookupTable {
@@ -29,14 +32,21 @@ pub struct LookupTable {
 }
 
 impl LookupTable {
-    /// With 32 places of every second seed, else with 128.
+    /// Every second seed has 32 places, the others 128.
     pub fn of_seed(seed: u64) -> Self {
         let mut rng = Rng::new(seed);
         let places = FIGURES[(seed % 2) as usize];
         let halves = halves(&mut rng);
-        let guids = guids(&mut rng, &halves[..GUID_HALVES]);
-        let state = state(&mut rng, places, &halves, &guids);
-        let asked = (0..ASKED).map(|_| asked(&mut rng, &state.instances, &guids)).collect();
+        let (of_guids, of_keys_alone) = halves.split_at(GUID_HALVES);
+        let guids = guids(&mut rng, of_guids);
+        let mut state = state(&mut rng, places, &halves, &guids);
+        // None of the other GUIDs has a half that is of keys alone.
+        let lone = joined(rng.pick(of_guids), rng.pick(of_keys_alone));
+        if rng.one_in(LONE_ONE_IN) {
+            give_last(&mut state.instances, lone);
+        }
+        let asked = |_| asked(&mut rng, &state.instances, &guids, lone);
+        let asked = (0..ASKED).map(asked).collect();
         Self { pens: lent(&mut rng, &state), asked }
     }
 }
@@ -139,8 +149,19 @@ fn set(rng: &mut Rng, guids: &[Guid]) -> Vec<Guid> {
     })
 }
 
-/// Of a set or any other, zero, or one byte off.
-fn asked(rng: &mut Rng, table: &[Instance], guids: &[Guid]) -> Guid {
+/// Puts a GUID that is in no set into that of the last instance, in place of
+/// another where it is full.
+fn give_last(instances: &mut [Instance], guid: Guid) {
+    if let Some(last) = instances.last_mut() {
+        last.kind = Kind::Alive;
+        last.writers.truncate(SET_PLACES - 1);
+        last.writers.push(guid);
+        last.writers.sort();
+    }
+}
+
+/// Of a set or any other, zero, one byte off, or the last instance's alone.
+fn asked(rng: &mut Rng, table: &[Instance], guids: &[Guid], lone: Guid) -> Guid {
     let mut guid = rng.pick(guids);
     match rng.below(8) {
         0 => guid = [0; 16],
@@ -149,6 +170,7 @@ fn asked(rng: &mut Rng, table: &[Instance], guids: &[Guid]) -> Guid {
             let set = rng.pick_some(table).map_or(&[][..], |i| &i.writers);
             guid = rng.pick_some(set).copied().unwrap_or(guid);
         }
+        5 => guid = lone,
         _ => {}
     }
     guid
