@@ -25,6 +25,7 @@
  *     its participant is heard       participant_asserted
  *     it disposes an instance        observe_lifecycle, which answers the handle and counts the marker as a sample; dispose
  *     it unregisters one             where the key is known: unregister_writer, release_owner_of
+ *     an instance of it is asked for dcps_writer_lookup: its first alive one in the order of the keys
  *     time goes by                   lapse, at the latest when its answer's next due says; take_lost before 256 are in lost;
  *                                    autopurge, where instances that are not alive are to go
  *     samples are taken or seen      note_taken, mark_view_seen
@@ -561,7 +562,11 @@ uint32_t dcps_handle_at_position(const uint8_t *pens, size_t pens_len, size_t po
 uint32_t dcps_holder_in_force(const uint8_t *pens, size_t pens_len, uint64_t high, uint64_t low, uint8_t *answer,
                               size_t answer_len);
 
-/* The handle of some alive instance whose set has the GUID: present and handle. */
+/* The handle of the first instance, in the order of the keys, that is alive and whose set has the GUID: present and handle;
+ * none exactly where there is no such instance. First is the lowest key (16 bytes, unsigned, from the first on), not the
+ * lowest handle: handles count instances as they started. One that is not alive never counts, also where the GUID is still
+ * in its set. The same pens give the same answer; no change of times, counts, view or owners moves it, and nothing that
+ * becomes of the instances behind it. */
 uint32_t dcps_writer_lookup(const uint8_t *pens, size_t pens_len, uint64_t high, uint64_t low, uint8_t *answer,
                             size_t answer_len);
 

@@ -7,6 +7,7 @@ pub const USAGE: &str = "\
 usage: demo DAY                       plays the file and prints the instances and writers after it
        demo DAY log                   prints every call with its answer
        demo DAY explain KEY           prints the history of one instance, and why it is shown as it is
+       demo DAY lamp WRITER           prints the calls that moved a writer's lamp, and why it stands where it does
        demo DAY why                   counts how often each instance was shown abandoned, and ranks the causes
        demo DAY why --csv             the same as comma-separated values, a row for each abandonment
        demo DAY why --json            the same as JSON
@@ -37,7 +38,12 @@ A console has places for 128 instances. A line of its own above the first call,
 
 makes it a bench-top console with places for 32.
 
-Exit status: 0; 1 for a file or a key that cannot be shown; 2 for wrong arguments.
+A writer's lamp goes to the first alive instance, in the order of the keys, with that writer among its writers. To
+see it in the middle of a day, play the first lines of the file:
+
+  head -n 20 day.txt | demo - lamp plotter-1/c1
+
+Exit status: 0; 1 for a file, key or writer that cannot be shown; 2 for wrong arguments.
 ";
 
 #[derive(Debug, PartialEq, Eq)]
@@ -45,6 +51,7 @@ pub enum Mode {
     Tables,
     Log,
     Explain(String),
+    Lamp(String),
     Why(Form),
 }
 
@@ -73,10 +80,12 @@ pub fn read(arguments: &[OsString]) -> Result<Asked, String> {
         ["log"] => Mode::Log,
         ["explain", key] => Mode::Explain(key.to_owned()),
         ["explain"] => return Err("explain needs a key behind it".to_owned()),
+        ["lamp", writer] => Mode::Lamp(writer.to_owned()),
+        ["lamp"] => return Err("lamp needs a writer behind it, as plotter-1/c1".to_owned()),
         ["why"] => Mode::Why(Form::Text),
         ["why", form] | [form] if form.starts_with('-') => Mode::Why(read_form(form)?),
         ["why", ..] => return Err("why takes one of --csv, --json and --html".to_owned()),
-        ["log", word, ..] | ["explain", _, word, ..] | [word, ..] => {
+        ["log", word, ..] | ["explain" | "lamp", _, word, ..] | [word, ..] => {
             return Err(format!("'{word}' is not understood here"));
         }
     };

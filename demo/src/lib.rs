@@ -1,4 +1,5 @@
-//! Plays a day's list of calls, shows which instances still have a writer, and why others were shown abandoned.
+//! Plays a day's list of calls, shows which instances still have a writer, why others were shown abandoned, and where a
+//! writer's lamp goes.
 
 mod args;
 mod cause;
@@ -7,6 +8,7 @@ mod day;
 mod explain;
 mod forms;
 mod history;
+mod lamp;
 mod largest;
 mod make;
 mod marks;
@@ -28,9 +30,10 @@ mod words;
 mod writers;
 
 use args::{Asked, Mode};
-use dcps::KeyHash;
+use dcps::{KeyHash, Refusal};
 use explain::Explain;
-use history::History;
+use history::{Guid, History};
+use lamp::Lamp;
 use names::Names;
 use play::{play, Watch};
 use report::Report;
@@ -81,42 +84,50 @@ fn show(day: &OsStr, mode: Mode) -> Result<String, Stop> {
     let mut source = Source::open(day).map_err(unreadable)?;
     let sized = source.read("looking at the keys").and_then(|mut s| largest::largest(&mut s));
     let largest = sized.map_err(unreadable)?;
-    let key = match &mode {
-        Mode::Explain(word) => asked(word, largest)?,
-        _ => None,
-    };
+    let (key, writer) = asked(&mode, largest)?;
     let mut names = Names::new(largest);
     let (mut tables, mut log) = (Tables::default(), Log::default());
     let (mut explain, mut history) = (Explain::new(key.unwrap_or_default()), History::default());
-    let mut warnings = Warnings::default();
+    let (mut lamp, mut warnings) = (Lamp::new(writer.unwrap_or_default()), Warnings::default());
     let watcher: &mut dyn Watch = match mode {
         Mode::Tables => &mut tables,
         Mode::Log => &mut log,
         Mode::Explain(_) => &mut explain,
+        Mode::Lamp(_) => &mut lamp,
         Mode::Why(_) => &mut history,
     };
     let mut calls = source.read("playing").map_err(unreadable)?;
     let played = play(&mut calls, &mut names, &mut [&mut warnings, watcher]);
     drop(calls);
     let state = played.map_err(|stop| wrong(stopped(&name, stop)))?;
+    let refused = |refusal: Refusal| wrong(refusal.to_string());
+    let never = |word: String| wrong(format!("{word} never stands in {name}"));
     let text = match mode {
-        Mode::Tables => tables.text(&name, &state, &names).map_err(|r| wrong(r.to_string()))?,
+        Mode::Tables => tables.text(&name, &state, &names).map_err(refused)?,
         Mode::Log => log.text(),
-        Mode::Explain(word) => key
-            .and_then(|key| explain.text(&names.show(&key)))
-            .ok_or_else(|| wrong(format!("{word} never stands in {name}")))?,
+        Mode::Explain(word) => {
+            key.and_then(|key| explain.text(&names.show(&key))).ok_or_else(|| never(word))?
+        }
+        Mode::Lamp(word) => {
+            lamp.text(&state, &names).map_err(refused)?.ok_or_else(|| never(word))?
+        }
         Mode::Why(form) => Report::new(&name, &history, &names, &warnings).write(form),
     };
     let _ = io::stderr().write_all(warnings.text(&name).as_bytes());
     Ok(text)
 }
 
-/// The key that is to be explained; none where it is beyond the largest size, so that it cannot stand in the day.
-fn asked(word: &str, largest: u64) -> Result<Option<KeyHash>, Stop> {
-    if words::is_name(word) && names::size(word) > largest {
-        return Ok(None);
+/// The key and the writer that are asked about. No key where it is beyond the largest size, so that it cannot stand in the
+/// day.
+fn asked(mode: &Mode, largest: u64) -> Result<(Option<KeyHash>, Option<Guid>), Stop> {
+    let (mut key, mut writer) = (None, None);
+    match mode {
+        Mode::Explain(word) if words::is_name(word) && names::size(word) > largest => {}
+        Mode::Explain(word) => key = Some(Names::new(largest).key(word).map_err(wrong)?),
+        Mode::Lamp(word) => writer = Some(lamp::writer(word).map_err(wrong)?),
+        _ => {}
     }
-    Names::new(largest).key(word).map(Some).map_err(wrong)
+    Ok((key, writer))
 }
 
 /// Each bad line with what is wrong with it.

@@ -81,7 +81,7 @@ impl Names {
     }
 
     /// Whether a KeyHash does not have the name in it.
-    fn hashes(&self) -> bool {
+    pub fn hashes(&self) -> bool {
         self.largest > FITTING
     }
 
@@ -93,7 +93,15 @@ impl Names {
         }
     }
 
-    /// Where a key stands in a list: by name where it is hashed, as the order of hashes tells nobody anything.
+    /// With the KeyHash beside a name that is hashed, for where the order of keys counts.
+    pub fn show_with_hash(&self, key: &KeyHash) -> String {
+        match self.hashed.get(key) {
+            Some(name) => format!("{name} ({})", words::as_hex(key)),
+            None => self.show(key),
+        }
+    }
+
+    /// Where a key stands in a list: by name where it is hashed, as the order of hashes tells a reader of lists nothing.
     pub fn order(&self, key: &KeyHash) -> (Option<&str>, KeyHash) {
         (self.hashed.get(key).map(String::as_str), *key)
     }
@@ -177,6 +185,19 @@ mod tests {
         let mut names = Names::new(LARGEST);
         let digits = "0x61626300000000000000000000000000";
         assert_eq!(names.key(digits).map(|k| names.show(&k)), Ok(digits.to_owned()));
+    }
+
+    #[test]
+    fn the_hash_stands_beside_a_hashed_name() {
+        let digits = "0x00112233445566778899aabbccddeeff";
+        let hashed = "abc (0x900150983cd24fb0d6963f7d28e17f72)";
+        for (largest, abc) in [(FITTING, "abc"), (LARGEST, hashed)] {
+            let mut names = Names::new(largest);
+            for (word, shown) in [("abc", abc), (digits, digits)] {
+                let key = names.key(word).expect("a key");
+                assert_eq!(names.show_with_hash(&key), shown);
+            }
+        }
     }
 
     #[test]

@@ -1,5 +1,6 @@
 //! The tables of instances and writers after a day.
 
+use crate::history::Guid;
 use crate::make::Said;
 use crate::names::Names;
 use crate::play::{Step, Watch};
@@ -180,10 +181,14 @@ fn since(i: &Instance<'_>) -> String {
     at.map_or_else(|| NOTHING.to_owned(), show_time)
 }
 
+/// The instances with a writer among their writers, in key order.
+pub fn written_by<'a>(state: &'a State, writer: &'a Guid) -> impl Iterator<Item = Instance<'a>> {
+    state.instances().filter(move |i| i.writers.contains(writer))
+}
+
 fn writers(state: &State, names: &Names) -> String {
     let rows = state.writers().map(|w| {
-        let writes = state.instances().filter(|i| i.writers.contains(&w.guid));
-        let writes: Vec<_> = writes.map(|i| i.keyhash).collect();
+        let writes: Vec<_> = written_by(state, &w.guid).map(|i| i.keyhash).collect();
         let writes = or_nothing(names.list(&writes));
         let [kind, lease, asserted] = offered(&w);
         vec![show_guid(&w.guid), liveliness(w.state).to_owned(), kind, lease, asserted, writes]

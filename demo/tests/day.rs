@@ -112,10 +112,13 @@ fn a_long_day_takes_little_room() {
         let _ = writeln!(day, "admit pen-{:02} from a/b at {n}s # {:700}", n % 40, "a sample");
     }
     assert!(day.len() > 28 << 20);
-    for mode in ["", " why", " why --html"] {
+    let calls = "40001 calls";
+    for (mode, said) in
+        [("", calls), (" why", calls), (" why --html", calls), (" lamp a/b", "1 call ")]
+    {
         let limited = format!("ulimit -v 24000; exec {} -{mode}", env!("CARGO_BIN_EXE_demo"));
         let output = common::shell(&limited, day.as_bytes());
         assert!(output.status.success(), "{mode}: {}", text(&output.stderr));
-        assert!(text(&output.stdout).contains("40001 calls"));
+        assert!(text(&output.stdout).contains(said), "{mode}");
     }
 }

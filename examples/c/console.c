@@ -9,6 +9,7 @@
  *     leave WRITER | lose WRITER        the writer is deleted | lost with its participant
  *     tick                              leases that have run out at the clock
  *     purge SECONDS                     instances that are not alive for so long go
+ *     lamp WRITER                       the first alive instance of the writer, in the order of the keys
  *     show                              the tables
  *
  * PEN is a pen's serial, the key of a topic with `@key string<64> serial`. A writer is PARTICIPANT/ENTITY, at most 12 and 4
@@ -206,6 +207,22 @@ static void purge(const char *seconds)
         printf("  %" PRIu32 " gone\n", dcps_answer_count(answer));
 }
 
+/* An operator presses the button of a writer, and its lamp goes to an instance: as long as no call comes in between, to the
+ * same one. Keys are hashed here, so their order is not that of the serials. */
+static void lamp(const char *writer)
+{
+    uint8_t guid[DCPS_GUID_BYTES], read[DCPS_READ_BYTES];
+    guid_of(guid, writer);
+    if (!accepted(dcps_writer_lookup(console.pens, console.pens_bytes, dcps_high(guid), dcps_low(guid), read, sizeof read)))
+        return;
+    printf("  ");
+    if (dcps_read_present(read))
+        print_handle(dcps_read_handle(read));
+    else
+        printf("dark");
+    printf("\n");
+}
+
 /* ---- the tables */
 
 static void print_instance(const uint8_t *record)
@@ -281,6 +298,8 @@ static void obey(char *line)
         tick();
     else if (strcmp(word, "purge") == 0 && first)
         purge(first);
+    else if (strcmp(word, "lamp") == 0 && first)
+        lamp(first);
     else if (strcmp(word, "show") == 0)
         show();
     else

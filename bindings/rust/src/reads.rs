@@ -218,14 +218,25 @@ impl<B: Buffers> State<B> {
         stored.map_or(offered, |(at, length)| &pens[at..at + length])
     }
 
-    /// An alive instance that a writer writes, some one of them.
+    /// The first instance, in the order of the keys, that is alive and that a writer writes: its GUID is in the
+    /// set. None exactly where there is no such instance.
+    ///
+    /// First is the lowest key, compared as bytes, and not the lowest handle. An instance that is not alive
+    /// never counts, also where the writer is still in its set. Over the same bytes the answer is the same; no
+    /// change of times, counts, view or owners moves it, and nothing that becomes of the instances behind it.
     ///
     /// ```
     /// let mut state = dcps::State::new();
     /// assert_eq!(state.writer_lookup(&[9; 16])?, None);
-    /// let handle = state.register([1; 16], Vec::new(), None)?;
-    /// state.note_writer(handle, [9; 16])?;
-    /// assert_eq!(state.writer_lookup(&[9; 16])?, Some(handle));
+    /// let second = state.register([2; 16], Vec::new(), None)?;
+    /// let first = state.register([1; 16], Vec::new(), None)?;
+    /// state.note_writer(second, [9; 16])?;
+    /// state.note_writer(first, [9; 16])?;
+    /// assert!(second < first, "the lowest key has not the lowest handle");
+    /// assert_eq!(state.writer_lookup(&[9; 16])?, Some(first));
+    /// // Disposed, it still has the writer in its set, and does not count.
+    /// state.dispose(first, None)?;
+    /// assert_eq!(state.writer_lookup(&[9; 16])?, Some(second));
     /// # Ok::<(), dcps::Refusal>(())
     /// ```
     pub fn writer_lookup(&self, writer: &[u8; 16]) -> Result<Option<InstanceHandle>, Refusal> {

@@ -1,20 +1,16 @@
 -- The number of a read's case is the scope document's number of its refusal, 0 for none.
---     filter-number, order-number, delivered-number, next-number, walk-number, would-number, left-number, status-number,
---     changes-number       of each read that is one case
---     lookup-number        of the lookup, whichever right answer it gives
+--     filter-number, order-number, delivered-number, next-number, walk-number, lookup-number, would-number, left-number,
+--     status-number, changes-number       of each read that has one
 -- Assumes nothing.
 use Prim.Native.Nat.{ℕ, zero, suc}
-use mathlib.Core.Bool.{Bool, true, false, not, _&&_, cond}
+use mathlib.Core.Bool.{Bool, true, false, cond}
 use mathlib.Core.List.{List}
 use mathlib.Core.Option.{Option, none, some}
-use mathlib.Core.Path.{_≡_, refl, sym, ap, _∙_}
-use borrow.Author.Tests.{eqb-true}
-use lib.Dec.{eqb}
+use mathlib.Core.Path.{_≡_, refl, ap, _∙_}
 use Rattle.model.specs.declared.ChangesRead.{ChangesRead}
 use Rattle.model.specs.declared.ChangesRead.the-variants.{Is as changesIs, Refused as changesRefused}
 use Rattle.model.specs.declared.Decision.{Decision}
 use Rattle.model.specs.declared.FoundHandle.{FoundHandle}
-use Rattle.model.specs.declared.FoundHandle.the-variants.{Is, Missing, Refused}
 use Rattle.model.specs.declared.FoundTime.{FoundTime}
 use Rattle.model.specs.declared.Guid.{Guid}
 use Rattle.model.specs.declared.Head.{Head}
@@ -25,8 +21,7 @@ use Rattle.model.specs.declared.MaybeTime.{MaybeTime}
 use Rattle.model.specs.declared.StatusRead.{StatusRead}
 use Rattle.model.specs.declared.StatusRead.the-variants.{Is as statusIs, Refused as statusRefused}
 use Rattle.model.specs.declared.Time.{Time}
-use Rattle.model.specs.Reads.{decision, handleFound, timeFoundAs, timeFound, listed, filterRead, orderRead, lastDeliveredRead, nextHandleRead, walkRead, lookedUp, lookupRight, wouldLeaveRead, leftRead, statusRead, changesRead, tableOf, tableRefusal, timeRefusal, listRefusal, leftRefusal, headAlone, headStatus}
-use Rattle.model.proofs.Tests.{both}
+use Rattle.model.specs.Reads.{decision, handleFound, timeFoundAs, timeFound, listed, filterRead, orderRead, lastDeliveredRead, nextHandleRead, walkRead, lookupRead, wouldLeaveRead, leftRead, statusRead, changesRead, tableRefusal, timeRefusal, listRefusal, leftRefusal, headAlone, headStatus}
 use Rattle.read_answers.specs.Cases.{decisionAnswer, handleAnswer, timeAnswer, listingAnswer, statusAnswer, changesAnswer}
 
 -- ---- each kind of answer
@@ -77,6 +72,10 @@ module _ (places : ℕ) (t : List ℕ) where
   unfolding walkRead
   walk-number position e = ap (λ (d : FoundHandle). handleAnswer d .number) e ∙ of-handle (tableRefusal places t) _
 
+  pub lookup-number : (g : Guid) {r : FoundHandle} → r ≡ lookupRead places t g → handleAnswer r .number ≡ tableRefusal places t
+  unfolding lookupRead
+  lookup-number g e = ap (λ (d : FoundHandle). handleAnswer d .number) e ∙ of-handle (tableRefusal places t) _
+
   pub would-number : (gone : List ℕ) (mask : ℕ) {r : Decision} → r ≡ wouldLeaveRead places t gone mask →
       decisionAnswer r .number ≡ listRefusal places t gone
   unfolding wouldLeaveRead
@@ -86,15 +85,6 @@ module _ (places : ℕ) (t : List ℕ) where
       listingAnswer r .number ≡ leftRefusal places t gone out
   unfolding leftRead
   left-number gone mask out e = ap (λ (d : Listing). listingAnswer d .number) e ∙ of-listing (leftRefusal places t gone out) _
-
-  looked : (n : ℕ) (xs : List Instance) (g : Guid) (r : FoundHandle) → lookedUp n xs g r ≡ true → handleAnswer r .number ≡ n
-  looked n xs g (Refused m) e = eqb-true m n (both (not (eqb n 0)) (eqb m n) e .1)
-  looked n xs g Missing e = sym (eqb-true n 0 (both (eqb n 0) _ e .0))
-  looked n xs g (Is h) e = sym (eqb-true n 0 (both (eqb n 0) _ e .0))
-
-  pub lookup-number : (g : Guid) (r : FoundHandle) → lookupRight places t g r ≡ true → handleAnswer r .number ≡ tableRefusal places t
-  unfolding lookupRight
-  lookup-number g r e = looked (tableRefusal places t) (tableOf places t) g r e
 
 module _ (h : Head) where
   pub status-number : {r : StatusRead} → r ≡ statusRead h → statusAnswer r .number ≡ cond (headAlone h) 0 3

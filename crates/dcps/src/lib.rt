@@ -20,7 +20,7 @@ use model::Sheet;
 use model::StatusRead;
 use model::Time;
 use wire_time::WireFraction;
-ghost use mathlib.Core.Bool.{true, cond};
+ghost use mathlib.Core.Bool.{cond};
 ghost use mathlib.Core.List.{List, []};
 ghost use mathlib.Core.Path.{_≡_};
 ghost use Prim.Native.Nat.{ℕ, _*_, _≤_};
@@ -28,7 +28,7 @@ ghost use lib.ListN.{length};
 ghost use Rattle.model.specs.Call.{coded, callOf, lentOf, leftOf};
 ghost use Rattle.model.specs.Calls.{callOfCode};
 ghost use Rattle.model.specs.State.{placesIn};
-ghost use Rattle.model.specs.Reads.{filterRead, orderRead, lastDeliveredRead, nextHandleRead, walkRead, holderInForce, lookupRight, wouldLeaveRead, leftRead, leftOut, statusRead, changesRead, tableRefusal, timeRefusal, listRefusal, leftRefusal, headAlone};
+ghost use Rattle.model.specs.Reads.{filterRead, orderRead, lastDeliveredRead, nextHandleRead, walkRead, holderInForce, lookupRead, wouldLeaveRead, leftRead, leftOut, statusRead, changesRead, tableRefusal, timeRefusal, listRefusal, leftRefusal, headAlone};
 ghost use Rattle.read_answers.specs.Cases.{decisionAnswer, handleAnswer, timeAnswer, listingAnswer, statusAnswer, changesAnswer};
 ghost use Rattle.instance_reads.specs.HolderPlaces.{holderPlace, bytesAt};
 ghost use Rattle.key_hash.specs.KeyHash.{keyHashOf};
@@ -196,9 +196,9 @@ pub fn holder_in_force<'a>(pens: &'a [u8], key: Guid, offered: &'a [u8]) -> &'a 
     instance_reads::holder_in_force(pens, key, offered)
 }
 
-// An alive instance that the writer writes.
+// The first alive instance in key order that the writer writes.
 pub fn writer_lookup(pens: &[u8], guid: Guid) -> FoundHandle
-    ensures right { λ r. ⌜ lookupRight (placesIn (now (pens .entry))) (now (pens .entry)) guid r ≡ true ⌝ }
+    ensures case { λ r. ⌜ r ≡ lookupRead (placesIn (now (pens .entry))) (now (pens .entry)) guid ⌝ }
     ensures number { λ r. ⌜ handleAnswer r .number ≡ tableRefusal (placesIn (now (pens .entry))) (now (pens .entry)) ⌝ }
 {
     instance_reads::writer_lookup(pens, guid)

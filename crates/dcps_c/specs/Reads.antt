@@ -1,22 +1,20 @@
 -- The reads across the C boundary: what each answers is a read of section 7; keys, GUIDs and times cross as numbers.
 use Prim.Native.Nat.{ℕ}
-use mathlib.Core.Bool.{true, cond}
+use mathlib.Core.Bool.{cond}
 use mathlib.Core.List.{List}
-use mathlib.Core.Path.{_≡_}
 use lib.Dec.{eqb}
 use lib.IntN.{ℤ}
 use lib.ListN.{length}
 use Rattle.model.specs.declared.Answer.{Answer}
-use Rattle.model.specs.declared.FoundHandle.{FoundHandle}
 use Rattle.model.specs.declared.Guid.{Guid}
 use Rattle.model.specs.declared.Time.{Time}
 use Rattle.model.specs.Answers.{refusedWith}
-use Rattle.model.specs.Reads.{statusRead, changesRead, leftRead, leftOut, lookupRight}
+use Rattle.model.specs.Reads.{statusRead, changesRead, leftRead, leftOut}
 use Rattle.model.specs.State.{placesIn}
 use Rattle.boundary.specs.Layouts.{headIn, headLaid, answerBytes}
 use Rattle.boundary_reads.specs.ReadAnswers.{AnswerTold, toldOf, told}
 use Rattle.read_answers.specs.declared.ReadAnswer.{ReadAnswer}
-use Rattle.read_answers.specs.Cases.{refusedAnswer, changesAnswer, statusAnswer, handleAnswer, listingAnswer, holderAnswer}
+use Rattle.read_answers.specs.Cases.{refusedAnswer, changesAnswer, statusAnswer, listingAnswer, holderAnswer}
 use Rattle.instance_reads.specs.declared.HolderPlace.{HolderPlace}
 use Rattle.dcps_c.specs.Boundary.{headSize, answerSize, unanswered}
 
@@ -66,10 +64,3 @@ boundaryLeft pens gone mask out answer =
 
 abbrev pub placeAnswer : HolderPlace → ReadAnswer
 placeAnswer p = holderAnswer (p .stored) (p .offset) (p .len)
-
--- ---- the writer lookup: some right answer
-
-pub record LookedUp (pens : List ℕ) (g : Guid) (number : ℕ) (lent left : List ℕ) : Type 0 where
-  pub answer : FoundHandle
-  pub right : lookupRight (placesIn pens) pens g answer ≡ true
-  pub leaves : toldOf number left ≡ told (handleAnswer answer) lent

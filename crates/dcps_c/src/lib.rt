@@ -23,11 +23,11 @@ ghost use Rattle.wire_time.specs.WireTime.{wireFractionOf, nanosOf};
 ghost use Rattle.read_answers.specs.Cases.{decisionAnswer, timeAnswer, handleAnswer, statusAnswer};
 ghost use Rattle.model.specs.Answers.{refusedWith};
 ghost use Rattle.model.specs.Handles.{handle};
-ghost use Rattle.model.specs.Reads.{filterRead, orderRead, lastDeliveredRead, nextHandleRead, walkRead, wouldLeaveRead};
+ghost use Rattle.model.specs.Reads.{filterRead, orderRead, lastDeliveredRead, nextHandleRead, walkRead, lookupRead, wouldLeaveRead};
 ghost use Rattle.model.specs.State.{placesIn};
 ghost use Rattle.instance_reads.specs.HolderPlaces.{holderPlace};
 ghost use Rattle.dcps_c.specs.Boundary.{crossedOf, headOr, noHead, unanswered, calledHead, boundaryCall, boundaryFresh};
-ghost use Rattle.dcps_c.specs.Reads.{guidOf, timeAt, statusOf, boundaryStatus, changesOf, boundaryChanges, toldList, boundaryLeft, placeAnswer, LookedUp};
+ghost use Rattle.dcps_c.specs.Reads.{guidOf, timeAt, statusOf, boundaryStatus, changesOf, boundaryChanges, toldList, boundaryLeft, placeAnswer};
 ghost use Rattle.dcps_c.specs.Version.{versionNumber};
 
 // ---- the version
@@ -317,10 +317,10 @@ pub extern "C" fn dcps_holder_in_force(pens: &[u8], high: u64, low: u64, answer:
     boundary_reads::tell(answer, a)
 }
 
-// An alive instance that the writer writes.
+// The first alive instance in key order that the writer writes.
 #[no_mangle]
 pub extern "C" fn dcps_writer_lookup(pens: &[u8], high: u64, low: u64, answer: &mut [u8]) -> u32
-    ensures { λ r. ⌜ LookedUp (now (pens .entry)) (guidOf high low) r (now (answer .entry)) (now (answer .exit)) ⌝ }
+    ensures { λ r. ⌜ toldOf r (now (answer .exit)) ≡ told (handleAnswer (lookupRead (placesIn (now (pens .entry))) (now (pens .entry)) (guidOf high low))) (now (answer .entry)) ⌝ }
 {
     let guid = Guid { hi: high, lo: low };
     let f = dcps::writer_lookup(pens, guid);

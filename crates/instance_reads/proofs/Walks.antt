@@ -6,9 +6,9 @@
 --     lookup-refused, lookup-is                    the writer lookup, from the place of the first
 -- Assumes nothing.
 use Prim.Native.Nat.{ℕ, suc, _+_, _≤_, _<_}
-use mathlib.Core.Bool.{Bool, true}
+use mathlib.Core.Bool.{Bool}
 use mathlib.Core.List.{List, [], _∷_}
-use mathlib.Core.Logic.{_≢_, ⊎-elim}
+use mathlib.Core.Logic.{_≢_}
 use mathlib.Core.Option.{none, some}
 use mathlib.Core.Path.{_≡_, refl, ap, _∙_}
 use native.Mathlib.Numerals.{add-one}
@@ -24,14 +24,14 @@ use Rattle.model.specs.declared.Instance.{Instance}
 use Rattle.model.specs.declared.InstanceHandle.{InstanceHandle}
 use Rattle.model.specs.InstanceRecord.{instanceOf}
 use Rattle.model.specs.Instances.{hasHandle}
-use Rattle.model.specs.Reads.{usedIn, tableOf, tableRefusal, handleFound, first, after, nextHandleRead, walkRead, writes, writesAt, lookedUp, lookupRight}
+use Rattle.model.specs.Reads.{usedIn, tableOf, tableRefusal, handleFound, first, after, nextHandleRead, walkRead, writes, lookupRead}
 use Rattle.model.specs.State.{instancesIn}
-use Rattle.model.specs.Tables.{any}
+use Rattle.model.specs.Tables.{find}
 use Rattle.model.proofs.RowLaws.{length-read}
 use Rattle.instance_record.specs.Parts.{recordAt}
 use Rattle.tables.specs.Places.{placeOf}
-use Rattle.model.proofs.Tests.{split, clash, lt-or-le}
-use Rattle.tables.proofs.Finds.{nowhere-any, any-nowhere, noplace, place-le, place-at}
+use Rattle.model.proofs.Tests.{split}
+use Rattle.tables.proofs.Finds.{place-le}
 use Rattle.instance_reads.proofs.Table.{count-table, at-place}
 use Rattle.instance_reads.proofs.Answers.{refused-handle}
 
@@ -47,6 +47,11 @@ after-place : (h : InstanceHandle) (xs : List Instance) → after (h .0) xs ≡ 
 unfolding after placeOf
 after-place h [] = refl
 after-place h (x ∷ xs) = split (eqb (x .handle .0) (h .0)) (λ e. rw e) (λ e. rw e (after-place h xs))
+
+first-place : (p : Instance → Bool) (xs : List Instance) → first (drop (placeOf p xs) xs) ≡ find p xs
+unfolding placeOf find
+first-place p [] = refl
+first-place p (x ∷ xs) = split (p x) (λ e. rw e) (λ e. rw e (first-place p xs))
 
 pub place-few : (count : ℕ) (t : List ℕ) (p : Instance → Bool) (place : ℕ) → place ≡ placeOf p (instancesIn count t) → place ≤ count
 place-few count t p place e = omega (arith, place-le p (instancesIn count t), length-read instanceOf 512 count t)
@@ -74,9 +79,9 @@ module _ (places : ℕ) (t : List ℕ) where
     unfolding walkRead
     walk-refused i z = rw (← en) (refused-handle n _ z)
 
-    pub lookup-refused : (g : Guid) → n ≢ 0 → lookupRight places t g (foundHandleRefused n) ≡ true
-    unfolding lookupRight
-    lookup-refused g z = rw (← en, ne-eqb n 0 z, eq-eqb n n refl)
+    pub lookup-refused : (g : Guid) → n ≢ 0 → foundHandleRefused n ≡ lookupRead places t g
+    unfolding lookupRead
+    lookup-refused g z = rw (← en) (refused-handle n _ z)
 
     module _ (z : n ≡ 0) (r : FoundHandle) where
       pub walk-is : (i : ℕ) → r ≡ handleFound 0 (first (drop i (tableOf places t))) → r ≡ walkRead places t i
@@ -95,24 +100,8 @@ module _ (places : ℕ) (t : List ℕ) where
           let s : place + 1 ≡ suc (placeOf (hasHandle h) (instancesIn (usedIn places t) t)) = add-one place ∙ ap suc (rw c at p) in
           rw (← en, z, ne-eqb (h .0) 0 q, after-place h (instancesIn (usedIn places t) t), ← s) e
 
-      -- ---- the lookup
-
       pub lookup-is : (g : Guid) (place : ℕ) → place ≡ placeOf (writes g) (tableOf places t) →
-          r ≡ handleFound 0 (first (drop place (tableOf places t))) → lookupRight places t g r ≡ true
-      unfolding lookupRight
-      lookup-is g place p e = rw (e, p, ← en, z) (⊎-elim found missing (lt-or-le (placeOf (writes g) xs) (length xs)))
-        where
-          xs : List Instance
-          xs = tableOf places t
-
-          found : placeOf (writes g) xs < length xs → lookedUp 0 xs g (handleFound 0 (first (drop (placeOf (writes g) xs) xs))) ≡ true
-          found l =
-              let x : Instance = getD xs (placeOf (writes g) xs) (instanceOf []) in
-              let h : InstanceHandle = x .handle in
-              let w : writesAt g h x ≡ true = rw (place-at (writes g) xs (instanceOf []) l) (eq-eqb (h .0) (h .0) refl) in
-              rw (first-here xs (placeOf (writes g) xs) (instanceOf []) l)
-              (split (any (writesAt g h) xs) (λ q. q) (λ q. clash (writesAt g h x) w (nowhere-any (writesAt g h) xs (instanceOf []) q (placeOf (writes g) xs) l)))
-
-          missing : length xs ≤ placeOf (writes g) xs → lookedUp 0 xs g (handleFound 0 (first (drop (placeOf (writes g) xs) xs))) ≡ true
-          missing l =
-              rw (first-past xs (placeOf (writes g) xs) l, any-nowhere (writes g) (instanceOf []) xs (noplace (writes g) xs (instanceOf []) l))
+          r ≡ handleFound 0 (first (drop place (tableOf places t))) → r ≡ lookupRead places t g
+      unfolding lookupRead
+      lookup-is g place p e =
+          rw (← en, z, ← first-place (writes g) (tableOf places t), ← p) e

@@ -26,7 +26,7 @@ ghost use Rattle.octets.specs.Octets.{put};
 ghost use Rattle.model.specs.Guids.{num, guidsIn};
 ghost use Rattle.model.specs.InstanceRecord.{instanceOf};
 ghost use Rattle.model.specs.Instances.{hasKey};
-ghost use Rattle.model.specs.Reads.{usedIn, tableOf, tableRefusal, timeRefusal, filterRead, orderRead, lastDeliveredRead, handleFound, first, nextHandleRead, walkRead, holderInForce, writes as writesIn, lookupRight, viewIn, among, leftWith, listRefusal, wouldLeaveRead, leftRead, leftOut};
+ghost use Rattle.model.specs.Reads.{usedIn, tableOf, tableRefusal, timeRefusal, filterRead, orderRead, lastDeliveredRead, handleFound, first, nextHandleRead, walkRead, holderInForce, writes as writesIn, lookupRead, viewIn, among, leftWith, listRefusal, wouldLeaveRead, leftRead, leftOut};
 ghost use Rattle.model.specs.Sets.{has};
 ghost use Rattle.model.specs.State.{placesIn, instanceKey};
 ghost use Rattle.model.specs.Tables.{find, all};
@@ -354,9 +354,9 @@ fn writer_place(pens: &[u8], places: usize, count: usize, g: Guid) -> usize
     i
 }
 
-// The handle of an alive instance that the GUID writes: of the first in key order.
+// The handle of the first alive instance in key order that has the GUID among its writers.
 pub fn writer_lookup(pens: &[u8], guid: Guid) -> FoundHandle
-    ensures { λ r. ⌜ lookupRight (placesIn (now (pens .entry))) (now (pens .entry)) guid r ≡ true ⌝ }
+    ensures { λ r. ⌜ r ≡ lookupRead (placesIn (now (pens .entry))) (now (pens .entry)) guid ⌝ }
 {
     let places = instance_places::places_in(pens);
     let number = refusal_of(pens, places);

@@ -3,12 +3,13 @@
 use Prim.Native.Nat.{ℕ, _+_, _-_, _^_}
 use mathlib.Core.Bool.{Bool, true, false, _&&_}
 use mathlib.Core.List.{List, [], _∷_, _++_}
+use mathlib.Core.Option.{Option, none, some}
 use lib.Dec.{T, eqb}
 use lib.ListN.{length, replicate}
 use Rattle.model.specs.declared.Guid.{Guid}
 use Rattle.model.specs.declared.Instance.{Instance}
 use Rattle.model.specs.declared.InstanceState.{InstanceState}
-use Rattle.model.specs.declared.InstanceStateKind.the-variants.{NotAliveDisposed}
+use Rattle.model.specs.declared.InstanceStateKind.the-variants.{NotAliveDisposed, NotAliveNoWriters}
 use Rattle.model.specs.declared.MaybeOwner.{MaybeOwner}
 use Rattle.model.specs.declared.MaybeTime.{MaybeTime}
 use Rattle.model.specs.declared.Sheet.{Sheet}
@@ -20,6 +21,7 @@ use Rattle.model.specs.InstanceCalls.{Turned, instanceCall, instanceTurn
 use Rattle.model.specs.InstanceRecord.{bit, kindNumber, holderPlaces}
 use Rattle.model.specs.Instances.{startedState, started, withLife, withTimes, withOwner, withSet, withKind, withView, withDisposedAt, withOwnerAt, registered, unregistered, ensured, revived, revivedNew, lifecycleObserved, admittedObserved, admittedNoted, writerNoted, ownershipTried, takesOver, outbids, purged, leftBy}
 use Rattle.model.specs.Joined.{sampled, firstOwned, admitted, admitWith, admitCall}
+use Rattle.model.specs.Reads.{firstWritten}
 use Rattle.model.specs.Sets.{has, insert, setOf}
 use Rattle.model.specs.State.{State, figureOk, smallPlaces, largePlaces, freshState}
 use Rattle.model.specs.Tables.{find, pick, any, put, sift}
@@ -308,6 +310,38 @@ placesLines =
     ∷ row (newKey ensureRegisteredLimited 32 smallPlaces 32) 0
     ∷ []
 
+-- ---- document 02, request 6: the first alive instance in key order whose set has the GUID, by its handle; 0 for none
+
+abbrev instanceOfSet : ℕ → ℕ → List Guid → InstanceState → Instance
+instanceOfSet key h set x = record { key = guid key; handle = handle h; state = withSet set x }
+
+abbrev writerlessState : InstanceState
+writerlessState = withLife (withKind NotAliveNoWriters (startedState .life)) startedState
+
+abbrev written : List Instance
+written =
+    instanceOfSet 1 2 (guid 7 ∷ guid 8 ∷ []) disposedState
+    ∷ instanceOfSet 2 4 (guid 7 ∷ guid 8 ∷ []) writerlessState
+    ∷ instanceOfSet 3 9 (guid 6 ∷ []) (withOwner record { present = true; guid = guid 7; strength = 9 } startedState)
+    ∷ instanceOfSet 4 5 (guid 6 ∷ guid 7 ∷ []) startedState
+    ∷ instanceOfSet 5 3 (guid 7 ∷ []) startedState
+    ∷ instanceOfSet 6 6 (guid 7 ∷ []) startedState
+    ∷ []
+
+abbrev handleOf : Option Instance → ℕ
+handleOf none = 0
+handleOf (some x) = x .handle .0
+
+-- of GUID 7 neither a dead one, nor one that it only owns, nor that of the lowest handle, nor the last; GUID 8 has dead ones
+-- alone
+abbrev lookupLines : List Row
+lookupLines =
+    row (handleOf (firstWritten (guid 7) written)) 5
+    ∷ row (handleOf (firstWritten (guid 6) written)) 9
+    ∷ row (handleOf (firstWritten (guid 8) written)) 0
+    ∷ row (handleOf (firstWritten (guid 9) written)) 0
+    ∷ []
+
 -- ---- the claim
 
 abbrev pub benchRows : List Row
@@ -315,7 +349,7 @@ benchRows =
     filterLines
     ++ (orderLines ++ (deadlineLines ++ (limitLines ++ (leaseLines ++ (departedLines ++ (purgeLines
     ++ (reviveTrap ++ (registerTrap ++ (unregisterTrap ++ (firstOwnerLines ++ (unownedLines ++ (startsAgainLines ++ (figureLines
-    ++ placesLines)))))))))))))
+    ++ (placesLines ++ lookupLines))))))))))))))
 
 pub bench-rows : T (agree benchRows)
 unfolding num allocated instanceCall instanceTurn instancesAfter begun nextAfter lateRefusal handleBytes startedState started registered unregistered ensured revived revivedNew lifecycleObserved admittedObserved admittedNoted writerNoted ownershipTried takesOver outbids purged leftBy sampled firstOwned admitted admitWith has insert setOf find pick any put sift nanosOf signedNanosOf filterAdmits orderAdmits deadlineMissed purgeDue trackerCall trackerTurn trackerState writersAfter movers lastAfter nextDue covers renews asserted expires expired

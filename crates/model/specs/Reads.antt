@@ -36,7 +36,7 @@ use Rattle.model.specs.Instances.{hasKey, isAlive, writersIn}
 use Rattle.model.specs.Joined.{lastDelivered, lastFilter}
 use Rattle.model.specs.Sets.{has, isEmpty}
 use Rattle.model.specs.State.{figureOk, instancesIn, outSize, writerPlaces, lostPlaces}
-use Rattle.model.specs.Tables.{find, pick, all, any}
+use Rattle.model.specs.Tables.{find, pick, all}
 use Rattle.model.specs.Times.{billion, timeBits, timeOf, filterAdmits, orderAdmits}
 use Rattle.model.specs.WellFormed.{instanceTableOk, headOk}
 use Rattle.model.specs.Writers.{publication}
@@ -164,22 +164,17 @@ nextHandleRead places t h =
 unfoldable pub walkRead : ℕ → List ℕ → ℕ → FoundHandle
 walkRead places t position = handleFound (tableRefusal places t) (first (drop position (tableOf places t)))
 
--- ---- the writer lookup ("carriage lookup"): some alive instance whose set has the GUID, none exactly if there is none
+-- ---- the writer lookup ("carriage lookup"): the first alive instance in key order whose set has the GUID, none exactly if
+-- there is none (02, ticket 6)
 
 abbrev pub writes : Guid → Instance → Bool
 writes g x = isAlive (x .state .life .kind) && has g (writersIn (x .state))
 
-abbrev pub writesAt : Guid → InstanceHandle → Instance → Bool
-writesAt g h x = writes g x && eqb (x .handle .0) (h .0)
+abbrev pub firstWritten : Guid → List Instance → Option Instance
+firstWritten g xs = find (writes g) xs
 
-abbrev pub lookedUp : ℕ → List Instance → Guid → FoundHandle → Bool
-lookedUp number xs g (foundHandleRefused n) = not (eqb number 0) && eqb n number
-lookedUp number xs g foundHandleMissing = eqb number 0 && not (any (writes g) xs)
-lookedUp number xs g (foundHandleIs h) = eqb number 0 && any (writesAt g h) xs
-
--- an answer of the lookup is right
-unfoldable pub lookupRight : ℕ → List ℕ → Guid → FoundHandle → Bool
-lookupRight places t g answer = lookedUp (tableRefusal places t) (tableOf places t) g answer
+unfoldable pub lookupRead : ℕ → List ℕ → Guid → FoundHandle
+lookupRead places t g = handleFound (tableRefusal places t) (firstWritten g (tableOf places t))
 
 -- ---- the holder in force: a part of the record where stored, else, and where the table would be refused, all of the
 -- offered bytes

@@ -1,6 +1,7 @@
 -- A table is read back whole by a read that is lent pens alone, whichever its size: no record is lost, and none is refused.
 --     formed-whole     the table of a well-formed state
 --     run-whole        the table of any list of calls from the fresh state: its accounts
+--     run-lookup       so the writer lookup after it names the first instance of those accounts that the writer writes
 -- Assumes nothing.
 use Prim.Native.Nat.{ℕ, _*_}
 use mathlib.Core.Bool.{true}
@@ -11,9 +12,10 @@ use borrow.Author.Tests.{eq-eqb}
 use lib.ListN.{length}
 use Rattle.octets.specs.Lay.{All}
 use Rattle.octets.proofs.LayLaws.{length-lay}
+use Rattle.model.specs.declared.Guid.{Guid}
 use Rattle.model.specs.declared.Instance.{Instance}
 use Rattle.model.specs.Call.{callIn, callOf}
-use Rattle.model.specs.Reads.{tableOf, tableRefusal}
+use Rattle.model.specs.Reads.{tableOf, tableRefusal, handleFound, firstWritten, lookupRead}
 use Rattle.model.specs.InstanceRecord.{instanceBytes}
 use Rattle.model.specs.State.{Lent, State, figureOk, placesIn, fresh, layOut, stateOf, instancesIn}
 use Rattle.model.specs.WellFormed.{wellFormed}
@@ -69,3 +71,14 @@ run-whole places ok is out b =
     let xs : List Instance = accounted (accountsOf (history (callIn places) is (fresh places out))) in
     rw (left-in places ok is out, told-in places ok is out)
     (subst (λ (k : Lent). ReadWhole (k .pens) xs) (sym (m .laid)) (laid-whole places ok (m .state) _ _ (m .held)))
+
+-- ---- the writer lookup
+
+whole-lookup : (pens : List ℕ) (xs : List Instance) → ReadWhole pens xs → (g : Guid) → lookupRead (placesIn pens) pens g ≡ handleFound 0 (firstWritten g xs)
+unfolding lookupRead
+whole-lookup pens xs w g = rw (w .accepted, w .instances)
+
+pub run-lookup : (places : ℕ) → figureOk places ≡ true → (is : List Lending) (out : List ℕ) → All SheetBytes is → (g : Guid) →
+    let pens = final callOf is (fresh places out) .pens in
+    lookupRead (placesIn pens) pens g ≡ handleFound 0 (firstWritten g (accounted (accountsOf (history callOf is (fresh places out)))))
+run-lookup places ok is out b = whole-lookup _ _ (run-whole places ok is out b)

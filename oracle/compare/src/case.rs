@@ -135,10 +135,17 @@ pub fn is_head(bytes: &[u8]) -> bool {
     present <= 1 && absent_is_zero
 }
 
-/// The fields that are not zero.
 fn write_sheet(f: &mut fmt::Formatter<'_>, sheet: Sheet<'_>, bytes: &[u8]) -> fmt::Result {
     write!(f, "code {}", sheet.code())?;
-    for (name, from, to) in FIELDS {
+    write_fields(f, &FIELDS, bytes)
+}
+
+/// A field of a layout: its name, and where its bytes begin and end.
+pub type Field = (&'static str, usize, usize);
+
+/// The fields that are not zero.
+pub fn write_fields(f: &mut fmt::Formatter<'_>, fields: &[Field], bytes: &[u8]) -> fmt::Result {
+    for &(name, from, to) in fields {
         if bytes[from..to].iter().any(|byte| *byte != 0) {
             write!(f, ", {name} {}", hex(&bytes[from..to]))?;
         }
@@ -146,8 +153,8 @@ fn write_sheet(f: &mut fmt::Formatter<'_>, sheet: Sheet<'_>, bytes: &[u8]) -> fm
     Ok(())
 }
 
-/// The fields of a sheet but for the code, each with its bytes.
-pub const FIELDS: [(&str, usize, usize); 12] = [
+/// The fields of a sheet but for the code.
+pub const FIELDS: [Field; 12] = [
     ("key", 0, 16),
     ("GUID", 16, 32),
     ("handle", 32, 40),

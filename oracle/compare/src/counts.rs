@@ -67,7 +67,8 @@ impl<C, const N: usize> Counts<C, N> {
 impl<C, const N: usize> fmt::Display for Counts<C, N> {
     fn fmt(&self, f: &mut fmt::Formatter<'_>) -> fmt::Result {
         let width = self.fates.iter().map(|fate| fate.len() + 2).fold(WIDTH, usize::max);
-        let names = self.tables.iter().flat_map(|t| &t.rows).map(|row| row.name.len());
+        let rows = self.tables.iter().flat_map(|t| &t.rows).map(|row| row.name.len());
+        let names = self.tables.iter().map(|t| t.name.len()).chain(rows);
         let column = names.fold(NAME_WIDTH, usize::max);
         for Table { name, rows } in &self.tables {
             write!(f, "{name:>column$}")?;

@@ -16,6 +16,7 @@ use crate::key_tally::{KeyTally, fate, key_tally};
 use crate::read::{FILL, READ_BYTES, same_answer};
 use crate::reads::answer_length;
 use crate::run::Parting;
+use crate::shrink::Shrink;
 
 /// Where an answer has the KeyHash.
 const KEY_HASH_AT: usize = 8;
@@ -81,22 +82,6 @@ impl KeyCase {
         Ok(told)
     }
 
-    /// The smallest case, by steps that each still fail.
-    pub fn shrunk(&self, mut fails: impl FnMut(&Self) -> bool) -> Self {
-        let mut small = self.clone();
-        while let Some(smaller) = small.smaller().into_iter().find(|case| fails(case)) {
-            small = smaller;
-        }
-        small
-    }
-
-    /// Smaller ones: by the answer, then the key's length, bytes and size.
-    fn smaller(&self) -> Vec<Self> {
-        let plain = Self { answer_length: READ_BYTES, ..self.clone() };
-        let all = [plain].into_iter().chain(self.shorter()).chain([self.zeroed()]);
-        all.chain(self.of_smaller_size()).filter(|case| case != self).collect()
-    }
-
     /// Shorter keys, of the same size or of one as much smaller.
     fn shorter(&self) -> Vec<Self> {
         let length = self.key.bytes.len();
@@ -125,6 +110,15 @@ impl KeyCase {
         let sizes = SIZES.into_iter().chain(steps).filter(|smaller| smaller < largest);
         let sized = |largest| SerializedKey { bytes: bytes.clone(), largest };
         sizes.map(|largest| Self { key: sized(largest), ..self.clone() }).collect()
+    }
+}
+
+impl Shrink for KeyCase {
+    /// Smaller ones: by the answer, then the key's length, bytes and size.
+    fn smaller(&self) -> impl Iterator<Item = Self> {
+        let plain = Self { answer_length: READ_BYTES, ..self.clone() };
+        let all = [plain].into_iter().chain(self.shorter()).chain([self.zeroed()]);
+        all.chain(self.of_smaller_size()).filter(move |case| case != self)
     }
 }
 

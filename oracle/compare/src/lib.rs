@@ -1,7 +1,8 @@
 //! The static library beside the reading of 01 and 02 and the Rust: generated
 //! lists and keys, and calls with every number of places and every length of
-//! pens, through all three; wire times, and what else is lent a head or pens,
-//! through the library and the reading. Every answer and every byte is compared.
+//! pens, through all three; wire times, lookups of writers, and what else is lent
+//! a head or pens, through the library and the reading. Every answer and every
+//! byte is compared.
 
 pub mod case;
 pub mod counts;
@@ -13,6 +14,8 @@ pub mod key_tally;
 pub mod keys;
 pub mod library;
 pub mod list;
+pub mod lookup_tally;
+pub mod lookups;
 pub mod read;
 pub mod reads;
 pub mod run;
@@ -25,6 +28,8 @@ pub use case::{Case, Fault};
 pub use key_tally::KeyTally;
 pub use keys::KeyCase;
 pub use list::List;
+pub use lookup_tally::LookupTally;
+pub use lookups::LookupCase;
 pub use run::{Parting, Run};
 pub use tally::Tally;
 pub use time_tally::TimeTally;

@@ -1,5 +1,5 @@
-//! Compares that many calls of generated lists, that many generated keys, or
-//! wire times, from a seed on; or every number of places for instances.
+//! Compares that many calls of generated lists, that many generated keys, wire
+//! times or lookups, from a seed on; or every number of places for instances.
 
 use std::env;
 use std::process::ExitCode;
@@ -8,14 +8,16 @@ use std::time::Instant;
 use compare::figures::{compare_figures, linked};
 use compare::keys::compare_keys;
 use compare::list::Library;
+use compare::lookups::{self, compare_lookups};
 use compare::run::Parting;
-use compare::shrink::shrink;
+use compare::shrink::{Shrink, shrink};
 use compare::times::{Conversion, compare_times};
-use compare::{KeyCase, List, Tally, library};
+use compare::{KeyCase, List, LookupCase, Tally, library};
 
 const USAGE: &str = "compare SEED CALLS         compare that many calls with the static library
 compare keys SEED COUNT    compare that many KeyHashes with it
 compare times SEED COUNT   compare wire times with it, that many by chance
+compare lookups SEED COUNT compare that many lookups of a writer's instance with it
 compare figures            compare every number of places with every length";
 /// A line of progress after so many calls.
 const PROGRESS: u64 = 1_000_000;
@@ -25,6 +27,7 @@ enum Job {
     Calls(u64, u64),
     Keys(u64, u64),
     Times(u64, u64),
+    Lookups(u64, u64),
     Figures,
 }
 
@@ -35,6 +38,7 @@ impl Job {
             ["figures"] => Self::Figures,
             ["keys", seed, count] => Self::Keys(number(seed)?, number(count)?),
             ["times", seed, count] => Self::Times(number(seed)?, number(count)?),
+            ["lookups", seed, count] => Self::Lookups(number(seed)?, number(count)?),
             [seed, calls] => Self::Calls(number(seed)?, number(calls)?),
             _ => return None,
         })
@@ -53,9 +57,10 @@ fn main() -> ExitCode {
         return ExitCode::SUCCESS;
     }
     match job {
-        // The sources have no wire times, and of the places they judge the calls
-        // where they are at hand: both go without them.
+        // The sources have no wire times and no lookup, and of the places they
+        // judge the calls where they are at hand: these go without them.
         Job::Times(seed, count) => times_compared(seed, count),
+        Job::Lookups(seed, count) => lookups_compared(seed, count),
         Job::Figures => figures_compared(),
         _ if !original::PRESENT => {
             println!("SKIPPED: no sources of ZeroDDS (set ZERO_DDS_SRC)");
@@ -105,6 +110,28 @@ fn times_compared(first: u64, count: u64) -> ExitCode {
             println!("too few seeds, none of: {}", missing.join(", "));
         }
         Err((case, parting)) => println!("{case}: {parting:?}"),
+    }
+    ExitCode::FAILURE
+}
+
+/// A run that met no case of some sort fails here too.
+fn lookups_compared(first: u64, count: u64) -> ExitCode {
+    match compare_lookups(lookups::cases(first, count), lookups::linked) {
+        Ok(tally) => {
+            print!("{tally}");
+            let missing = tally.missing();
+            if missing.is_empty() {
+                println!("from seed {first}: {} lookups, 0 disagreements", tally.cases);
+                return ExitCode::SUCCESS;
+            }
+            println!("too few lookups, none of: {}", missing.join(", "));
+        }
+        Err((seed, case, parting)) => {
+            println!("seed {seed}: {parting:?}");
+            let parts = |case: &LookupCase| case.compared(lookups::linked).err();
+            let small = case.shrunk(|case| parts(case).is_some());
+            println!("the smallest found: {small}: {:?}", parts(&small).unwrap_or(parting));
+        }
     }
     ExitCode::FAILURE
 }

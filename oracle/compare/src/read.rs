@@ -2,7 +2,7 @@
 //! library.
 
 use reading::bytes::{Guid, Key, put, u64_at};
-use reading::layout::{INSTANCE_BYTES, Instance, Kind, Time};
+use reading::layout::{INSTANCE_BYTES, Time};
 use reading::reads;
 
 use crate::guarded::Guarded;
@@ -73,7 +73,7 @@ impl Told {
         Self { yes, ..Self::default() }
     }
 
-    fn handle(handle: Option<u64>) -> Self {
+    pub fn handle(handle: Option<u64>) -> Self {
         Self { present: handle.is_some(), handle: handle.unwrap_or(0), ..Self::default() }
     }
 
@@ -196,26 +196,12 @@ impl Read {
         let (mut expected_out, mut out) = (vec![FILL; length], Guarded::filled(FILL, length));
         let mut answer = Guarded::filled(FILL, answer_length);
         let number = library(self, pens, out.lent(), answer.lent());
-        let mut told = Err(1);
-        if answer_length == READ_BYTES {
-            told = self.told(pens, &mut expected_out);
-            self.allow(pens, answer.bytes(), &mut told);
-        }
+        let fits = answer_length == READ_BYTES;
+        let told = if fits { self.told(pens, &mut expected_out) } else { Err(1) };
         let expected = laid_out(&told);
         same_answer(self.name(), &expected, number, &answer)?;
         out.same("Out of left writerless", &expected_out)?;
         Ok(expected[0])
-    }
-
-    /// A lookup's choice is free: any alive instance whose set has the GUID.
-    fn allow(&self, pens: &[u8], given: &[u8], told: &mut Result<Told, u8>) {
-        let Self::Lookup { guid } = self else { return };
-        let given = u64_at(given, 8);
-        let holds =
-            |i: &Instance| i.handle == given && i.kind == Kind::Alive && i.writers.contains(guid);
-        if reads::table(pens).is_ok_and(|all| all.iter().any(holds)) {
-            *told = Ok(Told::handle(Some(given)));
-        }
     }
 }
 

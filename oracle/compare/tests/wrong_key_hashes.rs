@@ -4,6 +4,7 @@
 use compare::KeyCase;
 use compare::keys::{compare_keys, laid_out};
 use compare::read::READ_BYTES;
+use compare::shrink::Shrink;
 use reading::bytes::Key;
 use reading::key_hash::key_hash;
 use reading::md5::md5;

@@ -214,11 +214,11 @@ fn damaged_instances(rng: &mut Rng, state: &State, clause: Clause) -> Option<Vec
             edit(pens, at(place, 24), &[i.bytes()[24] | 0xc0])
         }
         Clause::AbsentTime(n) => {
-            let (place, _) = some_instance(rng, state, |i| !times(i)[n])?;
+            let (place, _) = some_instance(rng, state, |i| i.times()[n].is_none())?;
             stray(rng, pens, at(place, TIMES[n]), at(place, TIMES[n] + 8))
         }
         Clause::Nanoseconds(n) => {
-            let (place, _) = some_instance(rng, state, |i| times(i)[n])?;
+            let (place, _) = some_instance(rng, state, |i| i.times()[n].is_some())?;
             let nanoseconds = rng.pick(&[NANOSECONDS, u32::MAX]);
             edit(pens, at(place, TIMES[n] + 4), &nanoseconds.to_be_bytes())
         }
@@ -267,17 +267,6 @@ fn damaged_instances(rng: &mut Rng, state: &State, clause: Clause) -> Option<Vec
         }
         _ => None,
     }
-}
-
-fn times(i: &Instance) -> [bool; 6] {
-    [
-        i.last_sample.is_some(),
-        i.last_delivered.is_some(),
-        i.last_filter.is_some(),
-        i.disposed_at.is_some(),
-        i.no_writers_at.is_some(),
-        i.owner_at.is_some(),
-    ]
 }
 
 /// A place above 0, and the element before it.

@@ -379,7 +379,7 @@ impl Generator {
     ) -> (Time, Time) {
         let time1 = match found.and_then(|i| i.last_delivered) {
             Some(last) if self.rng.one_in(2) => self.gap(last, 0),
-            _ => self.pools.time(&mut self.rng),
+            _ => Pools::time(&mut self.rng),
         };
         let (met, delay) = match code {
             16 => (found.and_then(|i| i.owner_at), b),
@@ -389,7 +389,7 @@ impl Generator {
         };
         let time2 = match met {
             Some(met) if !self.rng.one_in(3) => self.gap(met, delay),
-            _ => self.pools.time(&mut self.rng),
+            _ => Pools::time(&mut self.rng),
         };
         (self.maybe_hostile_time(time1), self.maybe_hostile_time(time2))
     }
@@ -410,7 +410,7 @@ impl Generator {
         let second = i64::from(NANOSECONDS);
         match i32::try_from(nanoseconds.div_euclid(second)) {
             Ok(seconds) => Time { seconds, nanoseconds: nanoseconds.rem_euclid(second) as u32 },
-            Err(_) => self.pools.time(&mut self.rng),
+            Err(_) => Pools::time(&mut self.rng),
         }
     }
 

@@ -1,5 +1,5 @@
-//! Lists of calls: generated from a seed, or recorded in a file. And keys and
-//! wire times, generated.
+//! Lists of calls: generated from a seed, or recorded in a file. And keys, wire
+//! times and tables to look writers up in, generated.
 
 pub mod bench;
 pub mod coverage;
@@ -12,6 +12,7 @@ pub mod generate;
 pub mod hostile;
 pub mod image;
 pub mod keys;
+pub mod lookups;
 pub mod owners;
 pub mod pools;
 pub mod record;
@@ -27,4 +28,5 @@ pub use figures::Figures;
 pub use generate::Generator;
 pub use image::{Image, Step};
 pub use keys::SerializedKey;
+pub use lookups::LookupTable;
 pub use owners::FirstOwners;

@@ -88,7 +88,8 @@ impl Pools {
         }
     }
 
-    pub fn time(&self, rng: &mut Rng) -> Time {
+    /// The same for every list.
+    pub fn time(rng: &mut Rng) -> Time {
         let seconds = match rng.below(12) {
             0 => i32::MIN,
             1 => i32::MAX,

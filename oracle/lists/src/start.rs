@@ -57,7 +57,11 @@ pub fn state(rng: &mut Rng, pools: &Pools, places: u16, start: Start) -> State {
 }
 
 /// `n` different values, rising; fewer where the pool has no more.
-fn distinct(rng: &mut Rng, n: usize, draw: impl Fn(&mut Rng) -> [u8; 16]) -> Vec<[u8; 16]> {
+pub(crate) fn distinct(
+    rng: &mut Rng,
+    n: usize,
+    draw: impl Fn(&mut Rng) -> [u8; 16],
+) -> Vec<[u8; 16]> {
     let mut all = std::collections::BTreeSet::new();
     for _ in 0..8 * n {
         if all.len() < n {
@@ -70,17 +74,7 @@ fn distinct(rng: &mut Rng, n: usize, draw: impl Fn(&mut Rng) -> [u8; 16]) -> Vec
 fn instance(rng: &mut Rng, pools: &Pools, key: Key, start: Start) -> Instance {
     let mut i = Instance::fresh(key, 0);
     i.kind = rng.pick(&[Kind::Alive, Kind::Alive, Kind::Disposed, Kind::NoWriters]);
-    i.view_new = rng.one_in(2);
-    i.disposed_generations = generation(rng);
-    i.no_writers_generations = generation(rng);
-    i.writer_count = counter(rng);
-    i.samples = counter(rng);
-    i.last_sample = optional_time(rng, pools);
-    i.last_delivered = optional_time(rng, pools);
-    i.last_filter = optional_time(rng, pools);
-    i.disposed_at = optional_time(rng, pools);
-    i.no_writers_at = optional_time(rng, pools);
-    i.owner_at = optional_time(rng, pools);
+    give_past(rng, &mut i);
     i.owner = rng.one_in(2).then(|| (pools.guid(rng, false), pools.strength(rng)));
     // A full table stays lean, so that a recorded one is short.
     if start != Start::FullInstances || rng.one_in(16) {
@@ -88,6 +82,22 @@ fn instance(rng: &mut Rng, pools: &Pools, key: Key, start: Start) -> Instance {
         i.writers = set(rng, pools, start == Start::FullSets);
     }
     i
+}
+
+/// View, generations, counters and times, whatever the kind: a revived instance
+/// keeps the times of its end.
+pub(crate) fn give_past(rng: &mut Rng, i: &mut Instance) {
+    i.view_new = rng.one_in(2);
+    i.disposed_generations = generation(rng);
+    i.no_writers_generations = generation(rng);
+    i.writer_count = counter(rng);
+    i.samples = counter(rng);
+    i.last_sample = optional_time(rng);
+    i.last_delivered = optional_time(rng);
+    i.last_filter = optional_time(rng);
+    i.disposed_at = optional_time(rng);
+    i.no_writers_at = optional_time(rng);
+    i.owner_at = optional_time(rng);
 }
 
 fn set(rng: &mut Rng, pools: &Pools, full: bool) -> Vec<Guid> {
@@ -108,8 +118,8 @@ fn counter(rng: &mut Rng) -> u32 {
     rng.pick(&[0, 0, 1, 2, 3, u32::MAX - 1, u32::MAX])
 }
 
-fn optional_time(rng: &mut Rng, pools: &Pools) -> Option<Time> {
-    rng.one_in(2).then(|| pools.time(rng))
+fn optional_time(rng: &mut Rng) -> Option<Time> {
+    rng.one_in(2).then(|| Pools::time(rng))
 }
 
 fn writer(rng: &mut Rng, pools: &Pools, guid: Guid) -> Writer {

@@ -129,7 +129,8 @@ impl Instance {
         Self { key, handle, view_new: true, ..Self::default() }
     }
 
-    fn times(&self) -> [Option<Time>; 6] {
+    /// In the order of their places.
+    pub fn times(&self) -> [Option<Time>; 6] {
         [
             self.last_sample,
             self.last_delivered,

@@ -114,10 +114,12 @@ pub fn next_handle_after(pens: &[u8], previous: u64) -> Result<Option<u64>, u8> 
     Ok(place.and_then(|place| table.get(place)).map(|i| i.handle))
 }
 
-/// The first alive instance, in key order, that a writer is in the set of.
+/// Of the alive instances whose set has the GUID the first in key order, by
+/// request 6 of 02: the one with the least key. None exactly if there is none.
 pub fn instance_of_writer(pens: &[u8], guid: &Guid) -> Result<Option<u64>, u8> {
-    let holds = |i: &&Instance| i.kind == Kind::Alive && i.writers.contains(guid);
-    Ok(table(pens)?.iter().find(holds).map(|i| i.handle))
+    let table = table(pens)?;
+    let fits = |i: &&Instance| i.kind == Kind::Alive && i.writers.contains(guid);
+    Ok(table.iter().filter(fits).min_by_key(|i| i.key).map(|i| i.handle))
 }
 
 /// The stored holder of a key, or all of what is offered.

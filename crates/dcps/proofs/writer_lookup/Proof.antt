@@ -7,7 +7,7 @@ writer-lookup-requires : tie.Need-writer-lookup-requires
 writer-lookup-requires c κs = search needs
 
 returns : tie.Need-returns
-returns c = (c .writer-lookup .ensures, lookup-number _ _ _ _ (c .writer-lookup .ensures))
+returns c = (c .writer-lookup .ensures, lookup-number _ _ _ (c .writer-lookup .ensures))
 
 pub writer-lookup-spec : {M : Type 1} → statement M
 writer-lookup-spec = tie.close (tie.spec writer-lookup-requires returns)

@@ -1,6 +1,6 @@
 -- `dcps_writer_lookup` meets its contract. Assumes nothing.
 use borrow.Author.Needs.{needs}
-use Rattle.dcps_c.proofs.Tellings.{retold}
+use Rattle.dcps_c.proofs.Tellings.{handled}
 use Rattle.dcps_c.proofs.dcps_writer_lookup.Statement.{statement}
 use Rattle.dcps_c.proofs.dcps_writer_lookup.Tie as tie
 
@@ -19,8 +19,7 @@ same-length c = search needs
 returns : tie.Need-returns
 returns c =
     let t = c .before .before in
-    let f = t .before .before .before in
-    record { answer = f .writer-lookup .result; right = f .writer-lookup .ensures .0; leaves = retold _ _ (t .tell .ensures) (t .before .handle-answer .ensures) }
+    handled _ _ (t .tell .ensures) (t .before .handle-answer .ensures) (t .before .before .before .writer-lookup .ensures .0)
 
 pub dcps-writer-lookup-spec : {M : Type 1} → statement M
 dcps-writer-lookup-spec =

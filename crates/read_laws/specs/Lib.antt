@@ -1,0 +1,2 @@
+-- What is claimed of the writer lookup.
+pub mod Lookups
