@@ -21,6 +21,8 @@ compare lookups SEED COUNT compare that many lookups of a writer's instance with
 compare figures            compare every number of places with every length";
 /// A line of progress after so many calls.
 const PROGRESS: u64 = 1_000_000;
+/// So many calls are to meet every sort of comparison of times.
+const MANY: u64 = 100_000;
 
 /// What is compared; from a seed on, and how many.
 enum Job {
@@ -168,7 +170,12 @@ fn compared(first: u64, calls: u64) -> ExitCode {
         }
         seed = seed.wrapping_add(1);
     }
-    println!("{tally}");
+    print!("{tally}");
+    let missing = tally.epoch.missing();
+    if calls >= MANY && !missing.is_empty() {
+        println!("none of: {}", missing.join(", "));
+        return ExitCode::FAILURE;
+    }
     println!("seeds {first} to {}: {} calls, 0 disagreements", seed.wrapping_sub(1), tally.calls);
     ExitCode::SUCCESS
 }

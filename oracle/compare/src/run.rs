@@ -1,5 +1,6 @@
 //! One list as it runs through the library, the reading and the Rust.
 
+use judge::Way;
 use judge::compare::judged;
 use lists::Image;
 use original::Original;
@@ -31,6 +32,8 @@ pub struct Run<L> {
     /// library's was equal after the call before.
     theirs: Image,
     rust: Option<Original>,
+    /// How it judged the latest call.
+    pub way: Way,
     pub state: State,
 }
 
@@ -50,6 +53,7 @@ impl<L: FnMut(Lent<'_>) -> u32> Run<L> {
             theirs: image.clone(),
             image,
             rust: Original::at(start),
+            way: Way::Alone,
             state: start.clone(),
         }
     }
@@ -146,7 +150,8 @@ impl<L: FnMut(Lent<'_>) -> u32> Run<L> {
     /// The Rust after the same call; a refused call leaves all states alone.
     fn judge(&mut self, case: &Case, answer: &Answer, out: &[u8]) -> Result<(), Parting> {
         if let Some(rust) = &mut self.rust {
-            judged(rust, &self.state, &case.step, answer, out).map_err(Parting::Differs)?;
+            self.way = judged(rust, &self.state, &case.step, answer, out, &self.image)
+                .map_err(Parting::Differs)?;
         }
         if answer.number != 0 {
             return Ok(());

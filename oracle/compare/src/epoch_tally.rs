@@ -1,0 +1,124 @@
+//! What compared times, on both sides of the epoch, by how the Rust judged it
+//! (request 7 of 02).
+
+use std::fmt;
+
+use judge::Way;
+use lists::Comparison;
+use lists::comparisons::Sort;
+use lists::fill::times_taken;
+use reading::gaps::Rule;
+use reading::{Answer, Sheet};
+
+use crate::counts::{Counts, Row, Table};
+
+/// How the Rust judged: as a call or read stands, given every time 2^30 seconds
+/// later, or not.
+const FATES: [&str; 3] = ["as it stands", "later", "not"];
+
+/// What compares times.
+#[derive(Debug, Clone, Copy, PartialEq, Eq)]
+pub enum Asked {
+    Code(u8),
+    Filter,
+    Order,
+}
+
+pub struct EpochTally {
+    asked: Counts<Asked, { FATES.len() }>,
+    compared: Counts<Comparison, { FATES.len() }>,
+    accepted: u64,
+    judged: u64,
+    /// That accepted calls take, and those before the epoch.
+    times: u64,
+    before: u64,
+}
+
+impl Default for EpochTally {
+    fn default() -> Self {
+        let asked = [Asked::Code(48), Asked::Code(21), Asked::Filter, Asked::Order];
+        let rows = asked.map(|asked| Row::of(asked, move |other| *other == asked));
+        let tables = vec![Table { name: "compares times", rows: rows.into() }];
+        Self {
+            asked: Counts::new(FATES, tables),
+            compared: Counts::new(FATES, sorts()),
+            accepted: 0,
+            judged: 0,
+            times: 0,
+            before: 0,
+        }
+    }
+}
+
+/// A table for each rule.
+fn sorts() -> Vec<Table<Comparison, { FATES.len() }>> {
+    let table = |(rule, name)| {
+        let sorts = Sort::all().into_iter().filter(move |sort| sort.rule == rule);
+        let row = |sort: Sort| Row::of(sort, move |c: &Comparison| c.sort() == sort);
+        Table { name, rows: sorts.map(row).collect() }
+    };
+    [(Rule::Order, "order"), (Rule::Filter, "filter"), (Rule::Purge, "autopurge")]
+        .into_iter()
+        .map(table)
+        .collect()
+}
+
+impl EpochTally {
+    /// A call, with what it compares, and how the Rust judged it. Where order
+    /// turns an admit away, its filter is not asked.
+    pub fn call(&mut self, sheet: &[u8], compared: &[Comparison], answer: &Answer, way: Way) {
+        let Some(code) = Sheet::of(sheet).map(Sheet::code).filter(|_| answer.number == 0) else {
+            return;
+        };
+        self.accepted += 1;
+        self.judged += u64::from(way != Way::Alone);
+        for time in times_taken(sheet) {
+            self.times += 1;
+            self.before += u64::from(time.seconds < 0);
+        }
+        let asked = |c: &&Comparison| answer.outcome != 1 || c.rule == Rule::Order;
+        self.see(Asked::Code(code), compared.iter().filter(asked), way);
+    }
+
+    /// A read of a filter.
+    pub fn read(&mut self, asked: Asked, compared: Option<Comparison>, way: Way) {
+        self.see(asked, compared.iter(), way);
+    }
+
+    fn see<'a>(&mut self, asked: Asked, compared: impl Iterator<Item = &'a Comparison>, way: Way) {
+        let fate = match way {
+            Way::Untimed => return,
+            Way::AsItStands => 0,
+            Way::Later => 1,
+            Way::Alone => 2,
+        };
+        self.asked.see(&asked, fate);
+        compared.for_each(|c| self.compared.see(c, fate));
+    }
+
+    /// The sorts that did not occur.
+    pub fn missing(&self) -> Vec<String> {
+        [self.asked.missing(), self.compared.missing()].concat()
+    }
+}
+
+impl fmt::Display for Asked {
+    fn fmt(&self, f: &mut fmt::Formatter<'_>) -> fmt::Result {
+        match self {
+            Self::Code(code) => write!(f, "code {code}"),
+            Self::Filter => write!(f, "filter read"),
+            Self::Order => write!(f, "order read"),
+        }
+    }
+}
+
+impl fmt::Display for EpochTally {
+    fn fmt(&self, f: &mut fmt::Formatter<'_>) -> fmt::Result {
+        let share = |n: u64, of: u64| 100.0 * n as f64 / of.max(1) as f64;
+        let Self { accepted, judged, times, before, .. } = *self;
+        let (of_calls, of_times) = (share(judged, accepted), share(before, times));
+        writeln!(f, "accepted calls that the Rust judged: {judged} of {accepted}, {of_calls:.2}%")?;
+        writeln!(f, "times that they take before the epoch: {before} of {times}, {of_times:.2}%")?;
+        write!(f, "{}{}", self.asked, self.compared)
+    }
+}
