@@ -1,5 +1,7 @@
 //! One list through the reading and, where it is at hand, the Rust.
 
+use std::fmt;
+
 use lists::damage::Clause;
 use lists::record::Witness;
 use lists::rng::Rng;
@@ -59,6 +61,17 @@ impl Ways {
     pub fn judged_of_timed(&self) -> (u64, u64) {
         let judged = self.as_they_stand + self.later;
         (judged, judged + self.alone)
+    }
+}
+
+impl fmt::Display for Ways {
+    fn fmt(&self, f: &mut fmt::Formatter<'_>) -> fmt::Result {
+        let as_they_stand = self.untimed + self.as_they_stand;
+        write!(
+            f,
+            "{as_they_stand} as they stand, {} 2^30 seconds later, {} not",
+            self.later, self.alone
+        )
     }
 }
 

@@ -48,7 +48,7 @@ fn make(seed: u64, file: &str) -> Result<(), String> {
     let bytes = sample::make(seed, &mut beside)?;
     fs::write(file, &bytes).map_err(|e| format!("{file}: {e}"))?;
     if original::PRESENT {
-        println!("accepted calls by how the Rust judged them: {:?}", beside.judged);
+        println!("accepted calls that the Rust judged: {}", beside.judged);
     }
     let judged =
         if original::PRESENT { "compared with the Rust" } else { "NOT compared with the Rust" };

@@ -155,6 +155,7 @@ fn purge_before() -> Vec<Filled> {
     list
 }
 
+/// And from the epoch itself on.
 fn purge_across() -> Vec<Filled> {
     let mut list = dead(1, at(-1, 999_999_999));
     list.extend([purge(at(0, 0), 2, 2), purge(at(0, 0), 1, 2), purge(at(0, 0), NEVER, 1)]);
@@ -166,6 +167,8 @@ fn purge_across() -> Vec<Filled> {
     ]);
     list.extend(dead(5, at(-3, 0)));
     list.extend([at(1, 0), at(3, 0)].map(|now| purge(now, 5 * SECOND, 5 * SECOND)));
+    list.extend(dead(7, at(0, 0)));
+    list.extend([purge(at(0, 5), 4, 6), purge(at(0, 6), 6, 6)]);
     list
 }
 

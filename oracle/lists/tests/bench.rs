@@ -59,13 +59,13 @@ fn filters_and_order_before_the_epoch() {
 
 #[test]
 fn purges_before_the_epoch() {
-    let rounds = |[first, second, third]: [&[u32]; 3]| {
-        let dying = [0; 4];
-        [&dying, first, &dying, second, &dying, third].concat()
+    // Four calls let two instances die, in every round.
+    let rounds = |purged: &[&[u32]]| -> Vec<u32> {
+        purged.iter().flat_map(|counts| [&[0; 4], &counts[..]].concat()).collect()
     };
-    assert_eq!(counts("purge before"), rounds([&[0, 0, 1, 0, 1], &[0, 1, 0, 1], &[2]]));
-    assert_eq!(counts("purge across"), rounds([&[0, 1, 1], &[0, 1, 1], &[0, 2]]));
-    assert_eq!(counts("purge back"), rounds([&[0, 1, 1]; 3]));
+    assert_eq!(counts("purge before"), rounds(&[&[0, 0, 1, 0, 1], &[0, 1, 0, 1], &[2]]));
+    assert_eq!(counts("purge across"), rounds(&[&[0, 1, 1], &[0, 1, 1], &[0, 2], &[1, 1]]));
+    assert_eq!(counts("purge back"), rounds(&[&[0, 1, 1][..]; 3]));
     assert_eq!(last("ends of time", |a| a.count), [0, 1, 0, 1]);
 }
 
