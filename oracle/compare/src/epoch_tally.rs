@@ -12,6 +12,9 @@ use reading::{Answer, Sheet};
 
 use crate::counts::{Counts, Row, Table};
 
+/// So many calls are to meet every sort.
+pub const MANY: u64 = 100_000;
+
 /// How the Rust judged: as a call or read stands, given every time 2^30 seconds
 /// later, or not.
 const FATES: [&str; 3] = ["as it stands", "later", "not"];

@@ -5,6 +5,7 @@ use std::env;
 use std::process::ExitCode;
 use std::time::Instant;
 
+use compare::epoch_tally::MANY;
 use compare::figures::{compare_figures, linked};
 use compare::keys::compare_keys;
 use compare::list::Library;
@@ -21,8 +22,6 @@ compare lookups SEED COUNT compare that many lookups of a writer's instance with
 compare figures            compare every number of places with every length";
 /// A line of progress after so many calls.
 const PROGRESS: u64 = 1_000_000;
-/// So many calls are to meet every sort of comparison of times.
-const MANY: u64 = 100_000;
 
 /// What is compared; from a seed on, and how many.
 enum Job {
