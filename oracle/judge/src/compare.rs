@@ -1,7 +1,5 @@
 //! One list through the reading and, where it is at hand, the Rust.
 
-use std::fmt;
-
 use lists::damage::Clause;
 use lists::record::Witness;
 use lists::rng::Rng;
@@ -12,7 +10,7 @@ use reading::layout::{LARGE, LOST_BYTES, SMALL, WRITERS_BYTES};
 use reading::{Answer, Misreading, Sheet, State, call_as};
 
 use crate::reads::same_reads;
-use crate::ways::{Way, call_later};
+use crate::ways::{Way, Ways, call_later};
 
 /// The reads are compared after one in so many calls.
 const READS_ONE_IN: usize = 24;
@@ -36,43 +34,6 @@ pub struct Tally {
     /// Accepted calls, and reads of the filters, by how the Rust judged them.
     pub judged: Ways,
     pub filters: Ways,
-}
-
-/// How often the Rust judged in each way.
-#[derive(Debug, Default, Clone, Copy)]
-pub struct Ways {
-    pub untimed: u64,
-    pub as_they_stand: u64,
-    pub later: u64,
-    pub alone: u64,
-}
-
-impl Ways {
-    pub fn see(&mut self, way: Way) {
-        *match way {
-            Way::Untimed => &mut self.untimed,
-            Way::AsItStands => &mut self.as_they_stand,
-            Way::Later => &mut self.later,
-            Way::Alone => &mut self.alone,
-        } += 1;
-    }
-
-    /// Of those that compare times.
-    pub fn judged_of_timed(&self) -> (u64, u64) {
-        let judged = self.as_they_stand + self.later;
-        (judged, judged + self.alone)
-    }
-}
-
-impl fmt::Display for Ways {
-    fn fmt(&self, f: &mut fmt::Formatter<'_>) -> fmt::Result {
-        let as_they_stand = self.untimed + self.as_they_stand;
-        write!(
-            f,
-            "{as_they_stand} as they stand, {} 2^30 seconds later, {} not",
-            self.later, self.alone
-        )
-    }
 }
 
 /// Where two readings part.

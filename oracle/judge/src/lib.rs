@@ -7,5 +7,5 @@ pub mod reads;
 pub mod short;
 pub mod ways;
 
-pub use compare::{RustBeside, Tally, Ways, against_the_rust, reading_alone};
-pub use ways::Way;
+pub use compare::{RustBeside, Tally, against_the_rust, reading_alone};
+pub use ways::{Way, Ways};

@@ -3,6 +3,8 @@
 //! it is given every time 2^30 seconds later where that brings all of those
 //! compared past the epoch.
 
+use std::fmt;
+
 use lists::Comparison;
 use lists::fill::Filled;
 use original::{Original, Turn};
@@ -93,6 +95,43 @@ impl Way {
             Self::Alone => None,
         };
         (way, told)
+    }
+}
+
+/// How often the Rust judged in each way.
+#[derive(Debug, Default, Clone, Copy)]
+pub struct Ways {
+    pub untimed: u64,
+    pub as_they_stand: u64,
+    pub later: u64,
+    pub alone: u64,
+}
+
+impl Ways {
+    pub fn see(&mut self, way: Way) {
+        *match way {
+            Way::Untimed => &mut self.untimed,
+            Way::AsItStands => &mut self.as_they_stand,
+            Way::Later => &mut self.later,
+            Way::Alone => &mut self.alone,
+        } += 1;
+    }
+
+    /// Of those that compare times.
+    pub fn judged_of_timed(&self) -> (u64, u64) {
+        let judged = self.as_they_stand + self.later;
+        (judged, judged + self.alone)
+    }
+}
+
+impl fmt::Display for Ways {
+    fn fmt(&self, f: &mut fmt::Formatter<'_>) -> fmt::Result {
+        let as_they_stand = self.untimed + self.as_they_stand;
+        write!(
+            f,
+            "{as_they_stand} as they stand, {} 2^30 seconds later, {} not",
+            self.later, self.alone
+        )
     }
 }
 
