@@ -56,8 +56,9 @@ pub fn same_reads(
         let length = odd_answer(rng, READ_BYTES);
         let number = read.same(&pens, length, Read::ask)?;
         tally.reads += 1;
-        if number == 0 {
-            judged_filter(&read, &pens, tally)?;
+        if number == 0 && matches!(read, Read::Filter { .. } | Read::Order { .. }) {
+            let yes = read.told(&pens, &mut []).is_ok_and(|told| told.yes);
+            judged_filter(&read, &pens, yes, tally)?;
         }
     }
     let head = lent_head(image, state, rng);
@@ -69,13 +70,19 @@ pub fn same_reads(
     Ok(())
 }
 
-/// The Rust's word on a filter that was told, on the instances lent.
-fn judged_filter(read: &Read, pens: &[u8], tally: &mut Tally) -> Result<(), Parting> {
+/// The Rust's word on a filter that was told, on the instances lent; it has none
+/// on another read here.
+pub fn judged_filter(
+    read: &Read,
+    pens: &[u8],
+    yes: bool,
+    tally: &mut Tally,
+) -> Result<(), Parting> {
     let (Read::Filter { key, .. } | Read::Order { key, .. }) = read else { return Ok(()) };
     let instances = reads::table(pens).unwrap_or_default();
     let state = State { instances, ..State::fresh(LARGE) };
     let Some(rust) = Original::at(&state) else { return Ok(()) };
-    let (found, name) = (state.find(key), read.name());
+    let found = state.find(key);
     let (asked, compared, (way, told)) = match *read {
         Read::Filter { time, separation, .. } => (
             Asked::Filter,
@@ -90,11 +97,11 @@ fn judged_filter(read: &Read, pens: &[u8], tally: &mut Tally) -> Result<(), Part
         _ => return Ok(()),
     };
     tally.epoch.read(asked, compared, way);
-    let reading = read.told(pens, &mut []).map(|told| told.yes);
     match told {
-        Some(told) if reading != Ok(told) => Err(Parting::Differs(format!(
-            "{name}: the Rust has {told}, the reading and the library {reading:?}"
-        ))),
+        Some(told) if told != yes => {
+            let name = read.name();
+            Err(Parting::Differs(format!("{name}: the Rust has {told}, the library {yes}")))
+        }
         _ => Ok(()),
     }
 }
