@@ -14,7 +14,7 @@ const NEVER: u64 = u64::MAX;
 #[derive(Debug, Clone, Copy, PartialEq, Eq)]
 pub struct Comparison {
     pub rule: Rule,
-    pub of_record: Time,
+    pub recorded: Time,
     pub given: Time,
     /// Or a separation; destination order has 0.
     pub delay: u64,
@@ -55,14 +55,14 @@ pub struct Sort {
 impl Comparison {
     /// Destination order on an instance, or on none.
     pub fn of_order(found: Option<&Instance>, given: Time, by_source: bool) -> Option<Self> {
-        let of_record = found?.last_delivered.filter(|_| by_source)?;
-        Some(Self { rule: Rule::Order, of_record, given, delay: 0 })
+        let recorded = found?.last_delivered.filter(|_| by_source)?;
+        Some(Self { rule: Rule::Order, recorded, given, delay: 0 })
     }
 
     /// The time-based filter on an instance, or on none.
     pub fn of_filter(found: Option<&Instance>, given: Time, separation: u64) -> Option<Self> {
-        let of_record = found?.last_filter?;
-        Some(Self { rule: Rule::Filter, of_record, given, delay: separation })
+        let recorded = found?.last_filter?;
+        Some(Self { rule: Rule::Filter, recorded, given, delay: separation })
     }
 
     /// A purge of an instance, with a delay for each kind of dead ones.
@@ -72,8 +72,8 @@ impl Comparison {
             Kind::Disposed => (i.disposed_at, disposed),
             Kind::NoWriters => (i.no_writers_at, no_writers),
         };
-        let of_record = died.filter(|_| delay != NEVER)?;
-        Some(Self { rule: Rule::Purge, of_record, given: now, delay })
+        let recorded = died.filter(|_| delay != NEVER)?;
+        Some(Self { rule: Rule::Purge, recorded, given: now, delay })
     }
 
     /// Those of a call, none of any but codes 48 and 21. An admit that order
@@ -95,7 +95,7 @@ impl Comparison {
     }
 
     pub fn times(&self) -> [Time; 2] {
-        [self.of_record, self.given]
+        [self.recorded, self.given]
     }
 
     pub fn sort(&self) -> Sort {
@@ -111,7 +111,7 @@ impl Comparison {
     }
 
     fn reach(&self) -> Reach {
-        let gap = i128::from(gap(self.of_record, self.given));
+        let gap = i128::from(gap(self.recorded, self.given));
         match (self.rule, gap - i128::from(self.delay)) {
             (Rule::Purge, _) if gap < 0 && self.delay == 0 => Reach::EarlierAtZero,
             (Rule::Purge | Rule::Filter, _) if gap < 0 => Reach::Earlier,

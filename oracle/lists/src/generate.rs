@@ -409,7 +409,7 @@ impl Generator {
     fn purge_mark(&mut self, state: &State, a: u64, b: u64) -> (Option<Time>, u64) {
         let of = |i| Comparison::of_purge(i, Time::default(), a, b);
         let dead: Vec<Comparison> = state.instances.iter().filter_map(of).collect();
-        self.rng.pick_some(&dead).map_or((None, 0), |c| (Some(c.of_record), c.delay))
+        self.rng.pick_some(&dead).map_or((None, 0), |c| (Some(c.recorded), c.delay))
     }
 
     /// `delay` after a time, or a nanosecond off.
