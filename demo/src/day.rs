@@ -90,14 +90,18 @@ pub struct Call {
 }
 
 impl Call {
-    /// When it is made, where it says so: for a sample `now`, else its own time.
+    /// Whether its moment is one of the liveliness's clock, which is never negative, and no time.
+    pub fn by_clock(&self) -> bool {
+        matches!(self.verb, Verb::Match | Verb::Assert | Verb::Expire)
+    }
+
+    /// When it is made, where it says so: for a sample `now`, else its own time; for a lapse the time from which instances
+    /// are without writers.
     pub fn moment(&self) -> Option<Moment> {
-        match self.verb {
-            Verb::Match | Verb::Assert | Verb::Expire | Verb::Lapse => {
-                Some(words::moment_of_clock(self.words.clock))
-            }
-            _ => self.words.now.or(self.words.time).map(words::moment_of_time),
+        if self.by_clock() {
+            return Some(words::moment_of_clock(self.words.clock));
         }
+        self.words.now.or(self.words.time).map(words::moment_of_time)
     }
 }
 

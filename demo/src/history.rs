@@ -112,7 +112,8 @@ pub struct History {
     pub turned_away: u64,
     /// Whether a call took samples; without one no instance with samples is ever due.
     pub taken: bool,
-    pub ends: Option<(Moment, Moment)>,
+    /// The first and the last time, and the first and the last clock.
+    ends: [Option<(Moment, Moment)>; 2],
     pub instances: BTreeMap<KeyHash, Instance>,
     pub writers: BTreeMap<Guid, Writer>,
     /// The time of the latest call that has one.
@@ -127,9 +128,7 @@ impl Watch for History {
             return;
         };
         if let Some(at) = step.call.moment() {
-            let (first, last) = self.ends.unwrap_or((at, at));
-            self.ends = Some((first.min(at), last.max(at)));
-            self.now = at;
+            self.go_on(at, step.call.by_clock());
         }
         self.taken |= matches!(step.call.verb, Verb::NoteTaken | Verb::DrainSamples);
         for change in &step.changes.writers {
@@ -145,6 +144,30 @@ impl Watch for History {
 }
 
 impl History {
+    /// Whether clocks count from elsewhere than times do: no clock is negative, and a time was.
+    fn apart(&self) -> bool {
+        self.ends[0].is_some_and(|(first, _)| first < 0)
+    }
+
+    /// The day's first and last moment.
+    pub fn ends(&self) -> Option<(Moment, Moment)> {
+        match self.ends {
+            [Some(times), Some(clocks)] if !self.apart() => {
+                Some((times.0.min(clocks.0), times.1.max(clocks.1)))
+            }
+            [times, clocks] => times.or(clocks),
+        }
+    }
+
+    fn go_on(&mut self, at: Moment, by_clock: bool) {
+        let ends = &mut self.ends[usize::from(by_clock)];
+        let (first, last) = ends.unwrap_or((at, at));
+        *ends = Some((first.min(at), last.max(at)));
+        if !by_clock || !self.apart() {
+            self.now = at;
+        }
+    }
+
     /// A writer that left is turned away no more.
     fn leave(&mut self, call: &Call, writers: &[WriterChange]) {
         let mut gone: Vec<Guid> = writers.iter().filter(|c| c.left()).map(|c| c.guid).collect();

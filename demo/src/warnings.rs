@@ -17,7 +17,10 @@ pub struct Warnings {
     /// The first ones, each with its line.
     pub first: Vec<(usize, String)>,
     pub all: usize,
-    latest: Option<Moment>,
+    /// The latest time and the latest clock, and whether they are two: no clock is negative, so where a time is, clocks
+    /// count from elsewhere.
+    latest: [Option<Moment>; 2],
+    apart: bool,
     backwards: bool,
     keys: HashSet<KeyHash>,
     /// Keys that were warned of.
@@ -76,7 +79,11 @@ impl Warnings {
         let Some(at) = step.call.moment() else {
             return;
         };
-        let latest = self.latest.unwrap_or(at);
+        self.apart |= at < 0;
+        let [times, clocks] = self.latest;
+        let line = usize::from(step.call.by_clock());
+        let before = if self.apart { self.latest[line] } else { times.max(clocks) };
+        let latest = before.unwrap_or(at);
         if at < latest && !self.backwards {
             self.warn(step.call.line, |_| {
                 format!(
@@ -87,7 +94,7 @@ impl Warnings {
             });
         }
         self.backwards = at < latest;
-        self.latest = Some(latest.max(at));
+        self.latest[line] = self.latest[line].max(Some(at));
     }
 
     /// A key that only calls name that start no instance.
@@ -237,6 +244,22 @@ mod tests {
             2,
             "the lease of a/b is 5 min, and 9 min passed",
         );
+    }
+
+    #[test]
+    fn before_second_0() {
+        let day = |rest: &str| format!("match a/b kind automatic at 0s\n{rest}");
+        let good = "admit p from a/b at -3s\nadmit p from a/b at -2s\nassert a/b at 40s\n\
+                    autopurge at -1s\nlapse at 41s stamp -0.5s\nadmit p from a/b at 1s";
+        assert_eq!(warned(&day(good)), []);
+        let clocks = "admit p from a/b at -2s\nassert a/b at 2s\nassert a/b at 1s";
+        one(&day(clocks), 4, "goes back from 00:00:02 to 00:00:01");
+        let unstamped = "admit p from a/b at -2s\nlapse at 40s\nadmit p from a/b at -1s";
+        one(&day(unstamped), 4, "goes back from 00:00:40 to -00:00:01");
+        let back = "admit p from a/b at -2s\nadmit p from a/b at -2.5s";
+        one(&day(back), 3, "goes back from -00:00:02 to -00:00:02.5");
+        let minus = "admit p from a/b at 8s\nadmit p from a/b at -9s";
+        one(&day(minus), 3, "goes back from 00:00:08 to -00:00:09");
     }
 
     #[test]

@@ -54,7 +54,7 @@ impl Scale {
 }
 
 pub fn write(report: &Report<'_>) -> String {
-    let (first, last) = report.history.ends.unwrap_or((0, 1));
+    let (first, last) = report.history.ends().unwrap_or((0, 1));
     let scale = Scale { first, last: last.max(first.saturating_add(1)) };
     let mut rows = String::new();
     let mut y = TOP;
