@@ -73,11 +73,11 @@
  *     taken from elsewhere. The archive links into executables and shared objects, C, C++ and Rust.
  * Times: a time is i32 seconds and u32 nanoseconds (below 10^9) of any epoch. It stands for seconds * 10^9 + nanoseconds,
  *     and may be negative: before the epoch the seconds are rounded down and the nanoseconds added to them, so that half a
- *     second before it is (-1, 500000000) and one nanosecond before it (-1, 999999999). All calls compare times by that
- *     number. Clocks and leases are u64 nanoseconds (below 2^62) of any clock that does not go back, and are never negative.
- *     The two need not agree; the library reads no clock. A stamp of RTPS has a 32-bit fraction of a second in the place of
- *     nanoseconds: dcps_wire_fraction makes it, dcps_wire_nanos makes nanoseconds of it again, with DCPS_REMAINDER_UNKNOWN
- *     where it came over the wire.
+ *     second before it is (-1, 500000000) and one nanosecond before it (-1, 999999999). All calls and reads compare times
+ *     by that number. Clocks and leases are u64 nanoseconds (below 2^62) of any clock that does not go back, and are never
+ *     negative. The two need not agree; the library reads no clock. A stamp of RTPS has a 32-bit fraction of a second in the
+ *     place of nanoseconds: dcps_wire_fraction makes it, dcps_wire_nanos makes nanoseconds of it again, with
+ *     DCPS_REMAINDER_UNKNOWN where it came over the wire.
  */
 #ifndef DCPS_H
 #define DCPS_H

@@ -1,7 +1,7 @@
 /* A small console from the two headers alone: it reads lines from standard input, one call each, and shows which instances
  * still have a writer. `console` has places for 128 instances, `console 32` for 32, in a fourth of the memory for pens.
  *
- *     at SECONDS                        the time and the clock from here on; seconds before the epoch are negative
+ *     at SECONDS                        the time and the clock from here on, -2^31 to 2^31 - 1; before the epoch negative
  *     match WRITER [LEASE]              an automatic writer, its lease in seconds
  *     sample PEN WRITER [STRENGTH]      admitted at most once a second for each instance
  *     assert WRITER                     the writer is there

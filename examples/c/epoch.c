@@ -35,24 +35,31 @@ static const uint8_t *made(void)
     return answer;
 }
 
+/* What a read tells, -1 where it is refused. */
+static int told(uint32_t number, const uint8_t *read)
+{
+    return number == DCPS_ACCEPTED ? dcps_read_yes(read) : -1;
+}
+
 /* A sample was delivered at `last`, another has the time `next`. */
 static void filters(struct dcps_time last, struct dcps_time next, uint64_t separation)
 {
     int64_t gap = value(next) - value(last);
     int in_order = gap > 0, far = gap < 0 || (uint64_t)gap >= separation;
     uint8_t read[DCPS_READ_BYTES];
+    uint32_t number;
     struct dcps_sample sample = dcps_sample_of(key, writer, last);
     dcps_small_state_fresh(&before);
     dcps_sheet_admit(sheet, &sample);
     made();
     before = after;
 
-    dcps_should_deliver_under_destination_order(before.pens, sizeof before.pens, dcps_high(key), dcps_low(key), next.sec,
-                                                next.nanosec, 1, read, sizeof read);
-    expect("order", in_order, dcps_read_yes(read), last, next, separation);
-    dcps_should_deliver_under_time_based_filter(before.pens, sizeof before.pens, dcps_high(key), dcps_low(key), next.sec,
-                                                next.nanosec, separation, read, sizeof read);
-    expect("filter", far, dcps_read_yes(read), last, next, separation);
+    number = dcps_should_deliver_under_destination_order(before.pens, sizeof before.pens, dcps_high(key), dcps_low(key),
+                                                         next.sec, next.nanosec, 1, read, sizeof read);
+    expect("order", in_order, told(number, read), last, next, separation);
+    number = dcps_should_deliver_under_time_based_filter(before.pens, sizeof before.pens, dcps_high(key), dcps_low(key),
+                                                         next.sec, next.nanosec, separation, read, sizeof read);
+    expect("filter", far, told(number, read), last, next, separation);
 
     sample = dcps_sample_of(key, writer, next);
     sample.separation = separation;
@@ -95,7 +102,8 @@ int main(void)
     size_t i, j, k;
     for (i = 0; i < count; i++)
         for (j = 0; j < count; j++) {
-            /* at the gap, one nanosecond below and above it, and at what does not go by it */
+            /* at the gap, one nanosecond below and above it, and at what does not go by it; of these a number below 0 becomes
+             * one above 2^63, which no gap reaches */
             uint64_t gap = (uint64_t)(value(times[j]) - value(times[i]));
             const uint64_t apart[] = {gap - 1, gap, gap + 1, 0, 1, 1000000000, DCPS_NEVER};
             for (k = 0; k < sizeof apart / sizeof *apart; k++) {

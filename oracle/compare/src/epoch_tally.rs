@@ -67,8 +67,7 @@ fn sorts() -> Vec<Table<Comparison, { FATES.len() }>> {
 }
 
 impl EpochTally {
-    /// A call, with what it compares, and how the Rust judged it. Where order
-    /// turns an admit away, its filter is not asked.
+    /// A call, with what it compared, and how the Rust judged it.
     pub fn call(&mut self, sheet: &[u8], compared: &[Comparison], answer: &Answer, way: Way) {
         let Some(code) = Sheet::of(sheet).map(Sheet::code).filter(|_| answer.number == 0) else {
             return;
@@ -79,16 +78,15 @@ impl EpochTally {
             self.times += 1;
             self.before += u64::from(time.seconds < 0);
         }
-        let asked = |c: &&Comparison| answer.outcome != 1 || c.rule == Rule::Order;
-        self.see(Asked::Code(code), compared.iter().filter(asked), way);
+        self.see(Asked::Code(code), compared, way);
     }
 
     /// A read of a filter.
     pub fn read(&mut self, asked: Asked, compared: Option<Comparison>, way: Way) {
-        self.see(asked, compared.iter(), way);
+        self.see(asked, compared.as_slice(), way);
     }
 
-    fn see<'a>(&mut self, asked: Asked, compared: impl Iterator<Item = &'a Comparison>, way: Way) {
+    fn see(&mut self, asked: Asked, compared: &[Comparison], way: Way) {
         let fate = match way {
             Way::Untimed => return,
             Way::AsItStands => 0,
@@ -96,12 +94,13 @@ impl EpochTally {
             Way::Alone => 2,
         };
         self.asked.see(&asked, fate);
-        compared.for_each(|c| self.compared.see(c, fate));
+        compared.iter().for_each(|c| self.compared.see(c, fate));
     }
 
-    /// The sorts that did not occur.
+    /// What did not occur: of each code and read any fate, of comparisons a
+    /// sort, as most sorts cannot have all fates.
     pub fn missing(&self) -> Vec<String> {
-        [self.asked.missing(), self.compared.missing()].concat()
+        [self.asked.missing_by_row(), self.compared.missing()].concat()
     }
 }
 

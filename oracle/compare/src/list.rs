@@ -2,8 +2,8 @@
 
 use std::fmt;
 
+use lists::Generator;
 use lists::rng::Rng;
-use lists::{Comparison, Generator};
 use reading::{Sheet, State};
 
 use crate::case::{Case, Fault};
@@ -56,11 +56,9 @@ impl List {
             list.cases.push(Case { step, faults: fault.into_iter().collect() });
             let case = &list.cases[list.cases.len() - 1];
             let sheet = Sheet::of(&case.step.sheet);
-            let compared = sheet.map(|sheet| Comparison::of_call(&run.state, sheet));
             let done = run.call(case).and_then(|answer| {
                 tally.call(case, &head, &answer);
-                let compared = compared.unwrap_or_default();
-                tally.epoch.call(&case.step.sheet, &compared, &answer, run.way);
+                tally.epoch.call(&case.step.sheet, &run.compared, &answer, run.way);
                 match sheet {
                     Some(sheet) if library.reads && rng.one_in(READS_ONE_IN) => {
                         reads::same_reads(run.image(), &run.state, sheet, &mut rng, tally)

@@ -2,10 +2,10 @@
 
 use judge::Way;
 use judge::compare::judged;
-use lists::Image;
+use lists::{Comparison, Image};
 use original::Original;
 use reading::answer::ANSWER_BYTES;
-use reading::{Answer, Head, State};
+use reading::{Answer, Head, Sheet, State};
 
 use crate::case::{Case, first_refusal, is_head};
 use crate::guarded::Guarded;
@@ -34,6 +34,8 @@ pub struct Run<L> {
     rust: Option<Original>,
     /// How it judged the latest call.
     pub way: Way,
+    /// What the latest call compared.
+    pub compared: Vec<Comparison>,
     pub state: State,
 }
 
@@ -54,6 +56,7 @@ impl<L: FnMut(Lent<'_>) -> u32> Run<L> {
             image,
             rust: Original::at(start),
             way: Way::Alone,
+            compared: Vec::new(),
             state: start.clone(),
         }
     }
@@ -82,6 +85,8 @@ impl<L: FnMut(Lent<'_>) -> u32> Run<L> {
                 self.theirs.edit(edit);
             }
         }
+        let made = |sheet| Comparison::made(&self.state, sheet, &answer);
+        self.compared = Sheet::of(&step.sheet).map(made).unwrap_or_default();
         self.judge(case, &answer, &out)?;
         Ok(answer)
     }

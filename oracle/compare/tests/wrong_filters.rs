@@ -91,7 +91,7 @@ fn each_wrong_rule_is_caught_where_it_bears() {
     }
 }
 
-/// The Rust judges them in every way, and they compare times in every sort.
+/// The Rust judges each in every way, and they compare times in every sort.
 #[test]
 fn filters_compare_times_in_every_sort() {
     if !original::PRESENT {

@@ -58,15 +58,11 @@ fn it_compares_times_in_every_sort() {
         let stated = Lengths { pens, writers, lost, out: lent.out.len() };
         let fits = stated == Lengths::stated(head.places);
         let before = fits.then(|| State::read(head, lent.pens, lent.writers, lent.lost)).flatten();
-        let compared = match (before, Sheet::of(sheet)) {
-            (Some(before), Some(sheet)) => Comparison::of_call(&before, sheet),
-            _ => Vec::new(),
-        };
         let answer = reading::call(head, sheet, lent);
-        if answer.number == 0 {
-            compared.iter().for_each(|c| {
-                unmet.remove(&c.sort());
-            });
+        if let (Some(before), Some(sheet)) = (before, Sheet::of(sheet)) {
+            for comparison in Comparison::made(&before, sheet, &answer) {
+                unmet.remove(&comparison.sort());
+            }
         }
         answer
     });

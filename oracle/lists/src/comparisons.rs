@@ -5,7 +5,7 @@ use std::fmt;
 
 use reading::gaps::{Rule, gap};
 use reading::layout::{Instance, Kind, Time};
-use reading::{Sheet, State};
+use reading::{Answer, Sheet, State};
 
 /// A delay that stands for never: no time is looked at.
 const NEVER: u64 = u64::MAX;
@@ -92,6 +92,13 @@ impl Comparison {
             }
             _ => Vec::new(),
         }
+    }
+
+    /// Those that a call made, by its answer: none if it was refused, and not
+    /// the filter's if order turned an admit away.
+    pub fn made(before: &State, sheet: Sheet<'_>, answer: &Answer) -> Vec<Self> {
+        let asked = |rule| answer.number == 0 && (answer.outcome != 1 || rule == Rule::Order);
+        Self::of_call(before, sheet).into_iter().filter(|c| asked(c.rule)).collect()
     }
 
     pub fn times(&self) -> [Time; 2] {

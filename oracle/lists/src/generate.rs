@@ -146,6 +146,7 @@ impl Generator {
             if self.rng.one_in(2) {
                 self.odd_length(&mut step);
             } else if pens_bytes(figure) <= PENS_MOST && self.rng.one_in(4) {
+                // just as long as that figure would have them: seldom met by chance
                 step.lengths.pens = pens_bytes(figure);
             }
         }

@@ -99,7 +99,7 @@ fn times_on_both_sides_of_the_epoch_are_compared() {
             if let Some(sheet) = Sheet::of(&step.sheet).filter(|_| answer.number == 0) {
                 times += times_taken(&step.sheet).count() as u64;
                 before += times_taken(&step.sheet).filter(|time| time.seconds < 0).count() as u64;
-                for comparison in Comparison::of_call(&state, sheet) {
+                for comparison in Comparison::made(&state, sheet, &answer) {
                     *sorts.entry(comparison.sort()).or_default() += 1;
                 }
             }
