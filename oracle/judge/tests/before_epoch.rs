@@ -131,7 +131,7 @@ fn the_rust_parts_from_each_misreading() {
     if !original::PRESENT {
         return;
     }
-    for misreading in Misreading::BEFORE_EPOCH {
+    for &misreading in Misreading::BEFORE_EPOCH {
         let lists = before_epoch::lists().into_iter();
         let parted = lists.filter(|(_, sheets)| run(sheets.clone(), Some(misreading)).is_err());
         let names: Vec<&str> = parted.map(|(name, _)| name).collect();

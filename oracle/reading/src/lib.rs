@@ -91,16 +91,8 @@ impl Misreading {
         Self::NegativeGapStays,
     ];
 
-    /// Those of request 7.
-    pub const BEFORE_EPOCH: [Self; 7] = [
-        Self::Clamped,
-        Self::FilterClamped,
-        Self::OrderClamped,
-        Self::PurgeClamped,
-        Self::NanosecondsSubtracted,
-        Self::NegativeGapBySize,
-        Self::NegativeGapStays,
-    ];
+    /// Those of request 7, the last of all.
+    pub const BEFORE_EPOCH: &'static [Self] = Self::ALL.split_at(12).1;
 }
 
 /// The buffers lent with a call.
