@@ -90,17 +90,19 @@ pub struct Call {
 }
 
 impl Call {
-    /// Whether its moment is one of the liveliness's clock, which is never negative, and no time.
-    pub fn by_clock(&self) -> bool {
-        matches!(self.verb, Verb::Match | Verb::Assert | Verb::Expire)
+    /// When it is made, where it says so.
+    pub fn moment(&self) -> Option<Moment> {
+        self.clock().or(self.time())
     }
 
-    /// When it is made, where it says so: for a sample `now`, else its own time; for a lapse the time from which instances
-    /// are without writers.
-    pub fn moment(&self) -> Option<Moment> {
-        if self.by_clock() {
-            return Some(words::moment_of_clock(self.words.clock));
-        }
+    /// Its clock of the liveliness, which is never negative.
+    pub fn clock(&self) -> Option<Moment> {
+        matches!(self.verb, Verb::Match | Verb::Assert | Verb::Expire | Verb::Lapse)
+            .then(|| words::moment_of_clock(self.words.clock))
+    }
+
+    /// For a sample `now`, else its own time; for a lapse the one from which instances are without writers.
+    pub fn time(&self) -> Option<Moment> {
         self.words.now.or(self.words.time).map(words::moment_of_time)
     }
 }

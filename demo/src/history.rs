@@ -112,11 +112,12 @@ pub struct History {
     pub turned_away: u64,
     /// Whether a call took samples; without one no instance with samples is ever due.
     pub taken: bool,
-    /// The first and the last time, and the first and the last clock.
-    ends: [Option<(Moment, Moment)>; 2],
+    /// The first and the last moment, of all calls and of those with a time.
+    moments: Option<(Moment, Moment)>,
+    times: Option<(Moment, Moment)>,
     pub instances: BTreeMap<KeyHash, Instance>,
     pub writers: BTreeMap<Guid, Writer>,
-    /// The time of the latest call that has one.
+    /// The moment of the latest call that has one; once a time was negative, the time of the latest one that has one.
     now: Moment,
 }
 
@@ -127,13 +128,12 @@ impl Watch for History {
             self.refused += 1;
             return;
         };
-        if let Some(at) = step.call.moment() {
-            self.go_on(at, step.call.by_clock());
-        }
+        self.go_on(step.call);
         self.taken |= matches!(step.call.verb, Verb::NoteTaken | Verb::DrainSamples);
+        let now = if self.apart() { step.call.time() } else { Some(self.now) };
         for change in &step.changes.writers {
             let writer = self.writers.entry(change.guid).or_default();
-            writer.follow(change, self.now);
+            writer.follow(change, now);
         }
         self.leave(step.call, &step.changes.writers);
         self.sample(step, said);
@@ -145,26 +145,41 @@ impl Watch for History {
 
 impl History {
     /// Whether clocks count from elsewhere than times do: no clock is negative, and a time was.
-    fn apart(&self) -> bool {
-        self.ends[0].is_some_and(|(first, _)| first < 0)
+    pub fn apart(&self) -> bool {
+        self.times.is_some_and(|(first, _)| first < 0)
     }
 
     /// The day's first and last moment.
     pub fn ends(&self) -> Option<(Moment, Moment)> {
-        match self.ends {
-            [Some(times), Some(clocks)] if !self.apart() => {
-                Some((times.0.min(clocks.0), times.1.max(clocks.1)))
-            }
-            [times, clocks] => times.or(clocks),
+        if self.apart() {
+            self.times
+        } else {
+            self.moments
         }
     }
 
-    fn go_on(&mut self, at: Moment, by_clock: bool) {
-        let ends = &mut self.ends[usize::from(by_clock)];
-        let (first, last) = ends.unwrap_or((at, at));
-        *ends = Some((first.min(at), last.max(at)));
-        if !by_clock || !self.apart() {
-            self.now = at;
+    fn go_on(&mut self, call: &Call) {
+        let (moment, time) = (call.moment(), call.time());
+        let untimed = self.times.is_none();
+        self.moments = widened(self.moments, moment);
+        self.times = widened(self.times, time);
+        let now = if self.apart() { time } else { moment };
+        self.now = now.unwrap_or(self.now);
+        if untimed && self.apart() {
+            self.begin();
+        }
+    }
+
+    /// The first time is negative: what came before it has clocks alone, and counts as of now.
+    fn begin(&mut self) {
+        for instance in self.instances.values_mut() {
+            instance.spans.iter_mut().for_each(|(at, _)| *at = self.now);
+            for spell in &mut instance.spells {
+                spell.from.at = self.now;
+                if let Some((by, _)) = &mut spell.end {
+                    by.at = self.now;
+                }
+            }
         }
     }
 
@@ -247,6 +262,13 @@ impl History {
         name_drawer(instance, step);
         count_line(instance, after);
     }
+}
+
+fn widened(ends: Option<(Moment, Moment)>, at: Option<Moment>) -> Option<(Moment, Moment)> {
+    let Some(at) = at else {
+        return ends;
+    };
+    Some(ends.map_or((at, at), |(first, last)| (first.min(at), last.max(at))))
 }
 
 fn shown(instance: Option<&InstanceState>) -> Shown {

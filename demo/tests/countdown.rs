@@ -84,6 +84,62 @@ fn a_lapse_before_second_0() {
     assert!(text(&output.stdout).contains("from -00:00:09 to 00:00:02\n"), "{output:?}");
 }
 
+/// Without a negative time a lapse counts at its clock.
+#[test]
+fn a_lapse_after_second_0() {
+    let day = "match a/b kind automatic lease 5s at 1s\nadmit pen from a/b at 2s\n\
+               lapse at 9s stamp 4s\nadmit pen from a/b at 10s\n";
+    let output = piped(&["-", "why", "--csv"], day.as_bytes());
+    let shown = text(&output.stdout);
+    let says = "\npen,00:00:09,00:00:10,1.000,no writers,lease ran out,";
+    assert!(shown.contains(says), "{shown}");
+}
+
+/// A clock has no place on the axis of a picture that goes by times.
+#[test]
+fn its_picture_has_no_clocks() {
+    let page = |[first, lapse, last]: [&str; 3]| {
+        let day = format!(
+            "match a/b kind automatic lease 5s at 40s\nadmit pen from a/b at {first}\n\
+             assert a/b at 44s\nlapse at 50s stamp {lapse}\nadmit pen from a/b at {last}\n"
+        );
+        text(&piped(&["-", "why", "--html"], day.as_bytes()).stdout)
+    };
+    let (before, after) = (page(["-9s", "-3s", "-1s"]), page(["41s", "50s", "51s"]));
+    for class in ["rect class=\"lease\"", "rect class=\"assertion\"", "key lease", "key assertion"]
+    {
+        assert!(!before.contains(class), "{class}: {before}");
+        assert!(after.contains(class), "{class}: {after}");
+    }
+    assert!(before.contains("rect class=\"drawn\"") && before.contains("key away"), "{before}");
+}
+
+/// How long ago samples came is told by times alone, and an `expire` has none.
+#[test]
+fn a_lease_that_runs_out_before_second_0() {
+    let told = |stamp: &str| {
+        let day = format!(
+            "match a/b kind automatic lease 5s at 40s\nadmit pen from a/b at -9s\n\
+             admit pen from a/b at -8s\nexpire at 50s\nassert a/b at 51s\n\
+             lapse at 60s stamp {stamp}\nadmit pen from a/b at -3s\n"
+        );
+        text(&piped(&["-", "why"], day.as_bytes()).stdout)
+    };
+    let drawing = "but no assertion came with them";
+    assert!(told("-4s").contains(drawing), "{}", told("-4s"));
+    assert!(!told("-3s").contains(drawing), "{}", told("-3s"));
+}
+
+/// What came before the first time has clocks alone, and counts as of that time.
+#[test]
+fn abandoned_before_the_first_time() {
+    let day = "match a/b kind automatic at 40s\nregister pen\ndispose pen\n\
+               admit pen from a/b at -9s\n";
+    let output = piped(&["-", "why", "--csv"], day.as_bytes());
+    let shown = text(&output.stdout);
+    assert!(shown.contains("\npen,-00:00:09,-00:00:09,0.000,disposed,"), "{shown}");
+}
+
 /// The reports of a day that begins before second 0 have its times.
 #[test]
 fn its_reports() {
