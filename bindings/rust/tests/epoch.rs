@@ -144,7 +144,7 @@ fn autopurge() -> Result<(), Refusal> {
     Ok(())
 }
 
-/// The trackers with ZeroDDS's names answer as the state does, and not as ZeroDDS below second 0.
+/// The trackers with ZeroDDS's names answer as the state does, and not as ZeroDDS before the epoch.
 #[test]
 fn trackers() {
     let tracker = InstanceTracker::new();
