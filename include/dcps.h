@@ -71,10 +71,13 @@
  *     far the paint is gone.
  * Platform: Linux on x86-64, System V ABI, ELF, position-independent; no symbol but memcpy, memmove and memset is
  *     taken from elsewhere. The archive links into executables and shared objects, C, C++ and Rust.
- * Times: a time is i32 seconds and u32 nanoseconds (below 10^9) of any epoch. Clocks and leases are u64 nanoseconds
- *     (below 2^62) of any clock that does not go back. The two need not agree; the library reads no clock. A stamp of RTPS
- *     has a 32-bit fraction of a second in the place of nanoseconds: dcps_wire_fraction makes it,
- *     dcps_wire_nanos makes nanoseconds of it again, with DCPS_REMAINDER_UNKNOWN where it came over the wire.
+ * Times: a time is i32 seconds and u32 nanoseconds (below 10^9) of any epoch. It stands for seconds * 10^9 + nanoseconds,
+ *     and may be negative: before the epoch the seconds are rounded down and the nanoseconds added to them, so that half a
+ *     second before it is (-1, 500000000) and one nanosecond before it (-1, 999999999). All calls and reads compare times
+ *     by that number. Clocks and leases are u64 nanoseconds (below 2^62) of any clock that does not go back, and are never
+ *     negative. The two need not agree; the library reads no clock. A stamp of RTPS has a 32-bit fraction of a second in the
+ *     place of nanoseconds: dcps_wire_fraction makes it, dcps_wire_nanos makes nanoseconds of it again, with
+ *     DCPS_REMAINDER_UNKNOWN where it came over the wire.
  */
 #ifndef DCPS_H
 #define DCPS_H
@@ -180,7 +183,7 @@ enum dcps_view { DCPS_VIEW_NEW = 1, DCPS_VIEW_NOT_NEW = 2, DCPS_VIEW_ANY = 3 };
 #define DCPS_SHEET_KEY 0     /* 16: the instance */
 #define DCPS_SHEET_GUID 16   /* 16: the writer; a prefix is its first 12 */
 #define DCPS_SHEET_HANDLE 32 /* u64: the instance, where a call goes by handle */
-#define DCPS_SHEET_TIME_1 40 /* i32 seconds, u32 nanoseconds: of the sample, at its source */
+#define DCPS_SHEET_TIME_1 40 /* i32 seconds, u32 nanoseconds ("Times" above): of the sample, at its source */
 #define DCPS_SHEET_TIME_2 48 /* i32 seconds, u32 nanoseconds: now, and of the filter */
 #define DCPS_SHEET_A 56      /* u64 nanoseconds: separation, disposed delay or clock */
 #define DCPS_SHEET_B 64      /* u64 nanoseconds: deadline, no-writer delay or lease */
@@ -303,9 +306,9 @@ enum dcps_code {
     DCPS_CODE_RELEASE_OWNER_OF = 20,
 
     /* autopurge: disposed instances whose disposed_at lies A or more before time 2 go, and those of no writers whose
-     * no_writers_at lies B or more before it; DCPS_NEVER is never. Seconds below 0 are taken as 0. A time later than time 2
-     * counts as at it, so that a delay of 0 purges. One without that time stays for ever; one that was disposed or left
-     * again without a time 1 goes by the time before. Samples that are not taken hold nothing back.
+     * no_writers_at lies B or more before it; DCPS_NEVER is never. A time later than time 2 counts as at it: a delay of
+     * 0 purges it, and no other. One without that time stays for ever; one that was disposed or left again without a time 1
+     * goes by the time before. Samples that are not taken hold nothing back.
      * Uses: time 2 (now), A, B. Answers: count: how many. Refused: 4. */
     DCPS_CODE_AUTOPURGE = 21,
 
@@ -353,9 +356,9 @@ enum dcps_code {
 
     /* admit: all that a received sample asks of its instance; of liveliness nothing, so call writer_asserted before it. In
      * this order: 4 and 6; by source, time 1 must be later than last delivered (outcome 1); time 2 must be earlier than last
-     * of the filter, or A or more later (outcome 2; seconds below 0 are taken as 0 in both); the limit (outcome 3); 9 and 13,
-     * of a new instance, and 10, of a known one; accept_under_exclusive_ownership (outcome 4), on every topic: a SHARED one
-     * has the deadline present with B = 0; then observe_admitted, so that an empty holder is stored too and stays, and
+     * of the filter, or A or more later (outcome 2; both hold before the epoch too); the limit (outcome 3); 9 and 13, of
+     * a new instance, and 10, of a known one; accept_under_exclusive_ownership (outcome 4), on every topic: a SHARED one has
+     * the deadline present with B = 0; then observe_admitted, so that an empty holder is stored too and stays, and
      * note_admitted. No last time is always in order. The writer of a sample that starts its instance owns it, at its
      * strength, from time 2 on; an instance that code 1, 2, 8 or 9 starts has no owner yet.
      * Uses: key, guid, holder, time 1, time 2, A (separation), [B: deadline], limit, strength, by source.
@@ -535,7 +538,7 @@ uint32_t dcps_changes(const uint8_t *head, size_t head_len, uint8_t *answer, siz
  * meets 1 and 3, those with a time also 4. */
 
 /* yes: a sample of the key is delivered under the time-based filter (DDS 1.4, 2.2.3.12), as in admit. In this read and the
- * next one seconds below 0 are taken as 0 and the nanoseconds stay; an unknown key, or one without a last time, is yes. */
+ * next one times before the epoch count as any other; an unknown key, or one without a last time, is yes. */
 uint32_t dcps_should_deliver_under_time_based_filter(const uint8_t *pens, size_t pens_len, uint64_t high, uint64_t low,
                                                      int32_t sec, uint32_t nanosec, uint64_t min_separation,
                                                      uint8_t *answer, size_t answer_len);

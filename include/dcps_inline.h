@@ -75,8 +75,8 @@ static inline void dcps_put_i32(uint8_t *b, int32_t n)
 /* ---- times */
 
 struct dcps_time {
-    int32_t sec;
-    uint32_t nanosec; /* below 10^9 */
+    int32_t sec;      /* rounded down, so that half a second before the epoch is -1 */
+    uint32_t nanosec; /* below 10^9, added to them */
 };
 
 static inline struct dcps_time dcps_time_of(int32_t sec, uint32_t nanosec)

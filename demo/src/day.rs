@@ -90,14 +90,20 @@ pub struct Call {
 }
 
 impl Call {
-    /// When it is made, where it says so: for a sample `now`, else its own time.
+    /// When it is made, where it says so.
     pub fn moment(&self) -> Option<Moment> {
-        match self.verb {
-            Verb::Match | Verb::Assert | Verb::Expire | Verb::Lapse => {
-                Some(words::moment_of_clock(self.words.clock))
-            }
-            _ => self.words.now.or(self.words.time).map(words::moment_of_time),
-        }
+        self.clock().or(self.time())
+    }
+
+    /// Its clock of the liveliness, which is never negative.
+    pub fn clock(&self) -> Option<Moment> {
+        matches!(self.verb, Verb::Match | Verb::Assert | Verb::Expire | Verb::Lapse)
+            .then(|| words::moment_of_clock(self.words.clock))
+    }
+
+    /// For a sample `now`, else its own time; for a lapse the one from which instances are without writers.
+    pub fn time(&self) -> Option<Moment> {
+        self.words.now.or(self.words.time).map(words::moment_of_time)
     }
 }
 

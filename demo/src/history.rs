@@ -112,10 +112,12 @@ pub struct History {
     pub turned_away: u64,
     /// Whether a call took samples; without one no instance with samples is ever due.
     pub taken: bool,
-    pub ends: Option<(Moment, Moment)>,
+    /// The first and the last moment, of all calls and of those with a time.
+    moments: Option<(Moment, Moment)>,
+    times: Option<(Moment, Moment)>,
     pub instances: BTreeMap<KeyHash, Instance>,
     pub writers: BTreeMap<Guid, Writer>,
-    /// The time of the latest call that has one.
+    /// The moment of the latest call that has one; once a time was negative, the time of the latest one that has one.
     now: Moment,
 }
 
@@ -126,15 +128,12 @@ impl Watch for History {
             self.refused += 1;
             return;
         };
-        if let Some(at) = step.call.moment() {
-            let (first, last) = self.ends.unwrap_or((at, at));
-            self.ends = Some((first.min(at), last.max(at)));
-            self.now = at;
-        }
+        self.go_on(step.call);
         self.taken |= matches!(step.call.verb, Verb::NoteTaken | Verb::DrainSamples);
+        let now = if self.apart() { step.call.time() } else { Some(self.now) };
         for change in &step.changes.writers {
             let writer = self.writers.entry(change.guid).or_default();
-            writer.follow(change, self.now);
+            writer.follow(change, now);
         }
         self.leave(step.call, &step.changes.writers);
         self.sample(step, said);
@@ -145,6 +144,45 @@ impl Watch for History {
 }
 
 impl History {
+    /// Whether clocks count from elsewhere than times do: no clock is negative, and a time was.
+    pub fn apart(&self) -> bool {
+        self.times.is_some_and(|(first, _)| first < 0)
+    }
+
+    /// The day's first and last moment.
+    pub fn ends(&self) -> Option<(Moment, Moment)> {
+        if self.apart() {
+            self.times
+        } else {
+            self.moments
+        }
+    }
+
+    fn go_on(&mut self, call: &Call) {
+        let (moment, time) = (call.moment(), call.time());
+        let untimed = self.times.is_none();
+        self.moments = widened(self.moments, moment);
+        self.times = widened(self.times, time);
+        let now = if self.apart() { time } else { moment };
+        self.now = now.unwrap_or(self.now);
+        if untimed && self.apart() {
+            self.begin();
+        }
+    }
+
+    /// The first time is negative: what came before it has clocks alone, and counts as of now.
+    fn begin(&mut self) {
+        for instance in self.instances.values_mut() {
+            instance.spans.iter_mut().for_each(|(at, _)| *at = self.now);
+            for spell in &mut instance.spells {
+                spell.from.at = self.now;
+                if let Some((by, _)) = &mut spell.end {
+                    by.at = self.now;
+                }
+            }
+        }
+    }
+
     /// A writer that left is turned away no more.
     fn leave(&mut self, call: &Call, writers: &[WriterChange]) {
         let mut gone: Vec<Guid> = writers.iter().filter(|c| c.left()).map(|c| c.guid).collect();
@@ -224,6 +262,13 @@ impl History {
         name_drawer(instance, step);
         count_line(instance, after);
     }
+}
+
+fn widened(ends: Option<(Moment, Moment)>, at: Option<Moment>) -> Option<(Moment, Moment)> {
+    let Some(at) = at else {
+        return ends;
+    };
+    Some(ends.map_or((at, at), |(first, last)| (first.min(at), last.max(at))))
 }
 
 fn shown(instance: Option<&InstanceState>) -> Shown {

@@ -111,7 +111,7 @@ type Kind = (Verdict, Cause, Vec<Guid>);
 
 /// The groups, the most order lines first.
 pub fn groups(history: &History) -> Vec<Group> {
-    let day_ends = history.ends.map_or(0, |(_, last)| last);
+    let day_ends = history.ends().map_or(0, |(_, last)| last);
     let mut groups: BTreeMap<Kind, Group> = BTreeMap::new();
     for (key, instance) in &history.instances {
         for spell in &instance.spells {

@@ -17,8 +17,12 @@ pub struct Warnings {
     /// The first ones, each with its line.
     pub first: Vec<(usize, String)>,
     pub all: usize,
-    latest: Option<Moment>,
-    backwards: bool,
+    /// Of all calls, of those with a time, and of those with a clock.
+    moments: Latest,
+    times: Latest,
+    clocks: Latest,
+    /// Whether a time was negative: no clock is, so clocks count from elsewhere.
+    apart: bool,
     keys: HashSet<KeyHash>,
     /// Keys that were warned of.
     unknown: HashSet<KeyHash>,
@@ -26,10 +30,31 @@ pub struct Warnings {
     writers: HashMap<[u8; 16], Signs>,
 }
 
+#[derive(Default)]
+struct Latest {
+    at: Option<Moment>,
+    /// Whether the last one was earlier.
+    back: bool,
+}
+
+impl Latest {
+    /// From when to when it goes back, the first time in a row.
+    fn add(&mut self, at: Option<Moment>) -> Option<(Moment, Moment)> {
+        let at = at?;
+        let latest = self.at.map_or(at, |latest| latest.max(at));
+        let was_back = std::mem::replace(&mut self.back, at < latest);
+        self.at = Some(latest);
+        (self.back && !was_back).then_some((latest, at))
+    }
+}
+
 /// What a writer was heard of, and what was warned of.
 #[derive(Default)]
 struct Signs {
-    gaps: Gaps,
+    /// Its samples and assertions.
+    heard: Gaps,
+    /// Its assertions, which alone have a clock.
+    asserted: Gaps,
     matched: bool,
     warned: bool,
     unasserted: bool,
@@ -50,14 +75,14 @@ impl Watch for Warnings {
             let asserted = change.after.map(|w| w.last_assert);
             if asserted != change.before.map(|w| w.last_assert) {
                 if let Some(at) = asserted.filter(|at| !at.is_zero()) {
-                    self.sign(step, change.guid, moment_of_clock(at));
+                    self.sign(step, change.guid, moment_of_clock(at), true);
                 }
             }
         }
         if step.call.verb == Verb::Admit {
             self.unasserted(step);
             if let Some(at) = step.call.moment() {
-                self.sign(step, step.call.words.writer, at);
+                self.sign(step, step.call.words.writer, at, false);
             }
         }
     }
@@ -71,23 +96,22 @@ impl Warnings {
         }
     }
 
-    /// A time before that of the call above. Only the first of a row is warned of.
+    /// A time before that of a call above. Only the first of a row is warned of.
     fn time(&mut self, step: &Step<'_>) {
-        let Some(at) = step.call.moment() else {
-            return;
-        };
-        let latest = self.latest.unwrap_or(at);
-        if at < latest && !self.backwards {
+        let (time, clock) = (step.call.time(), step.call.clock());
+        self.apart |= time.is_some_and(|at| at < 0);
+        let back = self.moments.add(step.call.moment());
+        let backs = [self.times.add(time), self.clocks.add(clock)];
+        let backs = if self.apart { backs } else { [back, None] };
+        for (from, to) in backs.into_iter().flatten() {
             self.warn(step.call.line, |_| {
                 format!(
                     "the time goes back from {} to {}: put the lines in the order of their times, and dates in all of them or in none",
-                    show_moment(latest),
-                    show_moment(at)
+                    show_moment(from),
+                    show_moment(to)
                 )
             });
         }
-        self.backwards = at < latest;
-        self.latest = Some(latest.max(at));
     }
 
     /// A key that only calls name that start no instance.
@@ -149,9 +173,11 @@ impl Warnings {
     }
 
     /// A sample or assertion; where it comes after the lease, the first time is warned of.
-    fn sign(&mut self, step: &Step<'_>, guid: [u8; 16], at: Moment) {
+    fn sign(&mut self, step: &Step<'_>, guid: [u8; 16], at: Moment, asserts: bool) {
         let signs = self.writers.entry(guid).or_default();
-        let Some(gap) = signs.gaps.add(at) else {
+        let heard = signs.heard.add(at);
+        let asserted = if asserts { signs.asserted.add(at) } else { None };
+        let Some(gap) = (if self.apart { asserted } else { heard }) else {
             return;
         };
         let lease = step.mirror.writer(&guid).and_then(|w| w.lease).map(moment_of_clock);
@@ -159,12 +185,13 @@ impl Warnings {
             return;
         };
         signs.warned = true;
-        self.warn(step.call.line, |_| {
+        self.warn(step.call.line, |warnings| {
             format!(
-                "the lease of {} is {}, and {} passed until it was heard of again: offer a longer lease, or assert it in between",
+                "the lease of {} is {}, and {} passed until it was {} again: offer a longer lease, or assert it in between",
                 show_guid(&guid),
                 spoken(lease),
-                spoken(gap)
+                spoken(gap),
+                if warnings.apart { "asserted" } else { "heard of" }
             )
         });
     }
@@ -237,6 +264,50 @@ mod tests {
             2,
             "the lease of a/b is 5 min, and 9 min passed",
         );
+    }
+
+    #[test]
+    fn before_second_0() {
+        let day = |rest: &str| format!("match a/b kind automatic at 0s\n{rest}");
+        let good = "admit p from a/b at -3s\nadmit p from a/b at -2s\nassert a/b at 40s\n\
+                    autopurge at -1s\nlapse at 41s stamp -0.5s\nadmit p from a/b at 1s";
+        assert_eq!(warned(&day(good)), []);
+        let clocks = "admit p from a/b at -2s\nassert a/b at 2s\nassert a/b at 1s";
+        one(&day(clocks), 4, "goes back from 00:00:02 to 00:00:01");
+        let unstamped = "admit p from a/b at -2s\nlapse at 40s\nadmit p from a/b at -1s";
+        one(&day(unstamped), 4, "goes back from 00:00:40 to -00:00:01");
+        let back = "admit p from a/b at -2s\nadmit p from a/b at -2.5s";
+        one(&day(back), 3, "goes back from -00:00:02 to -00:00:02.5");
+        let minus = "admit p from a/b at 8s\nadmit p from a/b at -9s";
+        one(&day(minus), 3, "goes back from 00:00:08 to -00:00:09");
+        let row = "admit p from a/b at -2s\nautopurge at -3s\nassert a/b at 1s\nautopurge at -3s";
+        one(&day(row), 3, "goes back from -00:00:02 to -00:00:03");
+    }
+
+    #[test]
+    fn a_lapse_has_a_clock_and_a_time() {
+        let day = |rest: &str| format!("match a/b kind automatic at 0s\n{rest}");
+        let clock = "admit p from a/b at -2s\nlapse at 40s stamp -1s\nassert a/b at 39s";
+        one(&day(clock), 4, "goes back from 00:00:40 to 00:00:39");
+        let stamp = "admit p from a/b at -2s\nlapse at 40s stamp -3s";
+        one(&day(stamp), 3, "goes back from -00:00:02 to -00:00:03");
+        // Without a negative time it counts at its clock.
+        let earlier = "assert a/b at 39s\nlapse at 40s stamp 20s\nassert a/b at 41s";
+        assert_eq!(warned(&day(earlier)), []);
+        let later = "assert a/b at 19s\nlapse at 20s stamp 40s\nassert a/b at 30s";
+        assert_eq!(warned(&day(later)), []);
+    }
+
+    #[test]
+    fn leases_before_second_0_go_by_the_clock() {
+        let day =
+            |clock, rest: &str| format!("match a/b kind automatic lease 5s at {clock}s\n{rest}");
+        assert_eq!(warned(&day(0, "admit p from a/b at -3s\nassert a/b at 4s")), []);
+        let gap = "admit p from a/b at -3s\nassert a/b at 50s";
+        one(&day(40, gap), 3, "is 5 s, and 10 s passed until it was asserted again");
+        assert_eq!(warned(&day(40, "admit p from a/b at -9s\nadmit p from a/b at -1s")), []);
+        let late = "admit p from a/b at 42s\nadmit p from a/b at 44s\nassert a/b at 50s";
+        one(&day(40, late), 4, "is 5 s, and 6 s passed until it was heard of again");
     }
 
     #[test]

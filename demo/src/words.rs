@@ -185,6 +185,7 @@ fn span(word: &str) -> Result<i128, String> {
     })
 }
 
+/// Seconds are rounded down, so that a negative time has its nanoseconds above them.
 pub fn time(word: &str) -> Result<Time, String> {
     let nanos = span(word)?;
     let sec = i32::try_from(nanos.div_euclid(SECOND))
@@ -196,7 +197,10 @@ pub fn time(word: &str) -> Result<Time, String> {
 pub fn duration(word: &str) -> Result<Duration, String> {
     let nanos = span(word)?;
     if nanos < 0 {
-        return Err(format!("{} is negative, which only a sample's time can be", quoted(word)));
+        return Err(format!(
+            "{} is negative, which no delay can be and no clock (of match, assert, expire, lapse); a time can",
+            quoted(word)
+        ));
     }
     u64::try_from(nanos)
         .map(Duration::from_nanos)

@@ -14,8 +14,6 @@ pub struct Writer {
     /// Its samples, those turned away among them.
     pub samples: Gaps,
     pub turned_away: u64,
-    /// Its samples and assertions.
-    pub signs: Gaps,
     /// How often its lease ran out, and how often so while its samples came within it.
     pub expired: u64,
     pub expired_drawing: u64,
@@ -23,23 +21,24 @@ pub struct Writer {
     pub expired_lease: Option<Duration>,
     pub asserted: Marks,
     pub drawn: Marks,
-    /// When it was alive, by its assertions and lease; one without an end by an endless lease.
+    /// When it was alive, by the clocks of its assertions and its lease; one without an end by an endless lease. Not to be
+    /// drawn where clocks count from elsewhere than times.
     pub alive: Vec<(Moment, Option<Moment>)>,
 }
 
 impl Writer {
     pub fn sample(&mut self, at: Moment, admitted: bool) {
         self.samples.add(at);
-        self.signs.add(at);
         self.drawn.add(at);
         self.turned_away += u64::from(!admitted);
     }
 
-    pub fn follow(&mut self, change: &WriterChange, now: Moment) {
+    /// Follows a change; `now` is none where nothing says how long ago its samples came.
+    pub fn follow(&mut self, change: &WriterChange, now: Option<Moment>) {
         if change.expired() {
             self.expired += 1;
             self.expired_lease = self.lease;
-            let silent = self.samples.last().map(|last| now.saturating_sub(last));
+            let silent = now.zip(self.samples.last()).map(|(now, last)| now.saturating_sub(last));
             let lease = self.lease.map(moment_of_clock);
             self.expired_drawing += u64::from(silent.zip(lease).is_some_and(|(s, l)| s < l));
         }
@@ -51,7 +50,6 @@ impl Writer {
                 let was = change.before.map(|b| (b.state, b.last_assert));
                 if was != Some((after.state, after.last_assert)) {
                     self.asserted.add(asserted);
-                    self.signs.add(asserted);
                 }
                 self.cover(asserted, until);
             }
@@ -79,8 +77,8 @@ impl Writer {
         }
     }
 
-    fn cut(&mut self, now: Moment) {
-        if let Some((from, end)) = self.alive.last_mut() {
+    fn cut(&mut self, now: Option<Moment>) {
+        if let Some((now, (from, end))) = now.zip(self.alive.last_mut()) {
             let cut = now.max(*from);
             *end = Some(end.map_or(cut, |end| end.min(cut)));
         }

@@ -1,7 +1,7 @@
 /* A small console from the two headers alone: it reads lines from standard input, one call each, and shows which instances
  * still have a writer. `console` has places for 128 instances, `console 32` for 32, in a fourth of the memory for pens.
  *
- *     at SECONDS                        the time and the clock from here on
+ *     at SECONDS                        the time and the clock from here on, -2^31 to 2^31 - 1; before the epoch negative
  *     match WRITER [LEASE]              an automatic writer, its lease in seconds
  *     sample PEN WRITER [STRENGTH]      admitted at most once a second for each instance
  *     assert WRITER                     the writer is there
@@ -23,19 +23,26 @@
 /* The largest size of a serialized string<64>, for every serial, short ones too: another size stated can be another key. */
 #define SERIAL_LARGEST (4 + 64 + 1)
 #define LINE 256
+/* The clock of the liveliness is never negative: it counts the seconds from the first that a time can have, -2^31. */
+#define FIRST_SECOND (-((int64_t)1 << 31))
 
 static struct dcps_lent console;
 static uint8_t sheet[DCPS_SHEET_BYTES], answer[DCPS_ANSWER_BYTES];
-static uint32_t now;
+static int32_t now;
 
 static struct dcps_time time_now(void)
 {
-    return dcps_time_of((int32_t)now, 0);
+    return dcps_time_of(now, 0);
 }
 
 static uint64_t nanoseconds(uint64_t seconds)
 {
     return seconds * 1000000000u;
+}
+
+static uint64_t clock_now(void)
+{
+    return nanoseconds((uint64_t)(now - FIRST_SECOND));
 }
 
 /* 1 where it is accepted, else the refusal is shown. */
@@ -123,7 +130,7 @@ static void match(const char *writer, const char *seconds)
     uint8_t guid[DCPS_GUID_BYTES];
     uint64_t lease = seconds ? nanoseconds(strtoull(seconds, NULL, 10)) : 0;
     guid_of(guid, writer);
-    dcps_sheet_matched(sheet, guid, DCPS_AUTOMATIC, seconds ? &lease : NULL, nanoseconds(now));
+    dcps_sheet_matched(sheet, guid, DCPS_AUTOMATIC, seconds ? &lease : NULL, clock_now());
     call();
 }
 
@@ -131,7 +138,7 @@ static void assert_writer(const char *writer)
 {
     uint8_t guid[DCPS_GUID_BYTES];
     guid_of(guid, writer);
-    dcps_sheet_writer_asserted(sheet, guid, nanoseconds(now));
+    dcps_sheet_writer_asserted(sheet, guid, clock_now());
     call();
 }
 
@@ -183,12 +190,13 @@ static void leave(const char *writer, int lost)
 static void tick(void)
 {
     struct dcps_time time = time_now();
-    dcps_sheet_lapse(sheet, nanoseconds(now), &time);
+    dcps_sheet_lapse(sheet, clock_now(), &time);
     if (!call())
         return;
     print_left();
     if (dcps_answer_next_due_present(answer))
-        printf("  the next lease runs out at %" PRIu64 "\n", dcps_answer_next_due(answer) / 1000000000u);
+        printf("  the next lease runs out at %" PRId64 "\n",
+               (int64_t)(dcps_answer_next_due(answer) / 1000000000u) + FIRST_SECOND);
     /* What is lost has been shown; a console that acts on writers would read it here. */
     dcps_sheet_take_lost(sheet);
     if (call())
@@ -281,9 +289,9 @@ static void obey(char *line)
     const char *second = strtok(NULL, " \n"), *third = strtok(NULL, " \n");
     if (!word || word[0] == '#')
         return;
-    printf("%" PRIu32 ": %s%s%s%s%s\n", now, word, first ? " " : "", first ? first : "", second ? " " : "", second ? second : "");
+    printf("%" PRId32 ": %s%s%s%s%s\n", now, word, first ? " " : "", first ? first : "", second ? " " : "", second ? second : "");
     if (strcmp(word, "at") == 0 && first)
-        now = (uint32_t)strtoul(first, NULL, 10);
+        now = (int32_t)strtol(first, NULL, 10);
     else if (strcmp(word, "match") == 0 && first)
         match(first, second);
     else if (strcmp(word, "sample") == 0 && first && second)

@@ -43,11 +43,6 @@ static uint64_t clock_now(void)
     return (uint64_t)(dds_time() - start);
 }
 
-static struct dcps_time time_of(dds_time_t t)
-{
-    return dcps_time_of((int32_t)(t / DDS_NSECS_IN_SEC), (uint32_t)(t % DDS_NSECS_IN_SEC));
-}
-
 /* ---- matched writers */
 
 static enum dcps_liveliness kind_of(dds_liveliness_kind_t kind)
@@ -101,7 +96,7 @@ static void unmatched(struct console *c, size_t place)
     struct known gone = c->known[place];
     c->known[place] = c->known[--c->writers];
     c->left[c->gone++ % MOST] = gone;
-    feed_unmatched(&c->feed, &gone.writer, participant_gone(c, gone.participant), time_of(dds_time()));
+    feed_unmatched(&c->feed, &gone.writer, participant_gone(c, gone.participant), feed_time_of(&c->feed, dds_time()));
 }
 
 static void see_matches(struct console *c)
@@ -131,7 +126,7 @@ static void see_liveliness(struct console *c)
     if (!k)
         return;
     if (status.not_alive_count_change > 0)
-        feed_not_alive(&c->feed, &k->writer, clock_now(), time_of(dds_time()));
+        feed_not_alive(&c->feed, &k->writer, clock_now(), feed_time_of(&c->feed, dds_time()));
     else if (status.not_alive_count_change < 0 && status.alive_count_change > 0)
         feed_alive(&c->feed, &k->writer, clock_now());
 }
@@ -167,7 +162,7 @@ static void see_one(struct console *c, const console_Sample *sample, const dds_s
     struct known *k = find_known(c->known, c->writers, info->publication_handle);
     if (!k)
         k = find_known(c->left, c->gone < MOST ? c->gone : MOST, info->publication_handle);
-    struct dcps_time source = time_of(info->source_timestamp), now = time_of(dds_time());
+    struct dcps_time source = feed_time_of(&c->feed, info->source_timestamp), now = feed_time_of(&c->feed, dds_time());
     const uint8_t *r = feed_instance(&c->feed, sample->key);
     if (info->valid_data && k) {
         uint8_t outcome = feed_sample(&c->feed, &k->writer, sample->key, source, now, clock_now());

@@ -19,7 +19,8 @@ enum feed_without {
     WITHOUT_ASSERT = 64,  /* a sample asserts its writer */
     WITHOUT_FORGET = 128, /* free the records of departed writers */
     WITHOUT_STATED = 256, /* state the largest size of the key's type */
-    WITHOUT_REMAINDER = 512 /* let 999999999 stand for a remainder that is not known */
+    WITHOUT_REMAINDER = 512, /* let 999999999 stand for a remainder that is not known */
+    WITHOUT_FLOOR = 1024     /* round the seconds of a time down */
 };
 
 struct feed {
@@ -58,6 +59,17 @@ static inline uint32_t feed_key(const struct feed *f, uint8_t *key, const uint8_
 static inline struct dcps_time feed_time(const struct feed *f, int32_t sec, uint32_t fraction)
 {
     return dcps_time_of(sec, dcps_nanos_of(fraction, f->without & WITHOUT_REMAINDER ? 0 : DCPS_REMAINDER_UNKNOWN));
+}
+
+/* The time of nanoseconds from the epoch on, negative before it. Its seconds are rounded down, and C rounds towards 0. */
+static inline struct dcps_time feed_time_of(const struct feed *f, int64_t nanoseconds)
+{
+    int64_t sec = nanoseconds / 1000000000, nanosec = nanoseconds % 1000000000;
+    if (nanosec < 0 && !(f->without & WITHOUT_FLOOR)) {
+        sec -= 1;
+        nanosec += 1000000000;
+    }
+    return dcps_time_of((int32_t)sec, (uint32_t)nanosec);
 }
 
 /* The record of a key, or null. */

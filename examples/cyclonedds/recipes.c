@@ -137,6 +137,20 @@ static int one_time_both_ways(unsigned without)
     return feed_sample(&f, &strong, key, dcps_time_of(2, 100000000), at(4), 4) == DCPS_OUT_OF_ORDER;
 }
 
+/* By source, samples are in order before the epoch and across it as anywhere: one that comes late is turned away, the others are
+ * not. The times are in milliseconds. */
+static int in_order_before_the_epoch(unsigned without)
+{
+    static const int32_t times[] = {-1500, -500, -700, 250};
+    static const uint8_t outcomes[] = {DCPS_ADMITTED, DCPS_ADMITTED, DCPS_OUT_OF_ORDER, DCPS_ADMITTED};
+    begin(0, without);
+    f.by_source = 1;
+    for (unsigned i = 0; i < sizeof outcomes; i++)
+        if (feed_sample(&f, &strong, key, feed_time_of(&f, times[i] * (int64_t)1000000), at((int32_t)i), i + 2) != outcomes[i])
+            return 0;
+    return 1;
+}
+
 /* Only an admitted sample revives: code 6 puts a writer into an instance without writers, and it stays so. Nor does a
  * dispose record its writer. */
 static int only_samples_revive(void)
@@ -168,6 +182,7 @@ static const struct {
     {"crashes leave room for new writers", crashes_leave_room, WITHOUT_FORGET},
     {"a key is the same with its KeyHash and without", one_key_both_ways, WITHOUT_STATED},
     {"a time is the same over the wire and from a store", one_time_both_ways, WITHOUT_REMAINDER},
+    {"samples before the epoch are in order", in_order_before_the_epoch, WITHOUT_FLOOR},
 };
 
 static int failed;

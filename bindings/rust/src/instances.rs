@@ -438,7 +438,8 @@ impl<B: Buffers> State<B> {
     }
 
     /// Instances that were disposed, or without writers, for their delay go (DDS 1.4, 2.2.3.22); their
-    /// number. `u128::MAX` is never.
+    /// number. `u128::MAX` is never. Where `now` is earlier than an instance's time the gap counts as 0, so
+    /// that a delay of 0 purges it, and no other. [`Time`]s before the epoch count as any other.
     ///
     /// Refused as 4.
     ///
@@ -451,6 +452,14 @@ impl<B: Buffers> State<B> {
     /// state.dispose(handle, Some(nanosecond(10)))?;
     /// assert_eq!(state.autopurge(nanosecond(14), 5, u128::MAX)?, 0);
     /// assert_eq!(state.autopurge(nanosecond(15), 5, u128::MAX)?, 1);
+    ///
+    /// // Disposed one nanosecond before the epoch.
+    /// let handle = state.register([2; 16], Vec::new(), None)?;
+    /// state.dispose(handle, Some(Time { sec: -1, nanosec: 999_999_999 }))?;
+    /// let earlier = Time { sec: -8, nanosec: 0 };
+    /// assert_eq!(state.autopurge(earlier, 1, u128::MAX)?, 0);
+    /// assert_eq!(state.autopurge(nanosecond(1), 3, u128::MAX)?, 0);
+    /// assert_eq!(state.autopurge(nanosecond(1), 2, u128::MAX)?, 1);
     /// # Ok::<(), dcps::Refusal>(())
     /// ```
     pub fn autopurge(

@@ -5,7 +5,8 @@ use crate::{InstanceHandle, InstanceStateKind, KeyHash, Refusal, Sheet, State, T
 #[cfg(feature = "alloc")]
 use {alloc::vec::Vec, core::time::Duration};
 
-/// A received sample, with what the reader asks of it, for [`State::admit`].
+/// A received sample, with what the reader asks of it, for [`State::admit`]. Both its [`Time`]s may lie before the
+/// epoch.
 ///
 /// ```
 /// use dcps::{Sample, Time};
@@ -147,6 +148,15 @@ impl<B: Buffers> State<B> {
     /// assert!(state.admit(&sample)?.is_admitted());
     /// sample.filter_ts = Time { sec: 5, nanosec: 999_999_999 };
     /// assert_eq!(state.admit(&sample)?, Admission::TimeBasedFilter);
+    ///
+    /// // A clock that starts negative: one second apart, across the epoch.
+    /// let half = |sec| Time { sec, nanosec: 500_000_000 };
+    /// let mut sample = Sample { min_separation_nanos: 1_000_000_000, ..Sample::new([3; 16], [9; 16], half(-1)) };
+    /// assert!(state.admit(&sample)?.is_admitted());
+    /// sample.filter_ts = Time::ZERO;
+    /// assert_eq!(state.admit(&sample)?, Admission::TimeBasedFilter);
+    /// sample.filter_ts = half(0);
+    /// assert!(state.admit(&sample)?.is_admitted());
     ///
     /// // The first writer owns a new instance, and turns a weaker one away.
     /// let at = |sec| Time { sec, nanosec: 0 };

@@ -35,7 +35,7 @@ impl Iterator for Walker<'_> {
 /// Reads.
 impl<B: Buffers> State<B> {
     /// Whether a sample is delivered under the time-based filter (DDS 1.4, 2.2.3.12): earlier than the last
-    /// one, or so far from it. Yes where there is no last one.
+    /// one, or so far from it. Yes where there is no last one. [`Time`]s before the epoch count as any other.
     ///
     /// Refused as 4.
     ///
@@ -44,11 +44,16 @@ impl<B: Buffers> State<B> {
     ///
     /// let mut state = State::new();
     /// state.register([1; 16], Vec::new(), None)?;
-    /// state.record_delivery(&[1; 16], Time { sec: 5, nanosec: 0 })?;
-    /// let at = |sec, nanosec| {
-    ///     state.should_deliver_under_time_based_filter(&[1; 16], Time { sec, nanosec }, 1_000_000_000)
+    /// let second = 1_000_000_000;
+    /// let at = |state: &State, sec, nanosec| {
+    ///     state.should_deliver_under_time_based_filter(&[1; 16], Time { sec, nanosec }, second)
     /// };
-    /// assert_eq!((at(4, 0)?, at(5, 999_999_999)?, at(6, 0)?), (true, false, true));
+    /// state.record_delivery(&[1; 16], Time { sec: 5, nanosec: 0 })?;
+    /// assert!(at(&state, 4, 0)? && !at(&state, 5, 999_999_999)? && at(&state, 6, 0)?);
+    ///
+    /// // Half a second before the epoch.
+    /// state.record_delivery(&[1; 16], Time { sec: -1, nanosec: 500_000_000 })?;
+    /// assert!(at(&state, -1, 0)? && !at(&state, 0, 499_999_999)? && at(&state, 0, 500_000_000)?);
     /// # Ok::<(), dcps::Refusal>(())
     /// ```
     pub fn should_deliver_under_time_based_filter(
@@ -63,7 +68,8 @@ impl<B: Buffers> State<B> {
     }
 
     /// Whether a sample is delivered under the destination order (DDS 1.4, 2.2.3.17): by source, later than
-    /// the last one. Yes where there is no last one, and by reception.
+    /// the last one. Yes where there is no last one, and by reception. [`Time`]s before the epoch count as any
+    /// other.
     ///
     /// Refused as 4.
     ///
@@ -72,10 +78,14 @@ impl<B: Buffers> State<B> {
     ///
     /// let mut state = State::new();
     /// state.register([1; 16], Vec::new(), None)?;
-    /// let last = Time { sec: 5, nanosec: 0 };
+    /// let last = Time { sec: -3, nanosec: 7 };
     /// state.record_delivery(&[1; 16], last)?;
     /// assert!(!state.should_deliver_under_destination_order(&[1; 16], last, true)?);
     /// assert!(state.should_deliver_under_destination_order(&[1; 16], last, false)?);
+    /// // Six seconds earlier, and one nanosecond later.
+    /// let (early, late) = (Time { sec: -9, nanosec: 8 }, Time { sec: -3, nanosec: 8 });
+    /// assert!(!state.should_deliver_under_destination_order(&[1; 16], early, true)?);
+    /// assert!(state.should_deliver_under_destination_order(&[1; 16], late, true)?);
     /// # Ok::<(), dcps::Refusal>(())
     /// ```
     pub fn should_deliver_under_destination_order(

@@ -183,7 +183,8 @@ impl From<State> for SharedState {
     }
 }
 
-/// ZeroDDS's `InstanceTracker`.
+/// ZeroDDS's `InstanceTracker`. Before the epoch times count as [`Time`] has it, also where ZeroDDS takes them as in the
+/// epoch's first second.
 ///
 /// A call that is refused changes nothing and answers as on an unknown instance: [`InstanceHandle::NIL`], none, no,
 /// 0 or an empty list; [`Self::take_refusal`] then says why. A sample that cannot be judged is not accepted and not

@@ -21,16 +21,27 @@ pub mod view_state_mask {
     pub const NOT_NEW: u32 = 2;
 }
 
-/// A time of DDS: seconds, and nanoseconds below 10^9.
+/// A time of DDS: seconds, and nanoseconds below 10^9, of any epoch. It stands for seconds × 10^9 + nanoseconds; calls
+/// and reads go by that number, and so does the order of times here.
+///
+/// A time before the epoch is negative. Its seconds are rounded down, and the nanoseconds added to them: half a second
+/// before the epoch is second -1 and 500,000,000 nanoseconds.
 ///
 /// ```
 /// use dcps::Time;
-/// assert!(Time::ZERO < Time { sec: 0, nanosec: 1 });
-/// assert!(Time { sec: -1, nanosec: 0 } < Time::ZERO);
+///
+/// // Of a clock that counts nanoseconds.
+/// let time = |nanos: i64| Time {
+///     sec: nanos.div_euclid(1_000_000_000) as i32,
+///     nanosec: nanos.rem_euclid(1_000_000_000) as u32,
+/// };
+/// assert_eq!(time(-500_000_000), Time { sec: -1, nanosec: 500_000_000 });
+/// assert_eq!(time(-1), Time { sec: -1, nanosec: 999_999_999 });
+/// assert!(time(-500_000_000) < time(-1) && time(-1) < Time::ZERO && Time::ZERO < time(1));
 /// ```
 #[derive(Debug, Clone, Copy, PartialEq, Eq, Hash, PartialOrd, Ord, Default)]
 pub struct Time {
-    /// Seconds, which may be negative.
+    /// Seconds, rounded down: negative before the epoch.
     pub sec: i32,
     /// Nanoseconds; a call that uses 10^9 or more of them is refused as 4. [`wire_nanos`](crate::wire_nanos) makes them
     /// from the fraction of a stamp that came over the wire.

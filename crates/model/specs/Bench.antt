@@ -25,7 +25,7 @@ use Rattle.model.specs.Reads.{firstWritten}
 use Rattle.model.specs.Sets.{has, insert, setOf}
 use Rattle.model.specs.State.{State, figureOk, smallPlaces, largePlaces, freshState}
 use Rattle.model.specs.Tables.{find, pick, any, put, sift}
-use Rattle.model.specs.Times.{noTime, nanosOf, signedNanosOf, filterAdmits, orderAdmits, deadlineMissed, purgeDue}
+use Rattle.model.specs.Times.{billion, noTime, nanosOf, filterAdmits, orderAdmits, deadlineMissed, purgeDue}
 use Rattle.model.specs.WriterRecord.{stateNumber}
 use Rattle.model.specs.Writers.{trackerCall, trackerTurn, trackerState, writersAfter, movers, lastAfter, nextDue, covers, renews, asserted, expires, expired}
 
@@ -101,7 +101,7 @@ only (x ∷ xs) = x .state
 abbrev after : InstanceCall → Sheet → InstanceState → InstanceState
 after c s x = only (instanceCall largePlaces c s (stateWith (instanceWith x ∷ [])) .state .instances)
 
--- ---- lines a to d and i
+-- ---- lines a, b, d and i; line c stands with request 7
 
 abbrev filterLines : List Row
 filterLines =
@@ -114,7 +114,6 @@ abbrev orderLines : List Row
 orderLines =
     test (orderAdmits (time 5 0) (time 5 0)) false
     ∷ test (orderAdmits (time 5 0) (time 5 1)) true
-    ∷ test (orderAdmits (time (minus 3) 7) (time (minus 9) 8)) true
     ∷ []
 
 -- owned by GUID 1 with strength 9 since (-2, 0); GUID 2 has strength 1, now is (-1, 0)
@@ -132,16 +131,24 @@ deadlineLines =
     ∷ row (num (after acceptUnderExclusiveOwnership (deadlineSheet 1_000_000_001) ownedState .owner .guid)) 1
     ∷ []
 
-abbrev disposedState : InstanceState
-disposedState =
-    withTimes (withDisposedAt (time 0 10) (startedState .times)) (withLife (withKind NotAliveDisposed (startedState .life)) startedState)
+abbrev disposedAt : MaybeTime → InstanceState
+disposedAt at =
+    withTimes (withDisposedAt at (startedState .times)) (withLife (withKind NotAliveDisposed (startedState .life)) startedState)
 
-abbrev purges : ℕ → ℕ → ℕ
-purges now delay =
-    instanceCall largePlaces autopurge (sheet 1 0 (time 0 now) delay 0 0 0 0) (stateWith (instanceWith disposedState ∷ [])) .answer .count
+abbrev disposedState : InstanceState
+disposedState = disposedAt (time 0 10)
+
+-- how many instances a purge takes out of a table with one that was disposed of then
+abbrev purges : MaybeTime → MaybeTime → ℕ → ℕ
+purges at now delay =
+    instanceCall largePlaces autopurge (sheet 1 0 now delay 0 0 0 0) (stateWith (instanceWith (disposedAt at) ∷ [])) .answer .count
 
 abbrev purgeLines : List Row
-purgeLines = row (purges 14 5) 0 ∷ row (purges 15 5) 1 ∷ row (purges 3 0) 1 ∷ []
+purgeLines =
+    row (purges (time 0 10) (time 0 14) 5) 0
+    ∷ row (purges (time 0 10) (time 0 15) 5) 1
+    ∷ row (purges (time 0 10) (time 0 3) 0) 1
+    ∷ []
 
 -- ---- line f: a call under a limit on a state that knows key 1
 
@@ -216,16 +223,17 @@ unregisterTrap =
 
 -- ---- document 02, request 1: the writer of the sample by which admit starts an instance owns it
 
--- a sample for key 1: its writer and strength, time 1 at a second, and time 2 ten seconds later; no limit and no deadline
-abbrev sampleAt : ℕ → ℕ → ℕ → Sheet
-sampleAt writer strength second =
+-- a sample for key 1: separation, writer and strength, time 1 at a second, and time 2 ten seconds later; no limit and no
+-- deadline
+abbrev sampleApart : ℕ → ℕ → ℕ → ℕ → Sheet
+sampleApart separation writer strength second =
     record {
       key = guid 1;
       guid = guid writer;
       handle = handle 1;
       «time_1» = time second 0;
       «time_2» = time (second + 10) 0;
-      a = 0;
+      a = separation;
       b = 0;
       first = minus 1;
       second = strength;
@@ -237,6 +245,10 @@ sampleAt writer strength second =
       code = 48;
       holder = record { present = false; len = 0; bytes = replicate holderPlaces 0 };
     }
+
+-- with no separation
+abbrev sampleAt : ℕ → ℕ → ℕ → Sheet
+sampleAt = sampleApart 0
 
 abbrev admits : ℕ → ℕ → ℕ → State → Turned
 admits writer strength second st = admitCall largePlaces (sampleAt writer strength second) st
@@ -342,6 +354,64 @@ lookupLines =
     ∷ row (handleOf (firstWritten (guid 9) written)) 0
     ∷ []
 
+-- ---- document 02, request 7: seconds below 0 count as they are
+
+-- line a ten seconds earlier, and a nanosecond above the separation; across the epoch, where (-1, 999999999) is a nanosecond
+-- before (0, 0); the largest gap
+abbrev filterBelowLines : List Row
+filterBelowLines =
+    test (filterAdmits (time (minus 5) 0) (time (minus 6) 0) billion) true
+    ∷ test (filterAdmits (time (minus 5) 0) (time (minus 5) 999_999_999) billion) false
+    ∷ test (filterAdmits (time (minus 5) 0) (time (minus 4) 0) billion) true
+    ∷ test (filterAdmits (time (minus 5) 0) (time (minus 4) 1) billion) true
+    ∷ test (filterAdmits (time (minus 1) 999_999_999) (time 0 0) 1) true
+    ∷ test (filterAdmits (time (minus 1) 999_999_999) (time 0 0) 2) false
+    ∷ test (filterAdmits (time (minus (2 ^ 31)) 0) (time (2 ^ 31 - 1) 999_999_999) 4_294_967_295_999_999_999) true
+    ∷ test (filterAdmits (time (minus (2 ^ 31)) 0) (time (2 ^ 31 - 1) 999_999_999) 4_294_967_296_000_000_000) false
+    ∷ []
+
+-- line c, which is a no now; then after (-3, 7) again, and across the epoch
+abbrev orderBelowLines : List Row
+orderBelowLines =
+    test (orderAdmits (time (minus 3) 7) (time (minus 9) 8)) false
+    ∷ test (orderAdmits (time (minus 3) 7) (time (minus 3) 7)) false
+    ∷ test (orderAdmits (time (minus 3) 7) (time (minus 3) 8)) true
+    ∷ test (orderAdmits (time (minus 3) 7) (time (minus 2) 0)) true
+    ∷ test (orderAdmits (time (minus 1) 999_999_999) (time 0 0)) true
+    ∷ test (orderAdmits (time 0 0) (time (minus 1) 999_999_999)) false
+    ∷ []
+
+-- line i three seconds earlier; a second; across the epoch; and with now earlier, where the gap counts as 0
+abbrev purgeBelowLines : List Row
+purgeBelowLines =
+    row (purges (time (minus 3) 10) (time (minus 3) 14) 5) 0
+    ∷ row (purges (time (minus 3) 10) (time (minus 3) 15) 5) 1
+    ∷ row (purges (time (minus 5) 0) (time (minus 4) 0) billion) 1
+    ∷ row (purges (time (minus 5) 0) (time (minus 4) 0) (billion + 1)) 0
+    ∷ row (purges (time (minus 1) 999_999_999) (time 0 3) 5) 0
+    ∷ row (purges (time (minus 1) 999_999_999) (time 0 4) 5) 1
+    ∷ row (purges (time (minus 3) 10) (time (minus 4) 3) 0) 1
+    ∷ row (purges (time (minus 3) 10) (time (minus 4) 3) 1) 0
+    ∷ row (purges (time 0 10) (time (minus 4) 3) 0) 1
+    ∷ row (purges (time 0 10) (time (minus 4) 3) 1) 0
+    ∷ []
+
+-- admit: a sample of second -30 with filter time -20, then one by the same writer
+abbrev admittedBelow : ℕ → ℕ → ℕ
+admittedBelow separation second = admitCall largePlaces (sampleApart separation 1 5 second) (admits 1 5 (minus 30) freshState .state) .answer .outcome
+
+abbrev admitBelowLines : List Row
+admitBelowLines =
+    row (admittedBelow 0 (minus 31)) 1
+    ∷ row (admittedBelow 0 (minus 30)) 1
+    ∷ row (admittedBelow 0 (minus 29)) 0
+    ∷ row (admittedBelow billion (minus 29)) 0
+    ∷ row (admittedBelow (billion + 1) (minus 29)) 2
+    ∷ []
+
+abbrev belowLines : List Row
+belowLines = filterBelowLines ++ (orderBelowLines ++ (purgeBelowLines ++ admitBelowLines))
+
 -- ---- the claim
 
 abbrev pub benchRows : List Row
@@ -349,8 +419,8 @@ benchRows =
     filterLines
     ++ (orderLines ++ (deadlineLines ++ (limitLines ++ (leaseLines ++ (departedLines ++ (purgeLines
     ++ (reviveTrap ++ (registerTrap ++ (unregisterTrap ++ (firstOwnerLines ++ (unownedLines ++ (startsAgainLines ++ (figureLines
-    ++ (placesLines ++ lookupLines))))))))))))))
+    ++ (placesLines ++ (lookupLines ++ belowLines)))))))))))))))
 
 pub bench-rows : T (agree benchRows)
-unfolding num allocated instanceCall instanceTurn instancesAfter begun nextAfter lateRefusal handleBytes startedState started registered unregistered ensured revived revivedNew lifecycleObserved admittedObserved admittedNoted writerNoted ownershipTried takesOver outbids purged leftBy sampled firstOwned admitted admitWith has insert setOf find pick any put sift nanosOf signedNanosOf filterAdmits orderAdmits deadlineMissed purgeDue trackerCall trackerTurn trackerState writersAfter movers lastAfter nextDue covers renews asserted expires expired
+unfolding num allocated instanceCall instanceTurn instancesAfter begun nextAfter lateRefusal handleBytes startedState started registered unregistered ensured revived revivedNew lifecycleObserved admittedObserved admittedNoted writerNoted ownershipTried takesOver outbids purged leftBy sampled firstOwned admitted admitWith has insert setOf find pick any put sift nanosOf filterAdmits orderAdmits deadlineMissed purgeDue trackerCall trackerTurn trackerState writersAfter movers lastAfter nextDue covers renews asserted expires expired
 bench-rows = tt

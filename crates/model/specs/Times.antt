@@ -1,8 +1,10 @@
 -- Times and the four tests on them: the opening paragraphs, and section 3's lines on filters, order, deadline and
--- autopurge. Seconds are given by their 32 bits in two's complement.
-use Prim.Native.Nat.{ℕ, _+_, _-_, _*_, _%_, _^_, max}
+-- autopurge, over the signed value of document 02's request 7. Seconds are given by their 32 bits in two's complement.
+use Prim.Native.Nat.{ℕ, _+_, _-_, _%_, _^_}
 use mathlib.Core.Bool.{Bool, true, false, not, _&&_, _||_, cond}
-use lib.Dec.{leb, ltb, eqb}
+use lib.Dec.{leb, eqb}
+use lib.IntN.{ℤ, pos, negsuc, _+ℤ_, _-ℤ_, _*ℤ_}
+use lib.Signed.{ltZ, leZ}
 use mir.Syntax.{w32}
 use mir.Val.{ofZ, toZ}
 use Rattle.model.specs.declared.Time.{Time}
@@ -11,38 +13,58 @@ use Rattle.model.specs.declared.MaybeTime.{MaybeTime}
 abbrev pub billion : ℕ
 billion = 1_000_000_000
 
--- a number of 32 bits with a sign, plus 2^31: the order of these is the order of the signed numbers
+-- a number of 32 bits with a sign, plus 2^31: the order of these is the order of the signed numbers; strengths are compared so
 abbrev pub raised : ℕ → ℕ
 raised bits = (bits + 2 ^ 31) % 2 ^ 32
 
 abbrev pub negative : ℕ → Bool
 negative bits = leb (2 ^ 31) bits
 
--- the nanosecond value under filters, destination order and autopurge: max(seconds, 0), raised as above, and nanoseconds
-unfoldable pub nanosOf : MaybeTime → ℕ
-nanosOf t = max (raised (t .sec)) (2 ^ 31) * billion + t .nanosec
+-- ---- the nanosecond value, and the tests on such values
 
--- the nanosecond value under the deadline: signed seconds, raised, and nanoseconds
-unfoldable pub signedNanosOf : MaybeTime → ℕ
-signedNanosOf t = raised (t .sec) * billion + t .nanosec
+-- under filters, destination order, autopurge and the deadline: signed seconds × 10^9, and nanoseconds added below zero too
+unfoldable pub nanosOf : MaybeTime → ℤ
+nanosOf t = toZ w32 (t .sec) *ℤ pos billion +ℤ pos (t .nanosec)
 
--- filter: with no last time yes; earlier than the last is admitted, else the gap must reach the separation
+-- from one value to another; below zero where the other is earlier
+abbrev pub gap : ℤ → ℤ → ℤ
+gap from to = to -ℤ from
+
+-- a gap is so many nanoseconds or more
+abbrev pub reaches : ℤ → ℕ → Bool
+reaches g nanoseconds = leZ (pos nanoseconds) g
+
+-- filter: earlier than the last is admitted, else the gap must reach the separation
+abbrev pub gapPasses : ℤ → ℤ → ℕ → Bool
+gapPasses last candidate separation = ltZ candidate last || reaches (gap last candidate) separation
+
+-- destination order: strictly later
+abbrev pub isLater : ℤ → ℤ → Bool
+isLater last candidate = ltZ last candidate
+
+-- autopurge: a negative gap counts as 0
+abbrev pub elapsed : ℤ → ℕ
+elapsed (pos n) = n
+elapsed (negsuc n) = 0
+
+-- ---- the tests on times
+
+-- filter: with no last time yes
 unfoldable pub filterAdmits : MaybeTime → MaybeTime → ℕ → Bool
-filterAdmits last candidate separation =
-    not (last .present) || (ltb (nanosOf candidate) (nanosOf last) || leb (nanosOf last + separation) (nanosOf candidate))
+filterAdmits last candidate separation = not (last .present) || gapPasses (nanosOf last) (nanosOf candidate) separation
 
--- destination order: with no last time yes; else strictly later
+-- destination order: with no last time yes
 unfoldable pub orderAdmits : MaybeTime → MaybeTime → Bool
-orderAdmits last candidate = not (last .present) || ltb (nanosOf last) (nanosOf candidate)
+orderAdmits last candidate = not (last .present) || isLater (nanosOf last) (nanosOf candidate)
 
 -- the owner's deadline is missed: its last accepted sample is a deadline or more before now
 unfoldable pub deadlineMissed : MaybeTime → MaybeTime → ℕ → Bool
-deadlineMissed ownerAt now deadline = ownerAt .present && leb (signedNanosOf ownerAt + deadline) (signedNanosOf now)
+deadlineMissed ownerAt now deadline = ownerAt .present && reaches (gap (nanosOf ownerAt) (nanosOf now)) deadline
 
--- autopurge: the delay has run out since a time that is there; the delay 2^64 - 1 never does, and where now is earlier
--- than the time the gap is 0
+-- autopurge: the delay has run out since a time that is there; the delay 2^64 - 1 never does
 unfoldable pub purgeDue : MaybeTime → MaybeTime → ℕ → Bool
-purgeDue since now delay = since .present && (not (eqb delay (2 ^ 64 - 1)) && leb delay (nanosOf now - nanosOf since))
+purgeDue since now delay =
+    since .present && (not (eqb delay (2 ^ 64 - 1)) && leb delay (elapsed (gap (nanosOf since) (nanosOf now))))
 
 -- ---- optional times
 

@@ -1,61 +1,68 @@
-// Times in nanoseconds, and the four tests on them: filter, destination order, deadline and autopurge. What they are
-// stands in model's Times.
+// The nanosecond value of a time, the tests on such values, and the four on times: filter, destination order, deadline and
+// autopurge. What they are stands in model's Times.
 //
 // Derives from instance_tracker.rs of ZeroDDS.
-// Copyright 2026 ZeroDDS Contributors. SPDX-License-Identifier: Apache-2.0. Changed: written anew in Rattle; seconds are
-// counted from -2^31, so that no number has a sign, and 64 bits hold what 128 did.
+// Copyright 2026 ZeroDDS Contributors. SPDX-License-Identifier: Apache-2.0. Changed: written anew in Rattle; the value has a
+// sign under all four, and 64 bits hold what 128 did.
 ghost use mathlib.Core.Path.{_≡_};
-ghost use Prim.Native.Nat.{_+_, _-_, _*_};
-ghost use lib.Dec.{leb};
-ghost use Rattle.model.specs.Times.{billion, nanosOf, signedNanosOf, filterAdmits, orderAdmits, deadlineMissed, purgeDue};
+ghost use mir.Syntax.{w64};
+ghost use mir.Val.{SFits};
+ghost use Rattle.model.specs.Times.{nanosOf, gap, reaches, gapPasses, isLater, elapsed, filterAdmits, orderAdmits, deadlineMissed, purgeDue};
 use model::MaybeTime;
 
-// The nanoseconds of a time without a sign.
-fn in_nanos(sec: u32, nanosec: u32) -> u64
-    ensures { λ r. ⌜ r ≡ sec * billion + nanosec ⌝ }
-{
-    (sec as u64) * 1_000_000_000 + (nanosec as u64)
-}
-
-// The nanoseconds under filter, destination order and autopurge: negative seconds count as 0.
-pub fn nanos(t: MaybeTime) -> u64
+// Seconds and nanoseconds in one number, below zero before the epoch.
+pub fn nanos(t: MaybeTime) -> i64
     ensures { λ r. ⌜ r ≡ nanosOf t ⌝ }
 {
+    let sec = t.sec;
     let nanosec = t.nanosec;
-    let sec = numbers::raise(t.sec);
-    if sec < 0x8000_0000 {
-        in_nanos(0x8000_0000, nanosec)
-    } else {
-        in_nanos(sec, nanosec)
-    }
+    (numbers::of_bits(sec) as i64) * 1_000_000_000 + (nanosec as i64)
 }
 
-// The nanoseconds under the deadline: negative seconds count as they are.
-pub fn signed_nanos(t: MaybeTime) -> u64
-    ensures { λ r. ⌜ r ≡ signedNanosOf t ⌝ }
+// From one value to another; below zero where the other is earlier.
+pub fn gap(from: i64, to: i64) -> i64
+    requires { ⌜ SFits w64 (gap from to) ⌝ }
+    ensures { λ r. ⌜ r ≡ gap from to ⌝ }
 {
-    let nanosec = t.nanosec;
-    in_nanos(numbers::raise(t.sec), nanosec)
+    to - from
 }
 
-// The gap from one time to another is reached.
-fn reaches(from: u64, to: u64, gap: u64) -> bool
-    ensures { λ r. ⌜ r ≡ leb (from + gap) to ⌝ }
+// A gap of so many nanoseconds or more. A negative one reaches nothing, not even 0.
+pub fn reaches(gap: i64, nanoseconds: u64) -> bool
+    ensures { λ r. ⌜ r ≡ reaches gap nanoseconds ⌝ }
 {
-    if to < from {
+    if gap < 0 {
         return false;
     }
-    gap <= to - from
+    nanoseconds <= gap as u64
 }
 
-// What lies between two times, 0 where the second is earlier.
-fn elapsed(from: u64, to: u64) -> u64
-    ensures { λ r. ⌜ r ≡ to - from ⌝ }
+// The filter's test. A value of the past is a matter of order, and is not filtered.
+pub fn gap_passes(last: i64, candidate: i64, separation: u64) -> bool
+    requires { ⌜ SFits w64 (gap last candidate) ⌝ }
+    ensures { λ r. ⌜ r ≡ gapPasses last candidate separation ⌝ }
 {
-    if from <= to { to - from } else { 0 }
+    if candidate < last {
+        return true;
+    }
+    reaches(gap(last, candidate), separation)
 }
 
-// TIME_BASED_FILTER (DDS 1.4, 2.2.3.12). A sample of the past is a matter of order, and is not filtered.
+// The order's test.
+pub fn is_later(last: i64, candidate: i64) -> bool
+    ensures { λ r. ⌜ r ≡ isLater last candidate ⌝ }
+{
+    last < candidate
+}
+
+// A gap as autopurge counts it: a negative one as 0.
+fn elapsed(gap: i64) -> u64
+    ensures { λ r. ⌜ r ≡ elapsed gap ⌝ }
+{
+    if gap < 0 { 0 } else { gap as u64 }
+}
+
+// TIME_BASED_FILTER (DDS 1.4, 2.2.3.12).
 pub fn filter_admits(last: MaybeTime, candidate: MaybeTime, separation: u64) -> bool
     ensures { λ r. ⌜ r ≡ filterAdmits last candidate separation ⌝ }
 {
@@ -65,13 +72,10 @@ pub fn filter_admits(last: MaybeTime, candidate: MaybeTime, separation: u64) -> 
     }
     let from = nanos(last);
     let to = nanos(candidate);
-    if to < from {
-        return true;
-    }
-    reaches(from, to, separation)
+    gap_passes(from, to, separation)
 }
 
-// DESTINATION_ORDER by source timestamp (DDS 1.4, 2.2.3.17): strictly later than the last.
+// DESTINATION_ORDER by source timestamp (DDS 1.4, 2.2.3.17).
 pub fn order_admits(last: MaybeTime, candidate: MaybeTime) -> bool
     ensures { λ r. ⌜ r ≡ orderAdmits last candidate ⌝ }
 {
@@ -79,7 +83,9 @@ pub fn order_admits(last: MaybeTime, candidate: MaybeTime) -> bool
     if !present {
         return true;
     }
-    nanos(last) < nanos(candidate)
+    let from = nanos(last);
+    let to = nanos(candidate);
+    is_later(from, to)
 }
 
 // The owner's DEADLINE is missed (DDS 1.4, 2.2.3.9.2): its last sample is a deadline or more before now.
@@ -88,7 +94,7 @@ pub fn deadline_missed(owner_at: MaybeTime, now: MaybeTime, deadline: u64) -> bo
 {
     let present = owner_at.present;
     if present {
-        return reaches(signed_nanos(owner_at), signed_nanos(now), deadline);
+        return reaches(gap(nanos(owner_at), nanos(now)), deadline);
     }
     false
 }
@@ -102,7 +108,7 @@ pub fn purge_due(since: MaybeTime, now: MaybeTime, delay: u64) -> bool
         if delay == 0xFFFF_FFFF_FFFF_FFFF {
             return false;
         }
-        return delay <= elapsed(nanos(since), nanos(now));
+        return delay <= elapsed(gap(nanos(since), nanos(now)));
     }
     false
 }

@@ -1,5 +1,6 @@
 // Published vectors and bench lines, run: 64-bit FNV-1a as its authors list it (test_fnv.c of their reference code), a GUID
-// whose hash is 0, the allocator about the counter's ends, and lines a, b, c, d and i of the scope document's section 10.
+// whose hash is 0, the allocator about the counter's ends, lines a, b, c, d and i of the scope document's section 10, and such
+// lines before the epoch (document 02, request 7).
 // Each line is the name of a case and its answer.
 use libc::STDOUT_FILENO;
 use model::Guid;
@@ -15,6 +16,8 @@ fn main() {
     order();
     deadline();
     purge();
+    filter_before_epoch();
+    purge_before_epoch();
 }
 
 // A case's name, and the colon after it.
@@ -108,21 +111,30 @@ fn time(sec: i32, nanosec: u32) -> MaybeTime {
     }
 }
 
+// The filter's decision on a sample after another.
+fn passes(text: &[u8], last: MaybeTime, candidate: MaybeTime, separation: u64) {
+    decision(
+        text,
+        sample_time::filter_admits(last, candidate, separation),
+    );
+}
+
+// Whether an instance is purged a delay after its end.
+fn due(text: &[u8], since: MaybeTime, now: MaybeTime, delay: u64) {
+    decision(text, sample_time::purge_due(since, now, delay));
+}
+
 // Line a.
 fn filter() {
     let last = time(5, 0);
-    decision(
-        b"a. (4,0)",
-        sample_time::filter_admits(last, time(4, 0), 1_000_000_000),
-    );
-    decision(
+    passes(b"a. (4,0)", last, time(4, 0), 1_000_000_000);
+    passes(
         b"a. (5,999999999)",
-        sample_time::filter_admits(last, time(5, 999_999_999), 1_000_000_000),
+        last,
+        time(5, 999_999_999),
+        1_000_000_000,
     );
-    decision(
-        b"a. (6,0)",
-        sample_time::filter_admits(last, time(6, 0), 1_000_000_000),
-    );
+    passes(b"a. (6,0)", last, time(6, 0), 1_000_000_000);
 }
 
 // Lines b and c.
@@ -147,13 +159,33 @@ fn deadline() {
 // Line i.
 fn purge() {
     let since = time(0, 10);
-    decision(
-        b"i. 5 (0,14)",
-        sample_time::purge_due(since, time(0, 14), 5),
+    due(b"i. 5 (0,14)", since, time(0, 14), 5);
+    due(b"i. 5 (0,15)", since, time(0, 15), 5);
+    due(b"i. 0 (0,3)", since, time(0, 3), 0);
+}
+
+// Request 7: line a ten seconds earlier, and across the epoch.
+fn filter_before_epoch() {
+    let last = time(-5, 0);
+    passes(b"7. (-6,0)", last, time(-6, 0), 1_000_000_000);
+    passes(
+        b"7. (-5,999999999)",
+        last,
+        time(-5, 999_999_999),
+        1_000_000_000,
     );
-    decision(
-        b"i. 5 (0,15)",
-        sample_time::purge_due(since, time(0, 15), 5),
-    );
-    decision(b"i. 0 (0,3)", sample_time::purge_due(since, time(0, 3), 0));
+    passes(b"7. (-4,0)", last, time(-4, 0), 1_000_000_000);
+    passes(b"7. 1 (0,0)", time(-1, 999_999_999), time(0, 0), 1);
+    passes(b"7. 2 (0,0)", time(-1, 999_999_999), time(0, 0), 2);
+}
+
+// Request 7: line i a second earlier, a second apart, and a delay of 1 with now before the time.
+fn purge_before_epoch() {
+    let since = time(-1, 10);
+    due(b"7. 5 (-1,14)", since, time(-1, 14), 5);
+    due(b"7. 5 (-1,15)", since, time(-1, 15), 5);
+    due(b"7. 1000000000 (0,9)", since, time(0, 9), 1_000_000_000);
+    due(b"7. 1000000000 (0,10)", since, time(0, 10), 1_000_000_000);
+    due(b"7. 0 (-1,3)", since, time(-1, 3), 0);
+    due(b"7. 1 (-1,3)", since, time(-1, 3), 1);
 }

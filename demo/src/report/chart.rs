@@ -43,6 +43,8 @@ pub fn escaped(text: &str) -> String {
 struct Scale {
     first: Moment,
     last: Moment,
+    /// Whether clocks have a place on it.
+    clocks: bool,
 }
 
 impl Scale {
@@ -54,8 +56,9 @@ impl Scale {
 }
 
 pub fn write(report: &Report<'_>) -> String {
-    let (first, last) = report.history.ends.unwrap_or((0, 1));
-    let scale = Scale { first, last: last.max(first.saturating_add(1)) };
+    let (first, last) = report.history.ends().unwrap_or((0, 1));
+    let last = last.max(first.saturating_add(1));
+    let scale = Scale { first, last, clocks: !report.history.apart() };
     let mut rows = String::new();
     let mut y = TOP;
     title(&mut rows, &mut y, "Instances (pens)");
@@ -282,6 +285,15 @@ fn ticks(svg: &mut String, scale: &Scale, at: (f64, f64), class: &str, what: &st
 fn writer_row(svg: &mut String, y: f64, scale: &Scale, name: &str, writer: &Writer) {
     let _ = writeln!(svg, "<g class=\"writer\">");
     label(svg, y + 14.0, name);
+    if scale.clocks {
+        leases(svg, y, scale, name, writer);
+    }
+    ticks(svg, scale, (y + 18.0, 5.0), "drawn", "sample", writer.drawn.all());
+    let _ = writeln!(svg, "</g>");
+}
+
+/// Its leases and assertions.
+fn leases(svg: &mut String, y: f64, scale: &Scale, name: &str, writer: &Writer) {
     for (from, to) in &stretches(scale, writer) {
         let (x, end) = (scale.x(*from), scale.x(to.unwrap_or(scale.last)));
         let until = to.map_or("on".to_owned(), |to| format!("to {}", show_moment(to)));
@@ -296,8 +308,6 @@ fn writer_row(svg: &mut String, y: f64, scale: &Scale, name: &str, writer: &Writ
         );
     }
     ticks(svg, scale, (y + 3.5, 13.0), "assertion", "asserted", writer.asserted.all());
-    ticks(svg, scale, (y + 18.0, 5.0), "drawn", "sample", writer.drawn.all());
-    let _ = writeln!(svg, "</g>");
 }
 
 /// When it was alive; of many stretches, those side by side as one.

@@ -107,7 +107,9 @@ fn picture(page: &mut String, report: &Report<'_>) {
         ("assertion", "assertion"),
     ];
     page.push_str("<figcaption class=\"legend\">");
-    for (class, name) in legend {
+    // The chart leaves the last two out where clocks count from elsewhere.
+    let drawn = if report.history.apart() { legend.len() - 2 } else { legend.len() };
+    for (class, name) in &legend[..drawn] {
         let _ = write!(page, "<span><i class=\"key {class}\"></i>{name}</span> ");
     }
     page.push_str("</figcaption>\n");

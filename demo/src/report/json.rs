@@ -111,8 +111,8 @@ fn whole(report: &Report<'_>) -> Json {
     });
     let mut fields = vec![
         ("day", text(report.name)),
-        ("from", moment(h.ends.map(|(first, _)| first))),
-        ("to", moment(h.ends.map(|(_, last)| last))),
+        ("from", moment(h.ends().map(|(first, _)| first))),
+        ("to", moment(h.ends().map(|(_, last)| last))),
         ("calls", number(h.calls)),
         ("refused", number(h.refused)),
         ("samples_turned_away", number(h.turned_away)),

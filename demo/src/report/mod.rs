@@ -87,7 +87,7 @@ impl<'a> Report<'a> {
     }
 
     pub fn day_ends(&self) -> Moment {
-        self.history.ends.map_or(0, |(_, last)| last)
+        self.history.ends().map_or(0, |(_, last)| last)
     }
 
     /// The order lines of the day.

@@ -26,7 +26,7 @@ pub fn write(report: &Report<'_>) -> String {
 /// The sentences at the top, for purchasing.
 pub fn heads(report: &Report<'_>) -> Vec<String> {
     let (h, total) = (report.history, &report.total);
-    let span = h.ends.map_or(String::new(), |(first, last)| {
+    let span = h.ends().map_or(String::new(), |(first, last)| {
         format!(", from {} to {}", show_moment(first), show_moment(last))
     });
     let mut heads = vec![

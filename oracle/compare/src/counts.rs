@@ -62,6 +62,18 @@ impl<C, const N: usize> Counts<C, N> {
         let unmet = (0..N).filter(|n| !met(*n)).map(|n| self.fates[n].to_string());
         self.tables.iter().flat_map(rows).chain(unmet).collect()
     }
+
+    /// The fates that no case had, sort by sort.
+    pub fn missing_by_row(&self) -> Vec<String> {
+        let mut missing = Vec::new();
+        for Table { name: table, rows } in &self.tables {
+            for Row { name, fates, .. } in rows {
+                let unmet = self.fates.iter().zip(fates).filter(|(_, n)| **n == 0);
+                missing.extend(unmet.map(|(fate, _)| format!("{table} {name}, {fate}")));
+            }
+        }
+        missing
+    }
 }
 
 impl<C, const N: usize> fmt::Display for Counts<C, N> {

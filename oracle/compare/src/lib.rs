@@ -6,6 +6,7 @@
 
 pub mod case;
 pub mod counts;
+pub mod epoch_tally;
 pub mod figures;
 pub mod fresh;
 pub mod guarded;

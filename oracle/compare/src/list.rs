@@ -55,9 +55,11 @@ impl List {
             let fault = fault.filter(|fault| fault.spoils(&head, &step.lengths));
             list.cases.push(Case { step, faults: fault.into_iter().collect() });
             let case = &list.cases[list.cases.len() - 1];
+            let sheet = Sheet::of(&case.step.sheet);
             let done = run.call(case).and_then(|answer| {
                 tally.call(case, &head, &answer);
-                match Sheet::of(&case.step.sheet) {
+                tally.epoch.call(&case.step.sheet, &run.compared, &answer, run.way);
+                match sheet {
                     Some(sheet) if library.reads && rng.one_in(READS_ONE_IN) => {
                         reads::same_reads(run.image(), &run.state, sheet, &mut rng, tally)
                     }

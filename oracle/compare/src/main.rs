@@ -5,6 +5,7 @@ use std::env;
 use std::process::ExitCode;
 use std::time::Instant;
 
+use compare::epoch_tally::MANY;
 use compare::figures::{compare_figures, linked};
 use compare::keys::compare_keys;
 use compare::list::Library;
@@ -168,7 +169,12 @@ fn compared(first: u64, calls: u64) -> ExitCode {
         }
         seed = seed.wrapping_add(1);
     }
-    println!("{tally}");
+    print!("{tally}");
+    let missing = tally.epoch.missing();
+    if calls >= MANY && !missing.is_empty() {
+        println!("none of: {}", missing.join(", "));
+        return ExitCode::FAILURE;
+    }
     println!("seeds {first} to {}: {} calls, 0 disagreements", seed.wrapping_sub(1), tally.calls);
     ExitCode::SUCCESS
 }

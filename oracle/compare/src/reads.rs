@@ -1,15 +1,19 @@
 //! The library's reads beside the reading's, on the state of a list: as it
-//! is, damaged, or lent with another length.
+//! is, damaged, or lent with another length; the two filters beside the Rust's
+//! too.
 
+use judge::Way;
 use lists::image::Buffer;
 use lists::rng::Rng;
-use lists::{Image, Step, damage};
+use lists::{Comparison, Image, Step, damage};
+use original::Original;
 use reading::bytes::Guid;
 use reading::head::HEAD_BYTES;
-use reading::layout::{FIGURES, LOST_BYTES, OUT_BYTES, WRITERS_BYTES, pens_bytes};
-use reading::{Sheet, State};
+use reading::layout::{FIGURES, LARGE, LOST_BYTES, OUT_BYTES, WRITERS_BYTES, pens_bytes};
+use reading::{Sheet, State, reads};
 
 use crate::case::{Case, Fault};
+use crate::epoch_tally::Asked;
 use crate::fresh::same_fresh;
 use crate::head_read::HeadRead;
 use crate::library;
@@ -50,8 +54,12 @@ pub fn same_reads(
     let pens = lent_pens(image, state, rng);
     for read in reads_of(state, sheet, rng) {
         let length = odd_answer(rng, READ_BYTES);
-        read.same(&pens, length, Read::ask)?;
+        let number = read.same(&pens, length, Read::ask)?;
         tally.reads += 1;
+        if number == 0 && matches!(read, Read::Filter { .. } | Read::Order { .. }) {
+            let yes = read.told(&pens, &mut []).is_ok_and(|told| told.yes);
+            judged_filter(&read, &pens, yes, tally)?;
+        }
     }
     let head = lent_head(image, state, rng);
     for read in HeadRead::ALL {
@@ -60,6 +68,42 @@ pub fn same_reads(
         tally.reads += 1;
     }
     Ok(())
+}
+
+/// The Rust's word on a filter that was told, on the instances lent; it has none
+/// on another read here.
+pub fn judged_filter(
+    read: &Read,
+    pens: &[u8],
+    yes: bool,
+    tally: &mut Tally,
+) -> Result<(), Parting> {
+    let (Read::Filter { key, .. } | Read::Order { key, .. }) = read else { return Ok(()) };
+    let instances = reads::table(pens).unwrap_or_default();
+    let state = State { instances, ..State::fresh(LARGE) };
+    let Some(rust) = Original::at(&state) else { return Ok(()) };
+    let found = state.find(key);
+    let (asked, compared, (way, told)) = match *read {
+        Read::Filter { time, separation, .. } => (
+            Asked::Filter,
+            Comparison::of_filter(found, time, separation),
+            Way::of_filter(&rust, &state, key, time, separation),
+        ),
+        Read::Order { time, by_source, .. } => (
+            Asked::Order,
+            Comparison::of_order(found, time, by_source != 0),
+            Way::of_order(&rust, &state, key, time, by_source != 0),
+        ),
+        _ => return Ok(()),
+    };
+    tally.epoch.read(asked, compared, way);
+    match told {
+        Some(told) if told != yes => {
+            let name = read.name();
+            Err(Parting::Differs(format!("{name}: the Rust has {told}, the library {yes}")))
+        }
+        _ => Ok(()),
+    }
 }
 
 /// Every read of instances, those writerless with a list of GUIDs and an Out of

@@ -1,10 +1,11 @@
 //! One list as it runs through the library, the reading and the Rust.
 
+use judge::Way;
 use judge::compare::judged;
-use lists::Image;
+use lists::{Comparison, Image};
 use original::Original;
 use reading::answer::ANSWER_BYTES;
-use reading::{Answer, Head, State};
+use reading::{Answer, Head, Sheet, State};
 
 use crate::case::{Case, first_refusal, is_head};
 use crate::guarded::Guarded;
@@ -31,6 +32,10 @@ pub struct Run<L> {
     /// library's was equal after the call before.
     theirs: Image,
     rust: Option<Original>,
+    /// How it judged the latest call.
+    pub way: Way,
+    /// What the latest call compared.
+    pub compared: Vec<Comparison>,
     pub state: State,
 }
 
@@ -50,6 +55,8 @@ impl<L: FnMut(Lent<'_>) -> u32> Run<L> {
             theirs: image.clone(),
             image,
             rust: Original::at(start),
+            way: Way::Alone,
+            compared: Vec::new(),
             state: start.clone(),
         }
     }
@@ -78,6 +85,8 @@ impl<L: FnMut(Lent<'_>) -> u32> Run<L> {
                 self.theirs.edit(edit);
             }
         }
+        let made = |sheet| Comparison::made(&self.state, sheet, &answer);
+        self.compared = Sheet::of(&step.sheet).map(made).unwrap_or_default();
         self.judge(case, &answer, &out)?;
         Ok(answer)
     }
@@ -146,7 +155,8 @@ impl<L: FnMut(Lent<'_>) -> u32> Run<L> {
     /// The Rust after the same call; a refused call leaves all states alone.
     fn judge(&mut self, case: &Case, answer: &Answer, out: &[u8]) -> Result<(), Parting> {
         if let Some(rust) = &mut self.rust {
-            judged(rust, &self.state, &case.step, answer, out).map_err(Parting::Differs)?;
+            self.way = judged(rust, &self.state, &case.step, answer, out, &self.image)
+                .map_err(Parting::Differs)?;
         }
         if answer.number != 0 {
             return Ok(());

@@ -139,6 +139,11 @@ fn plainer(case: &Case, stated: Lengths) -> Vec<Change> {
     for (_, from, to) in FIELDS {
         all.push(Box::new(move |case| case.step.sheet[from.min(length)..to.min(length)].fill(0)));
     }
+    for bit in 0..8 {
+        all.push(Box::new(move |case| {
+            case.step.sheet.get_mut(80).into_iter().for_each(|bits| *bits &= !(1 << bit));
+        }));
+    }
     for at in 0..length {
         if case.step.sheet[at] != 0 && at != 81 {
             all.push(Box::new(move |case| case.step.sheet[at] = 0));

@@ -12,11 +12,11 @@ use reading::sheet::{SHEET_BYTES, known_code};
 use reading::{Answer, Head, State};
 
 use crate::case::Case;
+use crate::epoch_tally::EpochTally;
 
 /// Accepted, and refusals 1 to 13.
 const NUMBERS: usize = 14;
 
-#[derive(Debug, Clone)]
 pub struct Tally {
     pub lists: u64,
     /// Lists with 32 places for instances, and their calls.
@@ -38,6 +38,7 @@ pub struct Tally {
     outcomes: [u64; 5],
     first_owners: FirstOwners,
     figures: Figures,
+    pub epoch: EpochTally,
 }
 
 impl Default for Tally {
@@ -59,6 +60,7 @@ impl Default for Tally {
             outcomes: [0; 5],
             first_owners: FirstOwners::default(),
             figures: Figures::default(),
+            epoch: EpochTally::default(),
         }
     }
 }
@@ -141,7 +143,7 @@ impl fmt::Display for Tally {
         for (outcome, n) in self.outcomes.iter().enumerate() {
             write!(f, "  {outcome}: {n}")?;
         }
-        write!(f, "\n{}\n{}", self.first_owners, self.figures)
+        write!(f, "\n{}\n{}\n{}", self.first_owners, self.figures, self.epoch)
     }
 }
 

@@ -10,6 +10,7 @@ use reading::layout::{LARGE, LOST_BYTES, SMALL, WRITERS_BYTES};
 use reading::{Answer, Misreading, Sheet, State, call_as};
 
 use crate::reads::same_reads;
+use crate::ways::{Way, Ways, call_later};
 
 /// The reads are compared after one in so many calls.
 const READS_ONE_IN: usize = 24;
@@ -30,6 +31,9 @@ pub struct Tally {
     /// Lists from the fresh state, along which section 6's accounts were kept.
     pub from_fresh: u64,
     pub first_owners: FirstOwners,
+    /// Accepted calls, and reads of the filters, by how the Rust judged them.
+    pub judged: Ways,
+    pub filters: Ways,
 }
 
 /// Where two readings part.
@@ -45,11 +49,13 @@ pub struct Disagreement {
 pub struct RustBeside {
     rust: Option<Original>,
     scratch: Image,
+    /// The accepted calls.
+    pub judged: Ways,
 }
 
 impl Default for RustBeside {
     fn default() -> Self {
-        Self { rust: None, scratch: Image::fresh(LARGE) }
+        Self { rust: None, scratch: Image::fresh(LARGE), judged: Ways::default() }
     }
 }
 
@@ -68,7 +74,10 @@ impl Witness for RustBeside {
         after: &Image,
     ) -> Result<(), String> {
         let Some(rust) = &mut self.rust else { return Ok(()) };
-        judged(rust, before, step, answer, out)?;
+        let way = judged(rust, before, step, answer, out, after)?;
+        if answer.number == 0 {
+            self.judged.see(way);
+        }
         same_state(rust, after, &mut self.scratch)
     }
 }
@@ -151,9 +160,12 @@ impl Run {
             return Err(format!("damage {:?} met {}", step.damage, answer.number));
         }
         if let Some(rust) = &mut self.rust {
-            judged(rust, &self.state, step, &answer, &out)?;
+            let way = judged(rust, &self.state, step, &answer, &out, &self.image)?;
             same_state(rust, &self.image, scratch)?;
             tally.without_place += u64::from(answer.number >= 9);
+            if answer.number == 0 {
+                tally.judged.see(way);
+            }
         }
         self.state = self.image.state().ok_or("not well formed after it")?;
         self.same_accounts(step, &answer)?;
@@ -180,25 +192,40 @@ impl Run {
             return Ok(());
         }
         tally.read += 1;
-        same_reads(rust, &self.image, &self.state, sheet, &mut self.rng)
+        let ways = same_reads(rust, &self.image, &self.state, sheet, &mut self.rng)?;
+        ways.into_iter().flatten().for_each(|way| tally.filters.see(way));
+        Ok(())
     }
 }
 
 /// Runs the Rust for an accepted call and compares answer and Out; for one
-/// refused as 9 to 13, sees that the Rust's result has no place.
+/// refused as 9 to 13, sees that the Rust's result has no place. Where it does
+/// not judge a call, it is set to what the reading left.
 pub fn judged(
     rust: &mut Original,
     before: &State,
     step: &Step,
     answer: &Answer,
     out: &[u8],
-) -> Result<(), String> {
+    after: &Image,
+) -> Result<Way, String> {
     let mut expected_out = vec![step.fill; step.lengths.out];
     if (1..=8).contains(&answer.number) {
-        return same("Out of a refused call", &expected_out.as_slice(), &out);
+        same("Out of a refused call", &expected_out.as_slice(), &out)?;
+        return Ok(Way::Untimed);
     }
     let sheet = Sheet::of(&step.sheet).ok_or("a sheet of another length was accepted")?;
-    let expected = match rust.call(sheet) {
+    let way = Way::of_call(before, sheet);
+    let turn = match way {
+        Way::Untimed | Way::AsItStands => rust.call(sheet),
+        Way::Later => call_later(rust, before, &step.sheet).ok_or("the Rust is gone")?,
+        Way::Alone => {
+            let left = after.state().ok_or("not well formed after it")?;
+            *rust = Original::at(&left).ok_or("the Rust is gone")?;
+            return Ok(way);
+        }
+    };
+    let expected = match turn {
         Ok((answer, listed)) => {
             expected_out[..listed.len()].copy_from_slice(&listed);
             answer
@@ -209,7 +236,8 @@ pub fn judged(
         }
     };
     same("answer", &expected, answer)?;
-    same("Out", &expected_out.as_slice(), &out)
+    same("Out", &expected_out.as_slice(), &out)?;
+    Ok(way)
 }
 
 fn same<T: PartialEq + std::fmt::Debug>(what: &str, rust: &T, reading: &T) -> Result<(), String> {

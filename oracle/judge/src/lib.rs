@@ -5,5 +5,7 @@ pub mod compare;
 pub mod keys;
 pub mod reads;
 pub mod short;
+pub mod ways;
 
 pub use compare::{RustBeside, Tally, against_the_rust, reading_alone};
+pub use ways::{Way, Ways};

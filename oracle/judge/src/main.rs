@@ -44,8 +44,12 @@ fn read(file: &str) -> Result<Vec<Record>, String> {
 }
 
 fn make(seed: u64, file: &str) -> Result<(), String> {
-    let bytes = sample::make(seed, &mut RustBeside::default())?;
+    let mut beside = RustBeside::default();
+    let bytes = sample::make(seed, &mut beside)?;
     fs::write(file, &bytes).map_err(|e| format!("{file}: {e}"))?;
+    if original::PRESENT {
+        println!("accepted calls that the Rust judged: {}", beside.judged);
+    }
     let judged =
         if original::PRESENT { "compared with the Rust" } else { "NOT compared with the Rust" };
     println!("{} bytes, {judged}", bytes.len());
@@ -79,7 +83,7 @@ fn short(length: u64) -> Result<(), String> {
     }
     for (what, sheets) in all_sheets() {
         let calls = every_list(&sheets, length as usize)?;
-        println!("all lists of {length} {what} calls agree: {calls} calls");
+        println!("all lists of {length} {what} agree: {calls} calls");
     }
     Ok(())
 }

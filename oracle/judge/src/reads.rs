@@ -8,6 +8,8 @@ use reading::bytes::Guid;
 use reading::layout::{FIGURES, OUT_BYTES, pens_bytes};
 use reading::{Sheet, State, reads};
 
+use crate::ways::Way;
+
 /// Pens with either number of places that takes all instances.
 fn lent_pens<'a>(image: &'a Image, state: &State, rng: &mut Rng) -> &'a [u8] {
     let places = rng.pick(&FIGURES);
@@ -15,25 +17,23 @@ fn lent_pens<'a>(image: &'a Image, state: &State, rng: &mut Rng) -> &'a [u8] {
     &image.pens[..pens_bytes(if takes { places } else { state.head.places })]
 }
 
-/// Asks both for every read, with the fields of a sheet.
+/// Asks both for every read, with the fields of a sheet; how the Rust judged the
+/// two filters that were not refused.
 pub fn same_reads(
     rust: &Original,
     image: &Image,
     state: &State,
     sheet: Sheet<'_>,
     rng: &mut Rng,
-) -> Result<(), String> {
+) -> Result<[Option<Way>; 2], String> {
     let pens = lent_pens(image, state, rng);
     let (key, time1, time2) = (sheet.key(), sheet.time1(), sheet.time2());
     let filter = reads::delivers_under_filter(pens, &key, time2, sheet.a());
-    same(
-        "filter",
-        filter,
-        time2.in_range().then(|| rust.delivers_under_filter(&key, time2, sheet.a())),
-    )?;
+    let rust_filter = || Way::of_filter(rust, state, &key, time2, sheet.a());
+    let filter_way = same_filter("filter", filter, time2.in_range().then(rust_filter))?;
     let order = reads::delivers_under_order(pens, &key, time1, sheet.by_source());
-    let rust_order = || rust.delivers_under_order(&key, time1, sheet.by_source());
-    same("order", order, time1.in_range().then(rust_order))?;
+    let rust_order = || Way::of_order(rust, state, &key, time1, sheet.by_source());
+    let order_way = same_filter("order", order, time1.in_range().then(rust_order))?;
     same("last delivered", reads::last_delivered(pens, &key), Some(rust.last_delivered(&key)))?;
     for handle in [0, sheet.handle()] {
         let next = reads::next_handle_after(pens, handle);
@@ -45,7 +45,22 @@ pub fn same_reads(
     same("status", reads::status(&image.head), Some(rust.status()))?;
     same("changes", reads::changes(&image.head), Some(rust.changes()))?;
     same_writerless(rust, pens, state, sheet, rng)?;
-    same_ownership(state, sheet)
+    same_ownership(state, sheet)?;
+    Ok([filter_way, order_way])
+}
+
+/// A filter as the Rust judges it, where its time is not refused as 4.
+fn same_filter(
+    what: &str,
+    reading: Result<bool, u8>,
+    rust: Option<(Way, Option<bool>)>,
+) -> Result<Option<Way>, String> {
+    let told = rust.and_then(|(_, told)| told);
+    let alone = rust.is_some_and(|(way, _)| way == Way::Alone);
+    if !alone || reading.is_err() {
+        same(what, reading, told)?;
+    }
+    Ok(rust.map(|(way, _)| way))
 }
 
 fn same<T: PartialEq + std::fmt::Debug>(

@@ -6,7 +6,7 @@ use lists::fill::{
 use lists::{Image, Step};
 use original::Original;
 use reading::bytes::{Guid, Key};
-use reading::layout::{FIGURES, Time};
+use reading::layout::{FIGURES, NANOSECONDS, Time};
 use reading::state::State;
 
 use crate::compare::{judged, same_state};
@@ -21,21 +21,34 @@ const fn guid(participant: u8, entity: u8) -> Guid {
     guid
 }
 
-fn at(nanoseconds: u32) -> Time {
+/// A nanosecond of the sheets, from 1 to 9.
+type Clock = fn(u32) -> Time;
+
+fn after_epoch(nanoseconds: u32) -> Time {
     Time { seconds: 0, nanoseconds }
 }
 
-/// The three kinds of sheets by name.
-pub fn all_sheets() -> [(&'static str, Vec<Filled>); 3] {
+/// Nanosecond 5 is the epoch.
+fn across_epoch(nanoseconds: u32) -> Time {
+    match nanoseconds.checked_sub(5) {
+        Some(nanoseconds) => after_epoch(nanoseconds),
+        None => Time { seconds: -1, nanoseconds: NANOSECONDS + nanoseconds - 5 },
+    }
+}
+
+/// The kinds of sheets by name.
+pub fn all_sheets() -> [(&'static str, Vec<Filled>); 5] {
     [
-        ("instance", instance_sheets()),
-        ("liveliness", liveliness_sheets()),
-        ("joined", joined_sheets()),
+        ("instance calls", instance_sheets(after_epoch)),
+        ("liveliness calls", liveliness_sheets()),
+        ("joined calls", joined_sheets(after_epoch)),
+        ("instance calls across the epoch", instance_sheets(across_epoch)),
+        ("joined calls across the epoch", joined_sheets(across_epoch)),
     ]
 }
 
 /// Sheets of instance calls on two keys, two handles and two writers.
-fn instance_sheets() -> Vec<Filled> {
+fn instance_sheets(at: Clock) -> Vec<Filled> {
     let f = Filled::code;
     let mut all = vec![f(12).handle(1).n(1), f(13).handle(1), f(15).handle(1).n(2)];
     for key in KEYS {
@@ -97,7 +110,7 @@ fn liveliness_sheets() -> Vec<Filled> {
 }
 
 /// Sheets around the joined calls.
-fn joined_sheets() -> Vec<Filled> {
+fn joined_sheets(at: Clock) -> Vec<Filled> {
     let f = Filled::code;
     let mut all = Vec::new();
     for guid in &WRITERS[..2] {
@@ -161,8 +174,8 @@ fn explore(
         let (answer, out) = image.step(step, reading::call);
         *calls += 1;
         if let Some(mut rust) = Original::at(state) {
-            judged(&mut rust, state, step, &answer, &out)
-                .and_then(|()| same_state(&rust, &image, scratch))
+            judged(&mut rust, state, step, &answer, &out, &image)
+                .and_then(|_| same_state(&rust, &image, scratch))
                 .map_err(|what| format!("code {:?} on {state:?}: {what}", step.code()))?;
         }
         let after = image.state().ok_or("a call left its state not well formed")?;

@@ -23,7 +23,7 @@ fn main() -> ExitCode {
     }
     for (what, sheets) in all_sheets() {
         match every_list(&sheets, SHORT) {
-            Ok(calls) => println!("all lists of {SHORT} {what} calls agree: {calls} calls"),
+            Ok(calls) => println!("all lists of {SHORT} {what} agree: {calls} calls"),
             Err(what) => {
                 println!("the reading and the Rust differ: {what}");
                 return ExitCode::FAILURE;
@@ -32,7 +32,16 @@ fn main() -> ExitCode {
     }
     let begun = Instant::now();
     match against_the_rust(1.., CALLS, None) {
-        Ok(tally) => println!("the reading and the Rust agree: {tally:?}, {:?}", begun.elapsed()),
+        Ok(tally) => {
+            println!("the reading and the Rust agree: {tally:?}, {:?}", begun.elapsed());
+            for ways in [tally.judged, tally.filters] {
+                let (judged, timed) = ways.judged_of_timed();
+                if judged < timed / 10 * 9 || ways.later == 0 || ways.alone == 0 {
+                    println!("of {timed} that compare times the Rust judged {judged}");
+                    return ExitCode::FAILURE;
+                }
+            }
+        }
         Err(disagreement) => {
             println!("the reading and the Rust differ: {disagreement:#?}");
             return ExitCode::FAILURE;

@@ -2,14 +2,14 @@
 //! a request changes, and rules of the Rust that a reader might not expect.
 
 use judge::compare::{judged, same_state};
-use lists::fill::{Filled, LEASE_PRESENT, TIME1_PRESENT};
+use lists::fill::{BY_SOURCE, Filled, LEASE_PRESENT, TIME1_PRESENT};
 use lists::{Image, Step};
 use original::Original;
 use reading::bytes::Guid;
 use reading::key_hash::key_hash;
 use reading::layout::{Instance, LARGE, SMALL, Standing, Time, Writer};
 use reading::md5::md5;
-use reading::{Answer, State};
+use reading::{Answer, Sheet, State};
 
 const KEY: [u8; 16] = [1; 16];
 
@@ -38,13 +38,21 @@ fn run(start: State, sheets: Vec<Filled>) -> (Answer, State) {
         let step = Step::of(state.head.places, sheet.0);
         let (answer, out) = image.step(&step, reading::call);
         if let Some(rust) = &mut rust {
-            judged(rust, &state, &step, &answer, &out).expect("the Rust agrees");
+            judged(rust, &state, &step, &answer, &out, &image).expect("the Rust agrees");
             same_state(rust, &image, &mut Image::fresh(LARGE)).expect("the Rust agrees");
         }
         last = answer;
         state = image.state().expect("well formed");
     }
     (last, state)
+}
+
+/// The Rust's last answer, where it is at hand, with nobody asking whether it
+/// is to judge.
+fn rust_alone(sheets: &[Filled]) -> Option<Answer> {
+    let mut rust = Original::at(&State::fresh(LARGE))?;
+    let turns = sheets.iter().map(|sheet| rust.turn(Sheet::of(&sheet.0).expect("256 bytes")));
+    turns.map(|(answer, _)| answer).last()
 }
 
 fn number(start: State, sheets: Vec<Filled>) -> u8 {
@@ -124,6 +132,28 @@ fn an_admit_owns_what_it_starts() {
     assert_eq!((answer.number, answer.outcome), (0, 4));
     let (answer, _) = run(State::fresh(LARGE), vec![strong(16), strong(9), strong(10), weak(16)]);
     assert!(answer.yes);
+}
+
+/// By request: the Rust takes seconds before the epoch for 0, so that only the
+/// nanoseconds count there.
+#[test]
+fn times_before_the_epoch_are_signed() {
+    let second = 1_000_000_000;
+    let delivered = |time| vec![key(9), key(11).time1(time)];
+    let disposed = |time| vec![key(9), Filled::code(3).handle(1).time1(time).bits(TIME1_PRESENT)];
+    let order = key(48).time1(at(-9, 8)).bits(BY_SOURCE);
+    let filter = key(48).time2(at(-4, 0)).a(second);
+    let purge = Filled::code(21).time2(at(-9, 0)).a(second);
+    for (before, last, ours, rust) in [
+        (delivered(at(-3, 7)), order, (1, 0), (0, 0)),
+        (delivered(at(-5, 0)), filter, (0, 0), (2, 0)),
+        (disposed(at(-10, 0)), purge, (0, 1), (0, 0)),
+    ] {
+        let list = [before, vec![last]].concat();
+        let told = |answer: Answer| (answer.outcome, answer.count);
+        assert_eq!(rust_alone(&list).map(told), original::PRESENT.then_some(rust));
+        assert_eq!(told(run(State::fresh(LARGE), list).0), ours);
+    }
 }
 
 /// The Rust takes any length with any size: up to 16 stated it pads the key,

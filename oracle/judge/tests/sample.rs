@@ -1,11 +1,14 @@
 //! The committed sample: made by its seed, agreed with, and covering.
 
+use std::collections::BTreeSet;
 use std::path::Path;
 
 use judge::RustBeside;
+use lists::comparisons::Sort;
 use lists::format::{Record, records};
-use lists::{Coverage, replay, sample};
-use reading::{Misreading, call_as};
+use lists::image::Lengths;
+use lists::{Comparison, Coverage, replay, sample};
+use reading::{Misreading, Sheet, State, call_as};
 
 const SEED: u64 = 1;
 
@@ -44,6 +47,26 @@ fn no_misreading_agrees() {
 #[test]
 fn it_covers_what_it_should() {
     assert_eq!(Coverage::of(&committed_records()).missing(), Vec::<String>::new());
+}
+
+/// Times are compared in every sort, before the epoch, across it and after it.
+#[test]
+fn it_compares_times_in_every_sort() {
+    let mut unmet: BTreeSet<Sort> = Sort::all().into_iter().collect();
+    replay::replay(&committed_records(), |head, sheet, lent| {
+        let (pens, writers, lost) = (lent.pens.len(), lent.writers.len(), lent.lost.len());
+        let stated = Lengths { pens, writers, lost, out: lent.out.len() };
+        let fits = stated == Lengths::stated(head.places);
+        let before = fits.then(|| State::read(head, lent.pens, lent.writers, lent.lost)).flatten();
+        let answer = reading::call(head, sheet, lent);
+        if let (Some(before), Some(sheet)) = (before, Sheet::of(sheet)) {
+            for comparison in Comparison::made(&before, sheet, &answer) {
+                unmet.remove(&comparison.sort());
+            }
+        }
+        answer
+    });
+    assert_eq!(unmet, BTreeSet::new());
 }
 
 /// Every record is written as it was read.

@@ -5,6 +5,7 @@ use reading::bytes::{Guid, Key};
 use reading::layout::{Instance, NANOSECONDS, Time};
 use reading::state::State;
 
+use crate::before_epoch;
 use crate::fill::{BY_SOURCE, DEADLINE_PRESENT, Filled, LEASE_PRESENT, TIME1_PRESENT};
 use crate::first_owner;
 
@@ -44,6 +45,7 @@ pub fn lists() -> Vec<(&'static str, Vec<Filled>)> {
         ("full set", full_set()),
     ];
     lists.extend(first_owner::lists());
+    lists.extend(before_epoch::lists());
     lists
 }
 

@@ -98,6 +98,12 @@ pub fn takes(code: u8, bits: u8, offset: usize) -> bool {
     }
 }
 
+/// The times that a call takes, of a sheet of 256 bytes.
+pub fn times_taken(sheet: &[u8]) -> impl Iterator<Item = Time> {
+    let (bits, code) = (sheet[80], sheet[81]);
+    [40, 48].into_iter().filter(move |at| takes(code, bits, *at)).map(|at| Time::at(sheet, at))
+}
+
 /// Whether a call, with these bits, takes the holder.
 pub fn takes_holder(code: u8, bits: u8) -> bool {
     matches!(code, 1 | 9 | 48) || code == 8 && bits & HOLDER_PRESENT != 0

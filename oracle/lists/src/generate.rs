@@ -3,13 +3,14 @@
 //! The generator sees the state before each call, so that keys, handles,
 //! times and clocks often meet what is there, on it or one off.
 
-use reading::layout::{CLOCK_END, FIGURES, Instance, NANOSECONDS, Time};
+use reading::layout::{CLOCK_END, FIGURES, Instance, NANOSECONDS, Time, pens_bytes};
 use reading::sheet::SHEET_BYTES;
 use reading::state::State;
 
+use crate::comparisons::Comparison;
 use crate::damage;
 use crate::fill::{self, Filled};
-use crate::image::{LOST_MOST, Lengths, OUT_MOST, SHEET_MOST, Step, WRITERS_MOST};
+use crate::image::{LOST_MOST, Lengths, OUT_MOST, PENS_MOST, SHEET_MOST, Step, WRITERS_MOST};
 use crate::pools::Pools;
 use crate::rng::Rng;
 use crate::start::{self, Start};
@@ -29,9 +30,11 @@ pub const CODES: [u8; 34] = [
     1, 2, 3, 4, 5, 6, 7, 8, 9, 10, 11, 12, 13, 14, 15, 16, 17, 18, 19, 20, 21, 32, 33, 34, 35, 36,
     37, 38, 39, 40, 48, 49, 50, 51,
 ];
-/// Ownership and the loss of writers more often: they need more to be there.
-const INSTANCE_CODES: [u8; 26] =
-    [1, 2, 3, 4, 5, 6, 6, 7, 7, 8, 9, 10, 11, 12, 13, 14, 15, 16, 16, 16, 17, 18, 18, 19, 20, 21];
+/// Ownership, the loss of writers and purges more often: they need more to be
+/// there.
+const INSTANCE_CODES: [u8; 27] = [
+    1, 2, 3, 4, 5, 6, 6, 7, 7, 8, 9, 10, 11, 12, 13, 14, 15, 16, 16, 16, 17, 18, 18, 19, 20, 21, 21,
+];
 /// Matches, assertions and expiries more often, so that there is what to lose.
 const LIVELINESS_CODES: [u8; 18] =
     [32, 32, 32, 32, 33, 33, 34, 35, 35, 35, 36, 36, 37, 37, 38, 39, 40, 40];
@@ -138,9 +141,13 @@ impl Generator {
             damage::any(&mut self.rng, state, &mut step);
         }
         if self.rng.one_in(self.rates.figure) {
-            damage::set_places(self.rng.pick(&damage::WRONG_FIGURES), state, &mut step);
+            let figure = self.rng.pick(&damage::WRONG_FIGURES);
+            damage::set_places(figure, state, &mut step);
             if self.rng.one_in(2) {
                 self.odd_length(&mut step);
+            } else if pens_bytes(figure) <= PENS_MOST && self.rng.one_in(4) {
+                // just as long as that figure would have them: seldom met by chance
+                step.lengths.pens = pens_bytes(figure);
             }
         }
         step
@@ -378,8 +385,11 @@ impl Generator {
         b: u64,
     ) -> (Time, Time) {
         let time1 = match found.and_then(|i| i.last_delivered) {
-            Some(last) if self.rng.one_in(2) => self.gap(last, 0),
-            _ => Pools::time(&mut self.rng),
+            Some(last) if self.rng.one_in(2) => {
+                let later = self.rng.pick(&[0, 0, 1, u64::from(NANOSECONDS)]);
+                self.gap(last, later)
+            }
+            _ => self.pools.time(&mut self.rng),
         };
         let (met, delay) = match code {
             16 => (found.and_then(|i| i.owner_at), b),
@@ -387,30 +397,31 @@ impl Generator {
             _ if self.rng.one_in(4) => (found.and_then(|i| i.owner_at), b),
             _ => (found.and_then(|i| i.last_filter), a),
         };
+        // A nanosecond before what is met, whatever the delay, now and then.
+        let delay = if self.rng.one_in(5) { 0 } else { delay };
         let time2 = match met {
             Some(met) if !self.rng.one_in(3) => self.gap(met, delay),
-            _ => Pools::time(&mut self.rng),
+            _ => self.pools.time(&mut self.rng),
         };
         (self.maybe_hostile_time(time1), self.maybe_hostile_time(time2))
     }
 
+    /// When one of the dead instances died, and the delay for its kind.
     fn purge_mark(&mut self, state: &State, a: u64, b: u64) -> (Option<Time>, u64) {
-        match self.rng.pick_some(&state.instances) {
-            Some(i) if i.disposed_at.is_some() => (i.disposed_at, a),
-            Some(i) => (i.no_writers_at, b),
-            None => (None, 0),
-        }
+        let of = |i| Comparison::of_purge(i, Time::default(), a, b);
+        let dead: Vec<Comparison> = state.instances.iter().filter_map(of).collect();
+        self.rng.pick_some(&dead).map_or((None, 0), |c| (Some(c.recorded), c.delay))
     }
 
     /// `delay` after a time, or a nanosecond off.
     fn gap(&mut self, from: Time, delay: u64) -> Time {
         let off = self.rng.below(3) as i64 - 1;
         let delay = i64::try_from(delay).unwrap_or(0);
-        let nanoseconds = from.signed().saturating_add(delay).saturating_add(off);
+        let nanoseconds = from.since_epoch().saturating_add(delay).saturating_add(off);
         let second = i64::from(NANOSECONDS);
         match i32::try_from(nanoseconds.div_euclid(second)) {
             Ok(seconds) => Time { seconds, nanoseconds: nanoseconds.rem_euclid(second) as u32 },
-            Err(_) => Pools::time(&mut self.rng),
+            Err(_) => self.pools.time(&mut self.rng),
         }
     }
 

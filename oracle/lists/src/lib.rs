@@ -1,7 +1,9 @@
 //! Lists of calls: generated from a seed, or recorded in a file. And keys, wire
 //! times and tables to look writers up in, generated.
 
+pub mod before_epoch;
 pub mod bench;
+pub mod comparisons;
 pub mod coverage;
 pub mod damage;
 pub mod figures;
@@ -23,6 +25,7 @@ pub mod sample;
 pub mod start;
 pub mod times;
 
+pub use comparisons::Comparison;
 pub use coverage::Coverage;
 pub use figures::Figures;
 pub use generate::Generator;

@@ -8,6 +8,7 @@ use reading::layout::{FIGURES, Instance, Kind, LAST_NEXT_HANDLE, SET_PLACES, pen
 
 use crate::damage;
 use crate::image::{Buffer, Edit, Image, Step};
+use crate::pools::Stretch;
 use crate::rng::Rng;
 use crate::start::{distinct, give_past};
 
@@ -129,7 +130,7 @@ fn instance(rng: &mut Rng, guids: &[Guid], key: Key, handle: u64, alive: usize) 
     if rng.below(8) >= alive {
         i.kind = rng.pick(&[Kind::Disposed, Kind::NoWriters]);
     }
-    give_past(rng, &mut i);
+    give_past(rng, &mut i, Stretch::Any);
     i.owner = rng.one_in(2).then(|| (rng.pick(guids), 0));
     i.holder = rng.one_in(4).then(|| rng.pick(guids).to_vec());
     i.writers = set(rng, guids);

@@ -9,6 +9,64 @@ use crate::rng::Rng;
 pub const HASHES_TO_ZERO: Guid =
     [0xd5, 0x6b, 0xb9, 0x53, 0x42, 0x87, 0x08, 0x36, 0, 0, 0, 0, 0, 0, 0, 0];
 
+/// The stretch that a list's times are of.
+#[derive(Debug, Clone, Copy, PartialEq, Eq)]
+pub enum Stretch {
+    Before,
+    /// Both sides of the epoch.
+    Around,
+    After,
+    /// Both sides, up to the ends of all times.
+    Any,
+}
+
+/// Times before the epoch are 2^30 seconds from it at most, but for lists of
+/// any time, and so are those after it in lists of both sides: that is as far
+/// as the Rust judges them.
+const FAR: i32 = 1 << 30;
+
+impl Stretch {
+    /// One of these by list, so that few lists have times that the Rust does not
+    /// judge. A little more than half of what is drawn is before the epoch: a
+    /// delay after such a time may be past it, and half of what calls take stays.
+    const DRAWN: [Self; 10] = [
+        Self::Before,
+        Self::Before,
+        Self::Before,
+        Self::Around,
+        Self::Around,
+        Self::Around,
+        Self::After,
+        Self::After,
+        Self::After,
+        Self::Any,
+    ];
+
+    /// A time near the epoch or, less often, at an end of the stretch.
+    pub fn time(self, rng: &mut Rng) -> Time {
+        let seconds = match (self, rng.below(12)) {
+            (Self::Before | Self::Around, 0) => -FAR,
+            (Self::Before, _) => -1 - rng.below(8) as i32,
+            (Self::Around, 1) => FAR - 1,
+            // The two seconds at the epoch above all: they cross it by little.
+            (Self::Around, 2..8) => rng.pick(&[-1, -1, -1, -2, -4]),
+            (Self::Around, _) => rng.pick(&[0, 0, 0, 1, 3]),
+            (Self::After | Self::Any, 0) => i32::MAX,
+            (Self::Any, 1) => i32::MIN,
+            (Self::Any, 2) => i32::MIN + 1,
+            (Self::Any, 3..7) => -1 - rng.below(9) as i32,
+            (Self::After | Self::Any, _) => rng.below(8) as i32,
+        };
+        let last = NANOSECONDS - 1;
+        let nanoseconds = match (self, seconds) {
+            (Self::Around, 0) => rng.pick(&[0, 0, 0, 0, 1, 8, last]),
+            (Self::Around | Self::Before, -1) => rng.pick(&[0, 7, last - 1, last, last, last]),
+            _ => rng.pick(&[0, 0, 1, 7, 8, 10, 14, 15, last]),
+        };
+        Time { seconds, nanoseconds }
+    }
+}
+
 pub struct Pools {
     keys: Vec<Key>,
     guids: Vec<Guid>,
@@ -16,6 +74,7 @@ pub struct Pools {
     prefixes: Vec<[u8; 12]>,
     /// Around which the list's clocks stand.
     pub clock: u64,
+    pub stretch: Stretch,
 }
 
 impl Pools {
@@ -32,6 +91,7 @@ impl Pools {
             key_base,
             prefixes,
             clock: rng.pick(&[1, 100, 1000, 1 << 40, CLOCK_END - 100]),
+            stretch: rng.pick(&Stretch::DRAWN),
         };
         let keys = 1 + rng.below(9);
         for _ in 0..keys {
@@ -88,17 +148,8 @@ impl Pools {
         }
     }
 
-    /// The same for every list.
-    pub fn time(rng: &mut Rng) -> Time {
-        let seconds = match rng.below(12) {
-            0 => i32::MIN,
-            1 => i32::MAX,
-            2 => i32::MIN + 1,
-            3..5 => -1 - rng.below(9) as i32,
-            _ => rng.below(8) as i32,
-        };
-        let nanoseconds = rng.pick(&[0, 0, 1, 7, 8, 10, 14, 15, NANOSECONDS - 1]);
-        Time { seconds, nanoseconds }
+    pub fn time(&self, rng: &mut Rng) -> Time {
+        self.stretch.time(rng)
     }
 
     pub fn clock(&self, rng: &mut Rng) -> u64 {

@@ -1,10 +1,10 @@
 //! States that a list starts from: fresh, or any well-formed one.
 
 use reading::bytes::{Guid, Key};
-use reading::layout::{Instance, Kind, Standing, Time, Writer, WriterKind};
+use reading::layout::{Instance, Kind, Standing, Writer, WriterKind};
 use reading::state::{Class, State, count};
 
-use crate::pools::Pools;
+use crate::pools::{Pools, Stretch};
 use crate::rng::Rng;
 
 /// How a list starts.
@@ -74,7 +74,7 @@ pub(crate) fn distinct(
 fn instance(rng: &mut Rng, pools: &Pools, key: Key, start: Start) -> Instance {
     let mut i = Instance::fresh(key, 0);
     i.kind = rng.pick(&[Kind::Alive, Kind::Alive, Kind::Disposed, Kind::NoWriters]);
-    give_past(rng, &mut i);
+    give_past(rng, &mut i, pools.stretch);
     i.owner = rng.one_in(2).then(|| (pools.guid(rng, false), pools.strength(rng)));
     // A full table stays lean, so that a recorded one is short.
     if start != Start::FullInstances || rng.one_in(16) {
@@ -86,18 +86,15 @@ fn instance(rng: &mut Rng, pools: &Pools, key: Key, start: Start) -> Instance {
 
 /// View, generations, counters and times, whatever the kind: a revived instance
 /// keeps the times of its end.
-pub(crate) fn give_past(rng: &mut Rng, i: &mut Instance) {
+pub(crate) fn give_past(rng: &mut Rng, i: &mut Instance, stretch: Stretch) {
     i.view_new = rng.one_in(2);
     i.disposed_generations = generation(rng);
     i.no_writers_generations = generation(rng);
     i.writer_count = counter(rng);
     i.samples = counter(rng);
-    i.last_sample = optional_time(rng);
-    i.last_delivered = optional_time(rng);
-    i.last_filter = optional_time(rng);
-    i.disposed_at = optional_time(rng);
-    i.no_writers_at = optional_time(rng);
-    i.owner_at = optional_time(rng);
+    for time in i.times_mut() {
+        *time = rng.one_in(2).then(|| stretch.time(rng));
+    }
 }
 
 fn set(rng: &mut Rng, pools: &Pools, full: bool) -> Vec<Guid> {
@@ -116,10 +113,6 @@ fn generation(rng: &mut Rng) -> i32 {
 
 fn counter(rng: &mut Rng) -> u32 {
     rng.pick(&[0, 0, 1, 2, 3, u32::MAX - 1, u32::MAX])
-}
-
-fn optional_time(rng: &mut Rng) -> Option<Time> {
-    rng.one_in(2).then(|| Pools::time(rng))
 }
 
 fn writer(rng: &mut Rng, pools: &Pools, guid: Guid) -> Writer {

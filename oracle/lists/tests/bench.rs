@@ -1,5 +1,5 @@
 //! Section 10's lines and traps say what section 10 says, and the lists of
-//! request 1 what 02 says.
+//! requests 1 and 7 what 02 says.
 
 use lists::bench;
 use lists::fill::Filled;
@@ -43,7 +43,30 @@ fn filters_and_order() {
     assert_eq!(last("bench a", |a| a.outcome), [2, 0]);
     assert_eq!(last("bench a later", |a| a.outcome), [0]);
     assert_eq!(last("bench b", |a| a.outcome), [1, 0]);
-    assert_eq!(last("bench c", |a| a.outcome), [0]);
+    assert_eq!(last("bench c", |a| a.outcome), [1]);
+}
+
+/// Request 7, each answer worked out by hand.
+#[test]
+fn filters_and_order_before_the_epoch() {
+    assert_eq!(last("filter before", |a| a.outcome), [2, 0, 2, 0, 0, 2, 0, 0, 0]);
+    assert_eq!(last("filter across", |a| a.outcome), [2, 0, 0, 2, 0, 0, 2, 0, 0, 2, 0]);
+    assert_eq!(last("order before", |a| a.outcome), [1, 1, 0, 1, 0, 1, 0, 1]);
+    assert_eq!(last("order across", |a| a.outcome), [0, 0, 1, 1, 0, 1, 0, 0, 0, 0]);
+    let (ends, _) = run("ends of time");
+    assert_eq!(ends[2..9].iter().map(|a| a.outcome).collect::<Vec<_>>(), [2, 2, 0, 0, 0, 1, 1]);
+}
+
+#[test]
+fn purges_before_the_epoch() {
+    // Four calls let two instances die, in every round.
+    let rounds = |purged: &[&[u32]]| -> Vec<u32> {
+        purged.iter().flat_map(|counts| [&[0; 4], &counts[..]].concat()).collect()
+    };
+    assert_eq!(counts("purge before"), rounds(&[&[0, 0, 1, 0, 1], &[0, 1, 0, 1], &[2]]));
+    assert_eq!(counts("purge across"), rounds(&[&[0, 1, 1], &[0, 1, 1], &[0, 2], &[1, 1]]));
+    assert_eq!(counts("purge back"), rounds(&[&[0, 1, 1][..]; 3]));
+    assert_eq!(last("ends of time", |a| a.count), [0, 1, 0, 1]);
 }
 
 #[test]
@@ -99,6 +122,11 @@ fn lapses_and_their_order() {
     assert_eq!(answers.iter().filter(|a| a.next_due_present).count(), 12);
     assert!(state.lost.is_empty());
     assert_eq!(last("lapse order", |a| (a.yes, a.listed)), [(true, 2)]);
+}
+
+/// Of every call; 0 where it is no purge and clears no owner.
+fn counts(name: &str) -> Vec<u32> {
+    run(name).0.iter().map(|a| a.count).collect()
 }
 
 /// Of every call; 0 where it is no admit.

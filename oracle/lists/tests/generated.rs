@@ -1,9 +1,13 @@
 //! Generated lists reach what seldom comes about by chance.
 
+use std::collections::BTreeMap;
+
+use lists::comparisons::Sort;
 use lists::figures::Met;
-use lists::{Figures, FirstOwners, Generator, Image, Step, first_owner};
-use reading::State;
+use lists::fill::times_taken;
+use lists::{Comparison, Figures, FirstOwners, Generator, Image, Step, first_owner};
 use reading::layout::{FIGURES, SMALL};
+use reading::{Sheet, State};
 
 const LISTS: u64 = 1_000;
 /// Each is met so often.
@@ -78,4 +82,32 @@ fn either_number_of_places_is_met() {
     assert_eq!(small, LISTS / 2);
     let missing: Vec<_> = figures.counts().filter(|(_, n)| *n == 0).collect();
     assert!(missing.is_empty(), "{missing:?}");
+}
+
+/// Half of the times that accepted calls take are before the epoch, and times
+/// are compared in every sort.
+#[test]
+fn times_on_both_sides_of_the_epoch_are_compared() {
+    let (mut times, mut before) = (0u64, 0u64);
+    let mut sorts: BTreeMap<Sort, u32> = Sort::all().into_iter().map(|sort| (sort, 0)).collect();
+    for seed in 1..=LISTS {
+        let (mut generator, mut state) = Generator::new(seed);
+        let mut image = Image::of_state(&state);
+        for _ in 0..generator.length() {
+            let step = generator.next(&state);
+            let (answer, _) = image.step(&step, reading::call);
+            if let Some(sheet) = Sheet::of(&step.sheet).filter(|_| answer.number == 0) {
+                times += times_taken(&step.sheet).count() as u64;
+                before += times_taken(&step.sheet).filter(|time| time.seconds < 0).count() as u64;
+                for comparison in Comparison::made(&state, sheet, &answer) {
+                    *sorts.entry(comparison.sort()).or_default() += 1;
+                }
+            }
+            state = image.state().expect("well formed");
+        }
+    }
+    assert!((45..=55).contains(&(100 * before / times)), "{before} of {times}");
+    let named: Vec<String> = sorts.iter().map(|(s, n)| format!("{:?} {s}: {n}", s.rule)).collect();
+    assert_eq!(sorts.len(), Sort::all().len(), "{named:?}");
+    assert!(sorts.values().all(|n| *n > 0), "{named:?}");
 }

@@ -3,6 +3,7 @@
 use lists::format::{Record, records};
 use lists::replay::replay;
 use lists::run::against_the_reading;
+use lists::{Image, Step, before_epoch};
 use reading::layout::{LARGE, SMALL, is_figure, pens_bytes, places_of};
 use reading::sheet::known_code;
 use reading::{Answer, Head, Lent, Misreading, call, call_as};
@@ -21,6 +22,38 @@ fn each_misreading_parts() {
             call_as(head, sheet, lent, Some(misreading))
         };
         assert!(against_the_reading(1.., CALLS, wrong).is_err(), "{misreading:?}");
+    }
+}
+
+/// The lists of request 7 that each of its misreadings answers differently.
+#[test]
+fn each_misreading_of_times_parts_on_its_lists() {
+    let (filters, orders) = (["filter before", "filter across"], ["order before", "order across"]);
+    let (purges, back, ends) = (["purge before", "purge across"], ["purge back"], ["ends of time"]);
+    let of = |lists: &[&[&'static str]]| lists.concat();
+    for (misreading, expected) in [
+        (Misreading::Clamped, of(&[&filters, &orders, &purges, &back, &ends])),
+        (Misreading::FilterClamped, of(&[&filters, &ends])),
+        (Misreading::OrderClamped, of(&[&orders])),
+        (Misreading::PurgeClamped, of(&[&purges, &back, &ends])),
+        (Misreading::NanosecondsSubtracted, of(&[&filters, &orders, &purges])),
+        (Misreading::NegativeGapBySize, of(&[&back])),
+        (Misreading::NegativeGapStays, of(&[&back])),
+    ] {
+        assert!(Misreading::BEFORE_EPOCH.contains(&misreading));
+        let answers = |sheets: &[lists::fill::Filled], misreading| {
+            let mut image = Image::fresh(SMALL);
+            let steps = sheets.iter().map(|sheet| Step::of(SMALL, sheet.0.clone()));
+            let call = |head: &mut Head, sheet: &[u8], lent: Lent<'_>| {
+                call_as(head, sheet, lent, misreading)
+            };
+            steps.map(|step| image.step(&step, call).0).collect::<Vec<Answer>>()
+        };
+        let parted = before_epoch::lists()
+            .into_iter()
+            .filter(|(_, sheets)| answers(sheets, None) != answers(sheets, Some(misreading)));
+        let names: Vec<&str> = parted.map(|(name, _)| name).collect();
+        assert_eq!(names, expected, "{misreading:?}");
     }
 }
 

@@ -243,7 +243,7 @@ fn instance_step(
     match sheet.code() {
         1 | 2 | 8..=11 | 14 | 16 | 20 | 48 if by_key => act_by_key(&mut i, sheet, fed),
         3..=6 | 12 | 13 | 15 if sheet.handle() == i.handle => act_by_handle(&mut i, sheet),
-        21 if effects::purges(&i, sheet, false) => return None,
+        21 if effects::purges(&i, sheet, None) => return None,
         7 | 17..=19 | 49..=51 => act_on_every(&mut i, sheet, expired),
         _ => {}
     }

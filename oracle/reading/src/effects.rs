@@ -2,7 +2,9 @@
 //!
 //! Derives from ZeroDDS's instance_tracker.rs as section 3 states its rules.
 
+use crate::Misreading;
 use crate::bytes::Guid;
+use crate::gaps::{Rule, gap, gap_as, purge_gap};
 use crate::layout::{Instance, Kind, SET_PLACES, Time};
 use crate::sheet::Sheet;
 
@@ -177,8 +179,7 @@ fn missed_deadline(i: &Instance, sheet: Sheet<'_>) -> bool {
     let (Some(deadline), Some(at)) = (sheet.optional_deadline(), i.owner_at) else {
         return false;
     };
-    let gap = i128::from(sheet.time2().signed()) - i128::from(at.signed());
-    deadline != NEVER && gap >= i128::from(deadline)
+    deadline != NEVER && reaches(gap(at, sheet.time2()), deadline)
 }
 
 /// Code 17.
@@ -199,28 +200,45 @@ pub fn clear_owner(i: &mut Instance, which: impl Fn(&Guid) -> bool) -> bool {
     owned
 }
 
-/// Code 21; whether the instance goes, after its delay or, where that is asked
-/// for, only later.
-pub fn purges(i: &Instance, sheet: Sheet<'_>, only_later: bool) -> bool {
+/// Whether a gap is not negative and as long as a delay.
+fn reaches(gap: i64, delay: u64) -> bool {
+    u64::try_from(gap).is_ok_and(|gap| gap >= delay)
+}
+
+/// Code 21; whether the instance goes, as a misreading has it where one is
+/// asked for.
+pub fn purges(i: &Instance, sheet: Sheet<'_>, misreading: Option<Misreading>) -> bool {
     let (at, delay) = match i.kind {
         Kind::Alive => return false,
         Kind::Disposed => (i.disposed_at, sheet.a()),
         Kind::NoWriters => (i.no_writers_at, sheet.b()),
     };
     let Some(at) = at else { return false };
-    let gap = sheet.time2().floored().saturating_sub(at.floored());
-    delay != NEVER && gap >= delay && !(only_later && gap == delay)
+    let only_later = misreading == Some(Misreading::PurgeOnlyAfterDelay);
+    let gap = gap_as(misreading, Rule::Purge, at, sheet.time2());
+    let counted = purge_gap(misreading, gap).filter(|gap| !(only_later && *gap == delay));
+    delay != NEVER && counted.is_some_and(|gap| gap >= delay)
 }
 
 /// Time-based filter: a sample from before the last passes, a later one by its
 /// distance. No distance is 2^64-1.
-pub fn filter_admits(last: Option<Time>, time: Time, separation: u64) -> bool {
+pub fn filter_admits(
+    last: Option<Time>,
+    time: Time,
+    separation: u64,
+    misreading: Option<Misreading>,
+) -> bool {
     let Some(last) = last else { return true };
-    let (last, time) = (last.floored(), time.floored());
-    time < last || time - last >= separation
+    let gap = gap_as(misreading, Rule::Filter, last, time);
+    gap < 0 || reaches(gap, separation)
 }
 
 /// Destination order, asked only by source time: after the last one.
-pub fn order_admits(last: Option<Time>, time: Time, by_source: bool) -> bool {
-    !by_source || last.is_none_or(|last| time.floored() > last.floored())
+pub fn order_admits(
+    last: Option<Time>,
+    time: Time,
+    by_source: bool,
+    misreading: Option<Misreading>,
+) -> bool {
+    !by_source || last.is_none_or(|last| gap_as(misreading, Rule::Order, last, time) > 0)
 }

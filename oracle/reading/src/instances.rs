@@ -216,8 +216,7 @@ fn release_owner_of(state: &mut State, sheet: Sheet<'_>) -> Answer {
 }
 
 fn autopurge(state: &mut State, sheet: Sheet<'_>) -> Answer {
-    let only_later = state.misreads(Misreading::PurgeOnlyAfterDelay);
-    let before = state.instances.len();
-    state.instances.retain(|i| !effects::purges(i, sheet, only_later));
+    let (before, misreading) = (state.instances.len(), state.misreading);
+    state.instances.retain(|i| !effects::purges(i, sheet, misreading));
     Answer::count((before - state.instances.len()) as u32)
 }

@@ -39,10 +39,10 @@ fn admit(state: &mut State, sheet: Sheet<'_>) -> Turn {
     let known = state.instance(&sheet.key()).map(|i| i.clone());
     let (delivered, filtered) =
         known.as_ref().map_or((None, None), |i| (i.last_delivered, i.last_filter));
-    if !order_admits(delivered, sheet.time1(), sheet.by_source()) {
+    if !order_admits(delivered, sheet.time1(), sheet.by_source(), state.misreading) {
         return outcome(1);
     }
-    if !filter_admits(filtered, sheet.time2(), sheet.a()) {
+    if !filter_admits(filtered, sheet.time2(), sheet.a(), state.misreading) {
         return outcome(2);
     }
     if at_limit(state, sheet) {

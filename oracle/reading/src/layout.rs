@@ -66,13 +66,10 @@ impl Time {
         self.nanoseconds < NANOSECONDS
     }
 
-    /// Nanoseconds with negative seconds taken as 0: filters and autopurge.
-    pub fn floored(self) -> u64 {
-        u64::from(self.seconds.max(0) as u32) * u64::from(NANOSECONDS) + u64::from(self.nanoseconds)
-    }
-
-    /// Nanoseconds with the seconds' sign: the deadline.
-    pub fn signed(self) -> i64 {
+    /// Nanoseconds since the epoch, negative before it; those of the second are
+    /// added there too. Filters, destination order, autopurge and the deadline
+    /// go by it (request 7 of 02).
+    pub fn since_epoch(self) -> i64 {
         i64::from(self.seconds) * i64::from(NANOSECONDS) + i64::from(self.nanoseconds)
     }
 }
@@ -138,6 +135,18 @@ impl Instance {
             self.disposed_at,
             self.no_writers_at,
             self.owner_at,
+        ]
+    }
+
+    /// The same, to be changed.
+    pub fn times_mut(&mut self) -> [&mut Option<Time>; 6] {
+        [
+            &mut self.last_sample,
+            &mut self.last_delivered,
+            &mut self.last_filter,
+            &mut self.disposed_at,
+            &mut self.no_writers_at,
+            &mut self.owner_at,
         ]
     }
 

@@ -9,6 +9,7 @@ pub mod accounts;
 pub mod answer;
 pub mod bytes;
 pub mod effects;
+pub mod gaps;
 pub mod handles;
 pub mod head;
 pub mod instances;
@@ -51,10 +52,24 @@ pub enum Misreading {
     NineAtThirtyTwo,
     /// An accepted call leaves the large console's number of places.
     PlacesBecomeLarge,
+    /// Seconds before the epoch count as 0 under filter, order and purge.
+    Clamped,
+    /// Under the filter alone.
+    FilterClamped,
+    /// Under destination order alone.
+    OrderClamped,
+    /// In autopurge alone.
+    PurgeClamped,
+    /// Before the epoch the nanoseconds are taken off.
+    NanosecondsSubtracted,
+    /// Autopurge counts a negative gap by its size.
+    NegativeGapBySize,
+    /// Autopurge takes out nothing by a negative gap, whatever the delay.
+    NegativeGapStays,
 }
 
 impl Misreading {
-    pub const ALL: [Self; 12] = [
+    pub const ALL: [Self; 19] = [
         Self::RevivesOnLastAssertion,
         Self::RegisterSetsViewNew,
         Self::UnregisterEmptiesWriters,
@@ -67,7 +82,17 @@ impl Misreading {
         Self::RevivedHandedOver,
         Self::NineAtThirtyTwo,
         Self::PlacesBecomeLarge,
+        Self::Clamped,
+        Self::FilterClamped,
+        Self::OrderClamped,
+        Self::PurgeClamped,
+        Self::NanosecondsSubtracted,
+        Self::NegativeGapBySize,
+        Self::NegativeGapStays,
     ];
+
+    /// Those of request 7, the last of all.
+    pub const BEFORE_EPOCH: &'static [Self] = Self::ALL.split_at(12).1;
 }
 
 /// The buffers lent with a call.

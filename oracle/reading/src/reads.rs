@@ -47,7 +47,7 @@ pub fn delivers_under_filter(
     separation: u64,
 ) -> Result<bool, u8> {
     let table = table_and_time(pens, time)?;
-    Ok(filter_admits(find(&table, key).and_then(|i| i.last_filter), time, separation))
+    Ok(filter_admits(find(&table, key).and_then(|i| i.last_filter), time, separation, None))
 }
 
 pub fn delivers_under_order(
@@ -57,7 +57,7 @@ pub fn delivers_under_order(
     by_source: bool,
 ) -> Result<bool, u8> {
     let table = table_and_time(pens, time)?;
-    Ok(order_admits(find(&table, key).and_then(|i| i.last_delivered), time, by_source))
+    Ok(order_admits(find(&table, key).and_then(|i| i.last_delivered), time, by_source, None))
 }
 
 pub fn last_delivered(pens: &[u8], key: &Key) -> Result<Option<Time>, u8> {

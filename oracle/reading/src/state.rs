@@ -91,6 +91,10 @@ impl State {
         self.instances.binary_search_by(|i| i.key.cmp(key))
     }
 
+    pub fn find(&self, key: &Key) -> Option<&Instance> {
+        self.place(key).ok().map(|place| &self.instances[place])
+    }
+
     pub fn instance(&mut self, key: &Key) -> Option<&mut Instance> {
         let place = self.place(key).ok()?;
         Some(&mut self.instances[place])

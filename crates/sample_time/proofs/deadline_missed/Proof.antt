@@ -1,23 +1,36 @@
--- `sample_time::deadline_missed` meets its contract, by its test and what it calls. Assumes nothing.
+-- `sample_time::deadline_missed` meets its contract, by what it calls ensures. Assumes nothing.
+use mathlib.Core.Path.{ap, _∙_}
+use lib.IntN.{ℤ}
 use borrow.Author.Needs.{needs}
-use Rattle.model.specs.Times.{deadlineMissed}
+use Rattle.model.specs.Times.{nanosOf, reaches, deadlineMissed}
+use Rattle.sample_time.proofs.Values.{gap-asked, gap-read}
 use Rattle.sample_time.proofs.deadline_missed.Statement.{statement}
 use Rattle.sample_time.proofs.deadline_missed.Tie as tie
 
-signed-nanos-requires : tie.Need-signed-nanos-requires
-signed-nanos-requires c κs = search needs
+nanos-requires : tie.Need-nanos-requires
+nanos-requires c κs = search needs
 
-signed-nanos-requires-2 : tie.Need-signed-nanos-requires-2
-signed-nanos-requires-2 c κs = search needs
+nanos-requires-2 : tie.Need-nanos-requires-2
+nanos-requires-2 c κs = search needs
+
+gap-requires : tie.Need-gap-requires
+gap-requires c κs =
+    let a = c .before .before .before .args in
+    gap-asked (a .owner-at) (a .now) (search needs) (search needs) (search needs) (search needs) (c .before .nanos .ensures) (c .nanos2 .ensures)
 
 reaches-requires : tie.Need-reaches-requires
 reaches-requires c κs = search needs
 
 returns : tie.Need-returns
-unfolding deadlineMissed
+unfolding deadlineMissed nanosOf
 returns c =
-    let h = c .before .before in
-    rw (← h .signed-nanos .ensures, ← c .before .signed-nanos2 .ensures, h .before .if1 .taken) (c .reaches .ensures)
+    let g = c .before in
+    let h = g .before .before in
+    let a = h .before .before .args in
+    rw (h .before .if1 .taken)
+    (c .reaches .ensures
+    ∙ ap (λ (z : ℤ). reaches z (a .deadline))
+    (gap-read (a .owner-at) (a .now) (search needs) (search needs) (search needs) (search needs) (h .nanos .ensures) (g .before .nanos2 .ensures) (g .gap .ensures)))
 
 returns-2 : tie.Need-returns-2
 unfolding deadlineMissed
@@ -25,4 +38,4 @@ returns-2 c = rw (c .if1 .left)
 
 pub deadline-missed-spec : {M : Type 1} → statement M
 deadline-missed-spec =
-    tie.close (tie.spec signed-nanos-requires signed-nanos-requires-2 reaches-requires returns returns-2)
+    tie.close (tie.spec nanos-requires nanos-requires-2 gap-requires reaches-requires returns returns-2)

@@ -1,8 +1,8 @@
--- `sample_time::order_admits` meets its contract, by its test and what `nanos` ensures. Assumes nothing.
-use mathlib.Core.Path.{ap₂}
-use lib.Dec.{ltb}
+-- `sample_time::order_admits` meets its contract, by what it calls ensures. Assumes nothing.
+use mathlib.Core.Path.{_∙_}
 use borrow.Author.Needs.{needs}
 use Rattle.model.specs.Times.{orderAdmits}
+use Rattle.sample_time.proofs.Values.{later-read}
 use Rattle.sample_time.proofs.order_admits.Statement.{statement}
 use Rattle.sample_time.proofs.order_admits.Tie as tie
 
@@ -16,9 +16,17 @@ nanos-requires c κs = search needs
 nanos-requires-2 : tie.Need-nanos-requires-2
 nanos-requires-2 c κs = search needs
 
+is-later-requires : tie.Need-is-later-requires
+is-later-requires c κs = search needs
+
 returns-2 : tie.Need-returns-2
 unfolding orderAdmits
-returns-2 c = rw (c .before .before .if1 .left) (ap₂ ltb (c .before .nanos .ensures) (c .nanos2 .ensures))
+returns-2 c =
+    let h = c .before .before in
+    let a = h .before .before .args in
+    rw (h .before .if1 .left)
+    (c .is-later .ensures
+    ∙ later-read (a .last) (a .candidate) (search needs) (search needs) (search needs) (search needs) (h .nanos .ensures) (c .before .nanos2 .ensures))
 
 pub order-admits-spec : {M : Type 1} → statement M
-order-admits-spec = tie.close (tie.spec returns nanos-requires nanos-requires-2 returns-2)
+order-admits-spec = tie.close (tie.spec returns nanos-requires nanos-requires-2 is-later-requires returns-2)

@@ -1,7 +1,10 @@
--- `sample_time::purge_due` meets its contract, by its tests and what it calls. Assumes nothing.
+-- `sample_time::purge_due` meets its contract, by its tests and what it calls ensures. Assumes nothing.
+use mathlib.Core.Path.{ap, _∙_}
+use lib.Dec.{leb}
 use borrow.Author.Needs.{needs}
 use borrow.Author.Tests.{eq-eqb, ne-eqb}
-use Rattle.model.specs.Times.{purgeDue}
+use Rattle.model.specs.Times.{nanosOf, elapsed, purgeDue}
+use Rattle.sample_time.proofs.Values.{gap-asked, gap-read}
 use Rattle.sample_time.proofs.purge_due.Statement.{statement}
 use Rattle.sample_time.proofs.purge_due.Tie as tie
 
@@ -15,20 +18,25 @@ nanos-requires c κs = search needs
 nanos-requires-2 : tie.Need-nanos-requires-2
 nanos-requires-2 c κs = search needs
 
+gap-requires : tie.Need-gap-requires
+gap-requires c κs =
+    let a = c .before .before .before .before .args in
+    gap-asked (a .since) (a .now) (search needs) (search needs) (search needs) (search needs) (c .before .nanos .ensures) (c .nanos2 .ensures)
+
 elapsed-requires : tie.Need-elapsed-requires
 elapsed-requires c κs = search needs
 
 returns-2 : tie.Need-returns-2
-unfolding purgeDue
+unfolding purgeDue nanosOf
 returns-2 c =
-    let h = c .before .before .before in
-    rw (
-      ← c .before .before .nanos .ensures,
-      ← c .before .nanos2 .ensures,
-      c .elapsed .ensures,
-      h .before .if1 .taken,
-      ne-eqb _ _ (h .if2 .left),
-    )
+    let g = c .before in
+    let h = g .before .before in
+    let a = h .before .before .before .args in
+    rw (h .before .before .if1 .taken, ne-eqb _ _ (h .before .if2 .left))
+    (ap (λ n. leb (a .delay) n)
+    (c .elapsed .ensures
+    ∙ ap elapsed
+    (gap-read (a .since) (a .now) (search needs) (search needs) (search needs) (search needs) (h .nanos .ensures) (g .before .nanos2 .ensures) (g .gap .ensures))))
 
 returns-3 : tie.Need-returns-3
 unfolding purgeDue
@@ -37,4 +45,4 @@ returns-3 c = rw (c .if1 .left)
 pub purge-due-spec : {M : Type 1} → statement M
 purge-due-spec =
     tie.close
-    (tie.spec returns nanos-requires nanos-requires-2 elapsed-requires returns-2 returns-3)
+    (tie.spec returns nanos-requires nanos-requires-2 gap-requires elapsed-requires returns-2 returns-3)
