@@ -7,8 +7,7 @@
 --     filter-moved, order-moved, deadline-moved, purge-moved      the tests are as they were
 --     filter-near, order-near, purge-near     so about the epoch document 01's tests, both times 2^30 seconds later, are ours
 use Prim.Native.Nat.{ℕ, suc, _+_, _*_, _^_, _<_}
-use mathlib.Core.Bool.{Bool, not, _&&_, _||_}
-use mathlib.Core.Path.{_≡_, refl, sym, ap, _∙_}
+use mathlib.Core.Path.{_≡_, refl, sym, _∙_}
 use native.Mathlib.Omega.{arith}
 use borrow.Author.Tests.{lt-leb}
 use lib.Dec.{ltb}
@@ -16,7 +15,7 @@ use lib.IntN.{pos, subℕ}
 use mir.Facts.{toZ-pos}
 use mir.Syntax.{w32}
 use Rattle.model.specs.declared.MaybeTime.{MaybeTime}
-use Rattle.model.specs.Times.{billion, nanosOf, gap, reaches, isLater, filterAdmits, orderAdmits, deadlineMissed, purgeDue}
+use Rattle.model.specs.Times.{billion, nanosOf, gap, isLater, filterAdmits, orderAdmits, deadlineMissed, purgeDue}
 use Rattle.model.proofs.Tests.{leb-iff}
 use Rattle.sample_time.specs.Clamped.{clampedNanosOf, filterClamped, orderClamped, purgeClamped, raisedNanosOf, deadlineRaised, notBefore, shifted, Room, Near}
 use Rattle.sample_time.proofs.Differences.{sub-is, sub-same, sub-reaches, sub-elapsed}

@@ -4,17 +4,16 @@
 --     cast-fits                  without its sign
 use Prim.Native.Nat.{ℕ}
 use mathlib.Core.Bool.{true, false}
-use mathlib.Core.Path.{_≡_, refl, sym, ap, _∙_}
+use mathlib.Core.Path.{_≡_, refl, ap, _∙_}
 use native.Mathlib.Omega.{arith}
 use borrow.Author.Tests.{ltb-true}
 use lib.Dec.{T, leb}
 use lib.IntN.{ℤ, pos, negsuc, natAbs}
-use lib.Signed.{ltZ, nonNeg}
+use lib.Signed.{ltZ, nonNeg, ltZ-no, yes-nonNeg, pos-natAbs}
 use mir.Facts.{fits-natAbs}
 use mir.Syntax.{w64}
 use mir.Val.{Fits, SFits}
 use Rattle.model.specs.Times.{reaches, elapsed}
-use Rattle.model.proofs.Tests.{clash}
 use Rattle.numbers.proofs.Signed.{fits-as}
 
 -- a negative one reaches nothing and counts as 0
@@ -31,13 +30,8 @@ unelapsed-at (pos a) t =
 unelapsed-at (negsuc a) t = refl
 
 -- another is its size
-size-is : (g : ℤ) → ltZ g (pos 0) ≡ false → g ≡ pos (natAbs g)
-size-is (pos a) t = refl
-size-is (negsuc a) t = clash true refl t
-
 not-negative : (g : ℤ) → ltZ g (pos 0) ≡ false → T (nonNeg g)
-not-negative (pos a) t = tt
-not-negative (negsuc a) t = clash true refl t
+not-negative g t = yes-nonNeg {z = g} (ltZ-no (rw t tt))
 
 module _ {x y : ℤ} (e : y ≡ x) where
   pub unreached : (n : ℕ) → ltZ y (pos 0) ≡ true → false ≡ reaches x n
@@ -47,10 +41,10 @@ module _ {x y : ℤ} (e : y ≡ x) where
   none-elapsed t = unelapsed-at y t ∙ ap elapsed e
 
   pub reached : (n : ℕ) → ltZ y (pos 0) ≡ false → leb n (natAbs y) ≡ reaches x n
-  reached n t = ap (λ (g : ℤ). reaches g n) (sym (size-is y t) ∙ e)
+  reached n t = ap (λ (g : ℤ). reaches g n) (pos-natAbs y (not-negative y t) ∙ e)
 
   pub elapsed-is : ltZ y (pos 0) ≡ false → natAbs y ≡ elapsed x
-  elapsed-is t = ap elapsed (sym (size-is y t) ∙ e)
+  elapsed-is t = ap elapsed (pos-natAbs y (not-negative y t) ∙ e)
 
   pub cast-fits : SFits w64 x → ltZ y (pos 0) ≡ false → T (nonNeg y) × Fits w64 (natAbs y)
   cast-fits f t = (not-negative y t, fits-natAbs tt (fits-as e f))

@@ -4,7 +4,7 @@
 --     later-is, gap-is                     of two values
 --     seconds-fit, nanos-fit, gap-fits     64 bits hold it
 --     later-read, passes-read, gap-asked, gap-read     two values, as a function reads what others returned
-use Prim.Native.Nat.{ℕ, _+_, _*_, _^_, _<_}
+use Prim.Native.Nat.{ℕ, _*_, _^_, _<_}
 use mathlib.Core.Path.{_≡_, ap, ap₂, _∙_}
 use native.Mathlib.Omega.{arith}
 use lib.Dec.{ltb}

@@ -1,5 +1,6 @@
--- The tests of document 01, which the Rust has: under filter, destination order and autopurge a time counted max(seconds, 0),
--- under the deadline as it is. Document 02's request 7 takes the Rust as yardstick where seconds are not negative.
+-- The tests of document 01's section 3, which the Rust has: under filter, destination order and autopurge a time counted
+-- max(seconds, 0), under the deadline as it is. Document 02's request 7 takes the Rust as yardstick where seconds are not
+-- negative.
 use Prim.Native.Nat.{ℕ, _+_, _-_, _*_, _%_, _^_, _≤_, _<_}
 use mathlib.Core.Bool.{Bool, not, _&&_, _||_, cond}
 use lib.Dec.{leb, ltb, eqb}
