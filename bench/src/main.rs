@@ -3,7 +3,9 @@
 //! pass over the lent bytes as the floor; then keys through the library and
 //! through a plain MD5 in Rust, and stamps beside plain arithmetic.
 
+mod buffers;
 mod calls;
+mod floor;
 mod keys;
 mod md5;
 mod mixes;
@@ -14,14 +16,12 @@ mod state;
 use std::hint::black_box;
 use std::time::Instant;
 
-use compare::library::{self, Lent};
-use lists::Image;
+use buffers::Buffers;
+use compare::library;
 use mixes::{Mix, mixes};
 use original::Original;
-use reading::answer::ANSWER_BYTES;
-use reading::layout::{LOST_BYTES, OUT_BYTES, WRITERS_BYTES, pens_bytes};
 use reading::{Answer, Sheet, State};
-use state::{SIZES, Size, state};
+use state::{SIZES, Size, full, state};
 
 /// Each list is run so often; the median counts.
 const ROUNDS: usize = 301;
@@ -35,7 +35,7 @@ fn main() {
         println!("SKIPPED: no sources of ZeroDDS (set ZERO_DDS_SRC)");
         return;
     }
-    let floors = SIZES.map(|sizes| floor(sizes[0].lent()));
+    let floors = floor::floors();
     println!(
         "\n| mix | places | instances | Rust, ns | library, ns | library / Rust | library / floor |"
     );
@@ -55,9 +55,8 @@ fn main() {
 
 /// The library's time for each call by itself, on the full states.
 fn each_call(floors: [f64; 2]) {
-    let full = SIZES.map(|sizes| sizes[sizes.len() - 1]);
-    let [large, small] = full.map(|size| state(size, size.instances));
-    let [a, b] = full.map(|size| size.name);
+    let [large, small] = full().map(|size| state(size, size.instances));
+    let [a, b] = full().map(|size| size.name);
     println!("\n| call | on {a}, ns | library / floor | on {b}, ns | library / floor |");
     println!("|---|---|---|---|---|");
     let sheets = calls::calls(&large).into_iter().zip(calls::calls(&small));
@@ -100,57 +99,6 @@ fn each(calls: usize, work: impl FnOnce()) -> f64 {
     let begun = Instant::now();
     work();
     begun.elapsed().as_nanos() as f64 / calls as f64
-}
-
-/// Bytes that a turn of the floor's loop takes: a shorter loop takes twice as
-/// long where the linker happens to put it across a line of the cache.
-const TURN: usize = 128;
-
-/// One pass that every byte has a say in, and that compiles to vector code.
-fn floor(lent: usize) -> f64 {
-    let bytes = vec![0u8; lent];
-    let pass = || {
-        let mut all = [0; TURN];
-        let (turns, _) = black_box(&bytes).as_chunks::<TURN>();
-        for turn in turns {
-            all.iter_mut().zip(turn).for_each(|(all, byte)| *all |= byte);
-        }
-        black_box(all);
-    };
-    let time = median((0..ROUNDS).map(|_| each(1, pass)).collect());
-    println!("one pass over {lent} bytes: {time:.0} ns");
-    time
-}
-
-/// What is lent to the library.
-struct Buffers {
-    image: Image,
-    /// The length of pens, by the head's number of places.
-    pens: usize,
-    head: Vec<u8>,
-    out: Vec<u8>,
-    answer: [u8; ANSWER_BYTES],
-}
-
-impl Buffers {
-    fn of(state: &State) -> Self {
-        let image = Image::of_state(state);
-        let head = image.head.bytes().to_vec();
-        let pens = pens_bytes(state.head.places);
-        Self { image, pens, head, out: vec![0; OUT_BYTES], answer: [0; ANSWER_BYTES] }
-    }
-
-    fn call(&mut self, sheet: &[u8]) -> u32 {
-        library::call(Lent {
-            head: &mut self.head,
-            sheet,
-            pens: &mut self.image.pens[..self.pens],
-            writers: &mut self.image.writers[..WRITERS_BYTES],
-            lost: &mut self.image.lost[..LOST_BYTES],
-            out: &mut self.out,
-            answer: &mut self.answer,
-        })
-    }
 }
 
 fn sheet_of(bytes: &[u8]) -> Sheet<'_> {

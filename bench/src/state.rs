@@ -25,14 +25,27 @@ pub struct Size {
     pub instances: usize,
     /// Writer records.
     pub writers: usize,
-    set: usize,
+    /// Writers of a participant.
+    pub participant: usize,
+    /// Writers of an instance.
+    pub set: usize,
     holder: usize,
-    lost: usize,
+    /// GUIDs in Lost.
+    pub lost: usize,
 }
 
 impl Size {
     const fn of(name: &'static str, places: u16, records: usize) -> Self {
-        Self { name, places, instances: records, writers: records, set: 2, holder: 24, lost: 0 }
+        Self {
+            name,
+            places,
+            instances: records,
+            writers: records,
+            participant: 8,
+            set: 2,
+            holder: 24,
+            lost: 0,
+        }
     }
 
     /// Every table, set and holder as full as it can be.
@@ -42,6 +55,7 @@ impl Size {
             places,
             instances: places as usize,
             writers: WRITER_PLACES,
+            participant: 8,
             set: SET_PLACES,
             holder: HOLDER_PLACES,
             lost: LOST_PLACES - EXPIRIES,
@@ -66,11 +80,17 @@ pub const SIZES: [&[Size]; 2] = [
     &[Size::of("16", SMALL, 16), Size::of("32", SMALL, 32), Size::full("32, full", SMALL)],
 ];
 
-/// GUIDs that rise, of participants with eight writers each.
-fn guid(place: usize) -> Guid {
+/// The full ones.
+pub fn full() -> [Size; 2] {
+    SIZES.map(|sizes| sizes[sizes.len() - 1])
+}
+
+/// GUIDs that rise, of participants with so many writers each.
+fn guid(place: usize, participant: usize) -> Guid {
+    let [prefix, entity] = [place / participant, place % participant + 1].map(|n| n as u32);
     let mut guid = [0; 16];
-    guid[..4].copy_from_slice(&(place as u32 / 8).to_be_bytes());
-    guid[12..].copy_from_slice(&(place as u32 % 8 + 1).to_be_bytes());
+    guid[..4].copy_from_slice(&prefix.to_be_bytes());
+    guid[12..].copy_from_slice(&entity.to_be_bytes());
     guid
 }
 
@@ -78,7 +98,7 @@ fn guid(place: usize) -> Guid {
 pub fn state(size: Size, instances: usize) -> State {
     let mut rng = Rng::new(1);
     let mut state = State::fresh(size.places);
-    let guids: Vec<Guid> = (0..size.writers).map(guid).collect();
+    let guids: Vec<Guid> = (0..size.writers).map(|place| guid(place, size.participant)).collect();
     let mut keys: Vec<[u8; 16]> = (0..instances)
         .map(|_| {
             let mut key = [0; 16];
