@@ -2,9 +2,9 @@
 
 use compare::library::{self, Lent};
 use lists::Image;
-use reading::State;
 use reading::answer::ANSWER_BYTES;
 use reading::layout::{LOST_BYTES, OUT_BYTES, WRITERS_BYTES, pens_bytes};
+use reading::{Head, State};
 
 pub struct Buffers {
     pub image: Image,
@@ -33,5 +33,10 @@ impl Buffers {
             out: &mut self.out,
             answer: &mut self.answer,
         })
+    }
+
+    /// What is in them; none where it is not well formed.
+    pub fn state(&self) -> Option<State> {
+        Image { head: Head::of_bytes(&self.head), ..self.image.clone() }.state()
     }
 }

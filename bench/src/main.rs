@@ -5,6 +5,7 @@
 
 mod buffers;
 mod calls;
+mod every;
 mod floor;
 mod keys;
 mod md5;
@@ -18,6 +19,7 @@ use std::time::Instant;
 
 use buffers::Buffers;
 use compare::library;
+use every::Sweep;
 use mixes::{Mix, mixes};
 use original::Original;
 use reading::{Answer, Sheet, State};
@@ -36,10 +38,7 @@ fn main() {
         return;
     }
     let floors = floor::floors();
-    println!(
-        "\n| mix | places | instances | Rust, ns | library, ns | library / Rust | library / floor |"
-    );
-    println!("|---|---|---|---|---|---|---|");
+    mixes_head("mix");
     for (sizes, floor) in SIZES.iter().zip(floors) {
         for size in *sizes {
             for mix in mixes(*size) {
@@ -49,19 +48,40 @@ fn main() {
         }
     }
     each_call(floors);
+    each_sweep(floors);
     keys::each_key();
     stamps::each_conversion();
+}
+
+/// The calls that concern every record, on the full states.
+fn each_sweep(floors: [f64; 2]) {
+    mixes_head("call on every record");
+    for (size, floor) in full().into_iter().zip(floors) {
+        for Sweep { mix, done } in every::sweeps(size) {
+            let after = agree(&mix);
+            assert!(after.is_none_or(|after| done(&mix.start, &after)), "{}", mix.name);
+            row(mix.name, size, timed(&mix), floor);
+        }
+    }
 }
 
 /// The library's time for each call by itself, on the full states.
 fn each_call(floors: [f64; 2]) {
     let [large, small] = full().map(|size| state(size, size.instances));
-    let [a, b] = full().map(|size| size.name);
-    println!("\n| call | on {a}, ns | library / floor | on {b}, ns | library / floor |");
-    println!("|---|---|---|---|---|");
     let sheets = calls::calls(&large).into_iter().zip(calls::calls(&small));
-    for ((name, of_large), (_, of_small)) in sheets {
-        let [a, b] = [timed_call(name, &large, &of_large), timed_call(name, &small, &of_small)];
+    let rows = sheets.map(|((name, of_large), (_, of_small))| {
+        (name, [timed_call(name, &large, &of_large), timed_call(name, &small, &of_small)])
+    });
+    on_full("call", floors, rows);
+}
+
+/// A table of what the library takes on the full states, each row timed as it
+/// is printed.
+fn on_full(what: &str, floors: [f64; 2], rows: impl Iterator<Item = (&'static str, [f64; 2])>) {
+    let [a, b] = full().map(|size| size.name);
+    println!("\n| {what} | on {a}, ns | library / floor | on {b}, ns | library / floor |");
+    println!("|---|---|---|---|---|");
+    for (name, [a, b]) in rows {
         let [by_a, by_b] = [a / floors[0], b / floors[1]];
         println!("| {name} | {a:.0} | {by_a:.1} | {b:.0} | {by_b:.1} |");
     }
@@ -78,6 +98,14 @@ fn timed_call(name: &str, start: &State, sheet: &[u8]) -> f64 {
         time
     });
     median(rounds.collect())
+}
+
+/// The head of a table whose rows `row` prints.
+fn mixes_head(what: &str) {
+    println!(
+        "\n| {what} | places | instances | Rust, ns | library, ns | library / Rust | library / floor |"
+    );
+    println!("|---|---|---|---|---|---|---|");
 }
 
 fn row(name: &str, size: Size, times: Option<(f64, f64)>, floor: f64) {
@@ -127,17 +155,22 @@ fn timed(mix: &Mix) -> Option<(f64, f64)> {
     Some((median(rusts), median(libraries)))
 }
 
-/// Both sides give the same answers, and the ones that the mix is about.
-fn agree(mix: &Mix) -> Option<()> {
+/// Both sides give the same answers, and the ones that the mix is about, and
+/// list the same; what they leave is the same state, which this answers.
+fn agree(mix: &Mix) -> Option<State> {
     let (mut rust, mut buffers) = (Original::at(&mix.start), Buffers::of(&mix.start));
     let rust = rust.as_mut()?;
     for (n, sheet) in mix.sheets.iter().enumerate() {
         buffers.call(sheet);
         let answer = Answer::of_bytes(&buffers.answer);
-        assert_eq!(rust.turn(sheet_of(sheet)).0, answer, "{}, call {n}", mix.name);
+        let (of_rust, listed) = rust.turn(sheet_of(sheet));
+        assert_eq!(of_rust, answer, "{}, call {n}", mix.name);
+        assert_eq!(listed, buffers.out[..listed.len()], "{}, call {n}", mix.name);
         assert!((mix.expected)(&answer), "{}, call {n}: {answer:?}", mix.name);
     }
-    Some(())
+    let left = buffers.state();
+    assert_eq!(left, Some(rust.state()), "{}", mix.name);
+    left
 }
 
 fn timed_reads(state: &State) -> Option<(f64, f64)> {

@@ -14,7 +14,7 @@ pub struct Mix {
     pub name: &'static str,
     pub start: State,
     pub sheets: Vec<Vec<u8>>,
-    pub expected: fn(&Answer) -> bool,
+    pub expected: Box<dyn Fn(&Answer) -> bool>,
 }
 
 /// The mixes that a size has.
@@ -28,17 +28,18 @@ pub fn mixes(size: Size) -> Vec<Mix> {
     all
 }
 
-fn at(seconds: i32) -> Time {
+pub fn at(seconds: i32) -> Time {
     Time { seconds, nanoseconds: 0 }
 }
 
-fn mix(
+pub fn mix(
     name: &'static str,
     start: State,
     sheets: Vec<Filled>,
-    expected: fn(&Answer) -> bool,
+    expected: impl Fn(&Answer) -> bool + 'static,
 ) -> Mix {
-    Mix { name, start, sheets: sheets.into_iter().map(|sheet| sheet.0).collect(), expected }
+    let sheets = sheets.into_iter().map(|sheet| sheet.0).collect();
+    Mix { name, start, sheets, expected: Box::new(expected) }
 }
 
 /// Samples of an instance that is there, from its owner, by source order and

@@ -29,7 +29,8 @@ pub struct Size {
     pub participant: usize,
     /// Writers of an instance.
     pub set: usize,
-    holder: usize,
+    /// Bytes of an instance's holder.
+    pub holder: usize,
     /// GUIDs in Lost.
     pub lost: usize,
 }
