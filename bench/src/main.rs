@@ -7,6 +7,7 @@ mod buffers;
 mod calls;
 mod every;
 mod floor;
+mod handles;
 mod keys;
 mod md5;
 mod mixes;
@@ -49,6 +50,7 @@ fn main() {
     }
     each_call(floors);
     each_sweep(floors);
+    each_handles(floors);
     keys::each_key();
     stamps::each_conversion();
 }
@@ -73,6 +75,19 @@ fn each_call(floors: [f64; 2]) {
         (name, [timed_call(name, &large, &of_large), timed_call(name, &small, &of_small)])
     });
     on_full("call", floors, rows);
+}
+
+/// The library's time for take_status, by the handles of the full states.
+fn each_handles(floors: [f64; 2]) {
+    let [large, small] = full().map(handles::statuses);
+    let rows = large.zip(small).map(|(large, small)| {
+        let times = [&large, &small].map(|mix| {
+            agree(mix);
+            timed_call(mix.name, &mix.start, &mix.sheets[0])
+        });
+        (large.name, times)
+    });
+    on_full("take_status, handles", floors, rows);
 }
 
 /// A table of what the library takes on the full states, each row timed as it
