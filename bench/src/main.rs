@@ -1,7 +1,8 @@
 //! Times the same lists through the original Rust trackers and through the
 //! static library, on states with places for 128 instances and for 32, and one
-//! pass over the lent bytes as the floor; then keys through the library and
-//! through a plain MD5 in Rust, and stamps beside plain arithmetic.
+//! pass over the lent bytes as the floor; then each call by itself, the calls
+//! that concern every record and handles that clash; then keys through the
+//! library and through a plain MD5 in Rust, and stamps beside plain arithmetic.
 
 mod buffers;
 mod calls;
