@@ -13,9 +13,8 @@ use model::WriterState;
 ghost use mathlib.Core.Bool.{_&&_};
 ghost use mathlib.Core.Option.{none, some};
 ghost use mathlib.Core.Path.{_≡_};
-ghost use Prim.Native.Nat.{_+_, _<_, _^_};
 ghost use Rattle.model.specs.State.{classOf, isAliveClass, isNotAliveClass};
-ghost use Rattle.model.specs.Writers.{isTracked, isNotAlive, isAliveState, isAutomatic, coversKind, hasGuid, leaseOn, matchedAs, matchedWriter, withState, covers, renews, leased, dueAt, expires, departed, sameClass};
+ghost use Rattle.model.specs.Writers.{isTracked, isNotAlive, isAutomatic, coversKind, hasGuid, leaseOn, matchedAs, matchedWriter, withState, covers, renews, departed, sameClass};
 ghost use Rattle.writer_effects.specs.Acts.{assertionOf, classNumber};
 
 // An assertion: whom it names or whose prefix it gives, whether it names that writer, whether it is manual, and its clock.
@@ -46,18 +45,6 @@ fn is_not_alive(s: WriterState) -> bool
         WriterState::Unasserted => false,
         WriterState::Alive => false,
         WriterState::NotAlive => true,
-        WriterState::Departed => false,
-    }
-}
-
-// Whether a state is alive.
-pub fn is_alive(s: WriterState) -> bool
-    ensures { λ r. ⌜ r ≡ isAliveState s ⌝ }
-{
-    match s {
-        WriterState::Unasserted => false,
-        WriterState::Alive => true,
-        WriterState::NotAlive => false,
         WriterState::Departed => false,
     }
 }
@@ -182,37 +169,6 @@ pub fn with_state(w: Writer, state: WriterState, last: u64) -> Writer
         guid: guid,
         liveliness: liveliness,
     }
-}
-
-// Whether a lease of the writer runs.
-pub fn is_leased(w: Writer) -> bool
-    ensures { λ r. ⌜ r ≡ leased w ⌝ }
-{
-    let l = w.liveliness;
-    let s = l.state;
-    if is_alive(s) {
-        return w.liveliness.lease.present;
-    }
-    false
-}
-
-// When the lease of the writer runs out.
-pub fn due_at(w: Writer) -> u64
-    requires { ⌜ (w .liveliness .«last_assertion» < 2 ^ 62) × (w .liveliness .lease .nanos < 2 ^ 62) ⌝ }
-    ensures { λ r. ⌜ r ≡ dueAt w ⌝ }
-{
-    w.liveliness.last_assertion + w.liveliness.lease.nanos
-}
-
-// Whether the lease of the writer has run out at the clock.
-pub fn expires(clock: u64, w: Writer) -> bool
-    requires { ⌜ (w .liveliness .«last_assertion» < 2 ^ 62) × (w .liveliness .lease .nanos < 2 ^ 62) ⌝ }
-    ensures { λ r. ⌜ r ≡ expires clock w ⌝ }
-{
-    if is_leased(w) {
-        return due_at(w) <= clock;
-    }
-    false
 }
 
 // The lease on the sheet.

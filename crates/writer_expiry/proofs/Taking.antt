@@ -25,7 +25,7 @@ use Rattle.model.specs.Writers.{trackerState, trackerTurn, trackerCall}
 use Rattle.model.proofs.GuidLaws.{guids-forth, length-guids}
 use Rattle.model.proofs.RowLaws.{length-read}
 use Rattle.model.proofs.Tests.{less-less}
-use Rattle.writer_pass.proofs.Reading.{AnyGuid, wide-guid, any-guids}
+use Rattle.writer_pass.proofs.Declaring.{AnyGuid, wide-guid, any-guids}
 use Rattle.writer_status.specs.Status.{changedHead}
 use Rattle.writer_status.proofs.Idle.{idle-head, take-after, take-who}
 use Rattle.writer_expiry.specs.Losing.{Takes}

@@ -1,10 +1,11 @@
 -- What the calls on Lost leave.
-use Prim.Native.Nat.{ℕ}
+use Prim.Native.Nat.{ℕ, _+_, _-_}
 use mathlib.Core.Bool.{true}
 use mathlib.Core.Path.{_≡_}
 use mathlib.Core.List.{List}
 use Rattle.model.specs.declared.Called.{Called}
 use Rattle.model.specs.declared.Head.{Head}
+use Rattle.model.specs.declared.LastWriter.{LastWriter}
 use Rattle.model.specs.declared.Sheet.{Sheet}
 use Rattle.model.specs.declared.TrackerCall.the-variants.{Expire, TakeLost}
 use Rattle.model.specs.Call.{listIn}
@@ -12,8 +13,14 @@ use Rattle.model.specs.InstanceCalls.{Turned}
 use Rattle.model.specs.State.{lostOf, writersIn}
 use Rattle.model.specs.WellFormed.{countsOk}
 use Rattle.model.specs.Writers.{trackerCall}
+use Rattle.writer_pass.specs.declared.Tally.{Tally}
 use Rattle.writer_turns.specs.WriterCalls.{heldBy, Settles}
 use Rattle.writer_status.specs.Status.{Kept}
+
+-- so many alive writers are not alive now
+abbrev pub expiryTally : Head → ℕ → LastWriter → Tally
+expiryTally h gone last =
+    record { counts = record { alive = h .alive - gone; «not_alive» = h .«not_alive» + gone }; moved = gone; last = last }
 
 -- what a call returned and left of the writers and of Lost is the turn's, laid out
 pub record Leaves (places : ℕ) (t : Turned) (r : Called) (writers lost : List ℕ) : Type 0 where

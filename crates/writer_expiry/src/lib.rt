@@ -6,34 +6,58 @@
 // list of GUIDs in lent bytes.
 use model::Called;
 use model::Head;
+use model::LastWriter;
 use model::Sheet;
-use writer_pass::Act;
+use writer_pass::Counts;
+use writer_pass::Dues;
+use writer_pass::Tally;
 ghost use mathlib.Core.Bool.{true};
 ghost use mathlib.Core.Path.{_≡_};
 ghost use Prim.Native.Nat.{_+_, _≤_};
 ghost use lib.ListN.{length};
 ghost use Rattle.model.specs.State.{writersIn};
-ghost use Rattle.model.specs.Tables.{pick};
 ghost use Rattle.model.specs.WellFormed.{lostOk};
-ghost use Rattle.model.specs.Writers.{expires};
+ghost use Rattle.writer_pass.specs.Passes.{duesOf};
 ghost use Rattle.writer_turns.specs.WriterCalls.{WritersFormed};
-ghost use Rattle.writer_expiry.specs.Losing.{Expires, Takes};
+ghost use Rattle.writer_expiry.specs.Losing.{expiryTally, Expires, Takes};
 
-// What the expiry leaves, once there is room for the writers that expire: they go to Lost, and the pass declares them.
-fn expire_within(sheet: Sheet, head: Head, writers: &mut [u8], lost: &mut [u8], gone: u32) -> Called
+// The tally of an expiry: so many alive writers are not alive now.
+fn tally_of(head: Head, gone: u32, last: LastWriter) -> Tally
+    requires { ⌜ (gone ≤ head .alive) × (head .«not_alive» + gone ≤ 128) ⌝ }
+    ensures { λ r. ⌜ r ≡ expiryTally head gone last ⌝ }
+{
+    let counts = Counts {
+        alive: head.alive - gone,
+        not_alive: head.not_alive + gone,
+    };
+    Tally {
+        counts: counts,
+        moved: gone,
+        last: last,
+    }
+}
+
+// What the expiry leaves, once there is room in Lost for the writers that expire.
+fn expire_within(
+    sheet: Sheet,
+    head: Head,
+    writers: &mut [u8],
+    lost: &mut [u8],
+    dues: Dues,
+) -> Called
     requires { ⌜ WritersFormed head (now writers) × (length (now lost) ≡ 4096) × (lostOk (head .«lost_count») (now lost) ≡ true)
-        × (gone ≡ length (pick (expires (sheet .a)) (writersIn (head .«writer_count») (now writers)))) × (head .«lost_count» + gone ≤ 256) ⌝ }
+        × (dues ≡ duesOf (sheet .a) (writersIn (head .«writer_count») (now writers))) × (head .«lost_count» + dues .gone ≤ 256) ⌝ }
     ensures { λ r. ⌜ Expires sheet head (now (writers .entry)) (now (lost .entry)) r (now (writers .exit)) (now (lost .exit)) ⌝ }
 {
-    let clock = sheet.a;
     let count = head.writer_count as usize;
     let n = head.lost_count;
-    let last = head.last_writer;
-    writer_pass::note_expiring(writers, count, clock, lost, n as usize);
-    let tally = writer_pass::pass(writers, count, Act::Expire(clock), last);
-    let due = writer_pass::next_due(writers, count);
+    let gone = dues.gone;
+    let next = dues.next;
+    let was = head.last_writer;
+    let last = writer_pass::declare(writers, count, sheet.a, lost, n as usize, gone, was);
+    let tally = tally_of(head, gone, last);
     let h = writer_turns::settle(head, head.writer_count, n + gone, tally);
-    let a = answers::saying_due(tally.moved != 0, due);
+    let a = answers::saying_due(gone != 0, next);
     Called { answer: a, head: h }
 }
 
@@ -43,11 +67,11 @@ pub fn expire(sheet: Sheet, head: Head, writers: &mut [u8], lost: &mut [u8]) -> 
     ensures { λ r. ⌜ Expires sheet head (now (writers .entry)) (now (lost .entry)) r (now (writers .exit)) (now (lost .exit)) ⌝ }
 {
     let count = head.writer_count as usize;
-    let gone = writer_pass::expiring(writers, count, sheet.a);
-    if 256 < head.lost_count + gone {
+    let dues = writer_pass::find_dues(writers, count, sheet.a);
+    if 256 < head.lost_count + dues.gone {
         return answers::refused(12, head);
     }
-    expire_within(sheet, head, writers, lost, gone)
+    expire_within(sheet, head, writers, lost, dues)
 }
 
 // Code 38: the writers that expired since the latest such call go to Out, and Lost is empty.

@@ -9,7 +9,6 @@ use model::Head;
 use model::Sheet;
 use tables::Found;
 use writer_effects::Assertion;
-use writer_pass::Act;
 ghost use mathlib.Core.Bool.{true, false, cond};
 ghost use mathlib.Core.Path.{_≡_};
 ghost use Prim.Native.Nat.{_+_, _-_, _*_, _<_};
@@ -36,7 +35,7 @@ fn assert_on(head: Head, writers: &mut [u8], count: u32, a: Assertion) -> Called
         × (r ≡ calledBy head count (assertedTally head a count (now (writers .entry)))) ⌝ }
 {
     let last = head.last_writer;
-    let tally = writer_pass::pass(writers, count as usize, Act::Assert(a), last);
+    let tally = writer_pass::pass(writers, count as usize, a, last);
     writer_turns::called(head, count, tally)
 }
 

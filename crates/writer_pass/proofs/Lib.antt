@@ -2,3 +2,4 @@
 pub mod Picks
 pub mod Passing
 pub mod Reading
+pub mod Declaring

@@ -1,11 +1,14 @@
 -- A pass while it runs, over plain variables.
---     midway, mid-split, mid-next     the writers, the first i of them after the act
---     During                          what holds at the loop's head; `start`, `bounded-at`, `turn`, `end` are its laws
---     parts, part-touched, part-kept  the pass at one record, from what its callees ensure
+--     midway, mid-split, mid-next     the writers, the first i of them turned by f
+--     Amid                            the table with the first i of its writers turned; amid-start, amid-read, amid-bounded,
+--                                     amid-forth, amid-put, amid-kept and amid-end are its laws
+--     During                          that and the tally, at the head of the loop over assertions; start, turn and end are
+--                                     its laws
+--     part-touched, part-kept         the assertion at one record, from what its callees ensure
 --     counts-turn, counts-small       the classes of one writer more
 -- Assumes nothing.
 use Prim.Native.Nat.{ℕ, suc, _+_, _*_, _≤_, _<_}
-use mathlib.Core.Bool.{Bool, true, false, cond}
+use mathlib.Core.Bool.{Bool, true, false, _&&_, cond}
 use mathlib.Core.Path.{_≡_, refl, sym, ap, _∙_}
 use mathlib.Core.List.{List, [], _∷_, _++_, map, map-append, append-assoc, append-nil}
 use native.Mathlib.Numerals.{add-one}
@@ -18,18 +21,18 @@ use Rattle.octets.proofs.LayLaws.{all-get, length-lay, lay-read, lay-set}
 use Rattle.octets.specs.Patch.{patch}
 use Rattle.model.specs.declared.LastWriter.{LastWriter}
 use Rattle.model.specs.declared.Writer.{Writer}
+use Rattle.model.specs.declared.WriterState.the-variants.{Alive}
 use Rattle.model.specs.State.{countsAlive, countsNotAlive, aliveCount, notAliveCount, writersIn}
 use Rattle.model.specs.Tables.{pick}
 use Rattle.model.specs.WellFormed.{writerOk}
-use Rattle.model.specs.Writers.{guidIn, lastAfter}
+use Rattle.model.specs.Writers.{Assertion, covers, renews, asserted, withState, guidIn, lastAfter}
 use Rattle.model.specs.WriterRecord.{writerOf, writerBytes}
 use Rattle.model.proofs.RowLaws.{length-read}
 use Rattle.model.proofs.WriterLaws.{length-writer, writer-back}
 use Rattle.model.proofs.Fits.{FitsWriter}
-use Rattle.writer_pass.specs.declared.Act.{Act}
 use Rattle.writer_pass.specs.declared.Counts.{Counts}
 use Rattle.writer_pass.specs.declared.Tally.{Tally}
-use Rattle.writer_pass.specs.Passes.{Bounded, Sound, countOne, countsOf, touchesBy, touchedBy, actOf, shiftsBy, countedBy, tallyOf, touchedAt}
+use Rattle.writer_pass.specs.Passes.{writerIn, Bounded, Sound, countOne, countsOf, shiftsBy, countedBy, tallyOf, assertedAt}
 use Rattle.writer_pass.proofs.Picks.{take-more, pick-le, count-snoc, mapped-snoc, last-snoc, all-at, writers-fit, bounded}
 
 -- every writer's record is 40 bytes
@@ -95,132 +98,168 @@ mid-length : (g : Writer → Writer) (ws : List Writer) (i : ℕ) → i ≤ leng
 mid-length g ws i h =
     omega (arith, length-append (map g (take i ws)) (drop i ws), length-map (take i ws) g, length-take-le i ws h, length-drop i ws)
 
--- ---- the tally of one writer more
+-- ---- the table, midway
 
-tally-turn : (act : Act) (last : LastWriter) (xs : List Writer) (w : Writer) →
-    countedBy (tallyOf act last xs) w (actOf act w) ≡ tallyOf act last (xs ++ w ∷ [])
-unfolding tallyOf
-tally-turn act last xs w =
-    rw (
-      map-append (actOf act) xs (w ∷ []),
-      counts-snoc (map (actOf act) xs) (actOf act w),
-      count-snoc (shiftsBy act) xs w,
-      mapped-snoc guidIn (shiftsBy act) xs w,
-      last-snoc (map guidIn (pick (shiftsBy act) xs)) (shiftsBy act w) (w .guid) last,
-    )
-
-tally-small : (act : Act) (last : LastWriter) (xs : List Writer) (n : ℕ) → length xs ≤ n →
-    (tallyOf act last xs .counts .alive ≤ n) × (tallyOf act last xs .counts .«not_alive» ≤ n) × (tallyOf act last xs .moved ≤ n)
-unfolding tallyOf
-tally-small act last xs n h =
-    let c = counts-small (map (actOf act) xs) in
-    let m : length (map (actOf act) xs) ≡ length xs = length-map xs (actOf act) in
-    (omega (arith, c .0), omega (arith, c .1), omega (arith, pick-le (shiftsBy act) xs))
-
--- ---- the pass at one record
-
-pub part-touched : (act : Act) (w v x : Writer) (t t′ : List ℕ) (i : ℕ) (tally r : Tally) → w ≡ x → touchesBy act w ≡ true → v ≡ touchedBy act w →
-    t′ ≡ patch t (i * 40) 40 (writerBytes v) → r ≡ countedBy tally w v →
-    (t′ ≡ cond (touchesBy act x) (patch t (i * 40) 40 (writerBytes (touchedBy act x))) t) × (r ≡ countedBy tally x (actOf act x))
-part-touched act w v x t t′ i tally r e b f p q = rw (← e, b) (p ∙ ap (λ (z : Writer). patch t (i * 40) 40 (writerBytes z)) f, q ∙ ap (countedBy tally w) f)
-
-pub part-kept : (act : Act) (w x : Writer) (t : List ℕ) (i : ℕ) (tally r : Tally) → w ≡ x → touchesBy act w ≡ false → r ≡ countedBy tally w w →
-    (t ≡ cond (touchesBy act x) (patch t (i * 40) 40 (writerBytes (touchedBy act x))) t) × (r ≡ countedBy tally x (actOf act x))
-part-kept act w x t i tally r e b q = rw (← e, b) (refl, q)
-
--- ---- the loop
-
-pub record During (act : Act) (last : LastWriter) (t₀ : List ℕ) (count : ℕ) (t : List ℕ) (tally : Tally) (i : ℕ) : Type 0 where
+pub record Amid (f : Writer → Writer) (t₀ : List ℕ) (count : ℕ) (t : List ℕ) (i : ℕ) : Type 0 where
   pub below : i ≤ count
   pub long : length t ≡ length t₀
-  pub table : t ≡ lay writerBytes 40 (length t₀) (midway (actOf act) i (writersIn count t₀))
-  pub told : tally ≡ tallyOf act last (take i (writersIn count t₀))
-  pub alive : tally .counts .alive ≤ i
-  pub notAlive : tally .counts .«not_alive» ≤ i
-  pub moved : tally .moved ≤ i
+  pub table : t ≡ lay writerBytes 40 (length t₀) (midway f i (writersIn count t₀))
 
-module _ (act : Act) (last : LastWriter) (t₀ : List ℕ) (count : ℕ) (b : Bytes t₀) (s : Sound count t₀) where
+module _ (f : Writer → Writer) (t₀ : List ℕ) (count : ℕ) (b : Bytes t₀) (s : Sound count t₀) where
   abbrev ws : List Writer
   ws = writersIn count t₀
 
   size : length ws ≡ count
   size = length-read writerOf 40 count t₀
 
-  during : (i : ℕ) (t : List ℕ) (tally : Tally) → i ≤ count → t ≡ lay writerBytes 40 (length t₀) (midway (actOf act) i ws) →
-      tally ≡ tallyOf act last (take i ws) → During act last t₀ count t tally i
-  during i t tally h e f =
-      let k = tally-small act last (take i ws) i (omega (arith, length-take-le i ws (omega (arith, size)))) in
-      let n : length (midway (actOf act) i ws) ≡ length ws = mid-length (actOf act) ws i (omega (arith, size)) in
+  amid : (i : ℕ) (t : List ℕ) → i ≤ count → t ≡ lay writerBytes 40 (length t₀) (midway f i ws) → Amid f t₀ count t i
+  amid i t h e =
+      let n : length (midway f i ws) ≡ length ws = mid-length f ws i (omega (arith, size)) in
       record {
         below = h;
         long =
-            ap length e
-            ∙ length-lay writerBytes 40 Any wide (length t₀) (midway (actOf act) i ws) (any-all (midway (actOf act) i ws))
-            (omega (arith, size, s .room, n));
+            ap length e ∙ length-lay writerBytes 40 Any wide (length t₀) (midway f i ws) (any-all (midway f i ws)) (omega (arith, size, s .room, n));
         table = e;
-        told = f;
-        alive = rw f (k .0);
-        notAlive = rw f (k .1);
-        moved = rw f (k .2);
       }
 
-  pub start : During act last t₀ count t₀ record { counts = record { alive = 0; «not_alive» = 0 }; moved = 0; last = last } 0
-  unfolding tallyOf pick aliveCount notAliveCount lastAfter
-  start = during 0 t₀ record { counts = record { alive = 0; «not_alive» = 0 }; moved = 0; last = last } (omega arith) (sym (s .laid)) refl
+  pub amid-start : Amid f t₀ count t₀ 0
+  amid-start = amid 0 t₀ (omega arith) (sym (s .laid))
 
-  module _ (t : List ℕ) (tally : Tally) (i : ℕ) (d : During act last t₀ count t tally i) where
+  module _ (t : List ℕ) (i : ℕ) (d : Amid f t₀ count t i) where
     module _ (h : i < count) where
       inside : i < length ws
       inside = omega (arith, size)
 
-      pub read : (e : Writer) → writerOf (take 40 (drop (i * 40) t)) ≡ getD ws i e
-      read e =
-          let m : List Writer = midway (actOf act) i ws in
-          let n : length m ≡ length ws = mid-length (actOf act) ws i (omega (arith, size)) in
-          let g : getD m i e ≡ getD ws i e = mid-get (actOf act) ws i e inside e in
-          ap (λ (z : List ℕ). writerOf (take 40 (drop (i * 40) z))) (d .table)
-          ∙ read-laid (length t₀) m i e (omega (arith, inside)) (rw g (all-get FitsWriter ws i e inside (writers-fit count t₀ b))) ∙ g
+      within : i < length (midway f i ws)
+      within = omega (arith, inside, mid-length f ws i (omega (arith, size)))
 
-      pub bounded-at : Bounded (writerOf (take 40 (drop (i * 40) t)))
-      bounded-at =
-          let e : Writer = writerOf (take 40 (drop (i * 40) t)) in
-          bounded e (rw (read e) (all-at writerOk ws i e (s .ok) inside))
+      pub amid-read : (e : Writer) → writerIn t i ≡ getD ws i e
+      amid-read e =
+          let m : List Writer = midway f i ws in
+          let g : getD m i e ≡ getD ws i e = mid-get f ws i e inside e in
+          ap (λ (z : List ℕ). writerIn z i) (d .table)
+          ∙ read-laid (length t₀) m i e within (rw g (all-get FitsWriter ws i e inside (writers-fit count t₀ b))) ∙ g
 
-      next-table : (w : Writer) → w ≡ getD ws i w → (y : Bool) → touchesBy act w ≡ y →
-          cond y (patch t (i * 40) 40 (writerBytes (touchedBy act w))) t ≡ lay writerBytes 40 (length t₀) (midway (actOf act) (i + 1) ws)
-      next-table w e true y =
-          let m : List Writer = midway (actOf act) i ws in
-          let n : length m ≡ length ws = mid-length (actOf act) ws i (omega (arith, size)) in
-          let v : touchedBy act w ≡ actOf act (getD ws i w) = rw (← e, y) in
-          ap (λ (z : List ℕ). patch z (i * 40) 40 (writerBytes (touchedBy act w))) (d .table)
-          ∙ lay-set writerBytes 40 Any wide (length t₀) m i (touchedBy act w) (omega (arith, inside)) (any-all m) tt
-          ∙ ap (λ (z : Writer). lay writerBytes 40 (length t₀) (set m i z)) v
-          ∙ ap (lay writerBytes 40 (length t₀)) (mid-set (actOf act) ws i w inside)
-      next-table w e false y =
-          let v : getD ws i w ≡ actOf act (getD ws i w) = rw (← e, y) in
-          d .table
+      pub amid-bounded : Bounded (writerIn t i)
+      amid-bounded =
+          let e : Writer = writerIn t i in
+          bounded e (rw (amid-read e) (all-at writerOk ws i e (s .ok) inside))
+
+      pub amid-forth : writerBytes (writerIn t i) ≡ take 40 (drop (i * 40) t)
+      amid-forth =
+          let e : Writer = writerIn t i in
+          let m : List Writer = midway f i ws in
+          ap writerBytes (amid-read e ∙ sym (mid-get f ws i e inside e))
+          ∙ sym (ap (λ (z : List ℕ). take 40 (drop (i * 40) z)) (d .table) ∙ lay-read writerBytes 40 Any wide (length t₀) m i e within (any-all m))
+
+      pub amid-put : (v : Writer) (t′ : List ℕ) → v ≡ f (writerIn t i) → t′ ≡ patch t (i * 40) 40 (writerBytes v) → Amid f t₀ count t′ (i + 1)
+      amid-put v t′ q p =
+          let w : Writer = writerIn t i in
+          let m : List Writer = midway f i ws in
+          amid (i + 1) t′ (omega arith)
+          (p ∙ ap (λ (z : List ℕ). patch z (i * 40) 40 (writerBytes v)) (d .table)
+          ∙ lay-set writerBytes 40 Any wide (length t₀) m i v within (any-all m) tt
+          ∙ ap (λ (z : Writer). lay writerBytes 40 (length t₀) (set m i z)) (q ∙ ap f (amid-read w))
+          ∙ ap (lay writerBytes 40 (length t₀)) (mid-set f ws i w inside))
+
+      pub amid-kept : f (writerIn t i) ≡ writerIn t i → Amid f t₀ count t (i + 1)
+      amid-kept q =
+          let w : Writer = writerIn t i in
+          let v : getD ws i w ≡ f (getD ws i w) = rw (← amid-read w) (sym q) in
+          amid (i + 1) t (omega arith)
+          (d .table
           ∙ ap (lay writerBytes 40 (length t₀))
-          (mid-split (actOf act) ws i w inside
-          ∙ ap (λ (z : Writer). map (actOf act) (take i ws) ++ z ∷ drop (suc i) ws) v
-          ∙ sym (mid-next (actOf act) ws i w inside))
+          (mid-split f ws i w inside ∙ ap (λ (z : Writer). map f (take i ws) ++ z ∷ drop (suc i) ws) v ∙ sym (mid-next f ws i w inside)))
 
-      pub turn : (t′ : List ℕ) (r : Tally) → t′ ≡ touchedAt act i t →
-          r ≡ countedBy tally (writerOf (take 40 (drop (i * 40) t))) (actOf act (writerOf (take 40 (drop (i * 40) t)))) →
-          During act last t₀ count t′ r (i + 1)
-      turn t′ r p q = go (writerOf (take 40 (drop (i * 40) t))) (read (writerOf (take 40 (drop (i * 40) t)))) p q
-        where
-          go : (w : Writer) → w ≡ getD ws i w → t′ ≡ cond (touchesBy act w) (patch t (i * 40) 40 (writerBytes (touchedBy act w))) t →
-              r ≡ countedBy tally w (actOf act w) → During act last t₀ count t′ r (i + 1)
-          go w e p q =
-              during (i + 1) t′ r (omega arith) (p ∙ next-table w e (touchesBy act w) refl)
-              (q ∙ ap (λ (z : Tally). countedBy z w (actOf act w)) (d .told) ∙ tally-turn act last (take i ws) w
-              ∙ ap (λ (z : Writer). tallyOf act last (take i ws ++ z ∷ [])) e ∙ ap (tallyOf act last) (sym (take-more ws i w inside)))
+    pub amid-end : count ≤ i → t ≡ lay writerBytes 40 (length t₀) (map f ws)
+    amid-end h =
+        let all : take i ws ≡ ws = take-all i ws (omega (arith, size)) in
+        let none : drop i ws ≡ [] = drop-of-length-le ws {i = i} (omega (arith, size)) in
+        d .table ∙ ap (lay writerBytes 40 (length t₀)) (rw (all, none) (append-nil (map f ws)))
 
-    module _ (h : count ≤ i) where
-      pub end : (t ≡ lay writerBytes 40 (length t₀) (map (actOf act) ws)) × (tally ≡ tallyOf act last ws)
-      end =
-          let all : take i ws ≡ ws = take-all i ws (omega (arith, size)) in
-          let none : drop i ws ≡ [] = drop-of-length-le ws {i = i} (omega (arith, size)) in (
-            d .table ∙ ap (lay writerBytes 40 (length t₀)) (rw (all, none) (append-nil (map (actOf act) ws))),
-            rw all at (d .told),
-          )
+-- ---- the tally of one writer more
+
+tally-turn : (f : Writer → Writer) (last : LastWriter) (xs : List Writer) (w : Writer) →
+    countedBy (tallyOf f last xs) w (f w) ≡ tallyOf f last (xs ++ w ∷ [])
+unfolding tallyOf
+tally-turn f last xs w =
+    rw (
+      map-append f xs (w ∷ []),
+      counts-snoc (map f xs) (f w),
+      count-snoc (shiftsBy f) xs w,
+      mapped-snoc guidIn (shiftsBy f) xs w,
+      last-snoc (map guidIn (pick (shiftsBy f) xs)) (shiftsBy f w) (w .guid) last,
+    )
+
+tally-small : (f : Writer → Writer) (last : LastWriter) (xs : List Writer) (n : ℕ) → length xs ≤ n →
+    (tallyOf f last xs .counts .alive ≤ n) × (tallyOf f last xs .counts .«not_alive» ≤ n) × (tallyOf f last xs .moved ≤ n)
+unfolding tallyOf
+tally-small f last xs n h =
+    let c = counts-small (map f xs) in
+    let m : length (map f xs) ≡ length xs = length-map xs f in
+    (omega (arith, c .0), omega (arith, c .1), omega (arith, pick-le (shiftsBy f) xs))
+
+-- ---- the assertion at one record
+
+pub part-touched : (a : Assertion) (w v x : Writer) (t t′ : List ℕ) (i : ℕ) (tally r : Tally) → w ≡ x → (covers a w && renews a w) ≡ true →
+    v ≡ withState Alive (a .clock) w → t′ ≡ patch t (i * 40) 40 (writerBytes v) → r ≡ countedBy tally w v →
+    (t′ ≡ cond (covers a x && renews a x) (patch t (i * 40) 40 (writerBytes (withState Alive (a .clock) x))) t) × (r ≡ countedBy tally x (asserted a x))
+unfolding asserted
+part-touched a w v x t t′ i tally r e b f p q =
+    rw (← e, b) (p ∙ ap (λ (z : Writer). patch t (i * 40) 40 (writerBytes z)) f, q ∙ ap (countedBy tally w) f)
+
+pub part-kept : (a : Assertion) (w x : Writer) (t : List ℕ) (i : ℕ) (tally r : Tally) → w ≡ x → (covers a w && renews a w) ≡ false → r ≡ countedBy tally w w →
+    (t ≡ cond (covers a x && renews a x) (patch t (i * 40) 40 (writerBytes (withState Alive (a .clock) x))) t) × (r ≡ countedBy tally x (asserted a x))
+unfolding asserted
+part-kept a w x t i tally r e b q = rw (← e, b) (refl, q)
+
+-- ---- the loop over assertions
+
+pub record During (a : Assertion) (last : LastWriter) (t₀ : List ℕ) (count : ℕ) (t : List ℕ) (tally : Tally) (i : ℕ) : Type 0 where
+  pub amid : Amid (asserted a) t₀ count t i
+  pub told : tally ≡ tallyOf (asserted a) last (take i (writersIn count t₀))
+  pub alive : tally .counts .alive ≤ i
+  pub notAlive : tally .counts .«not_alive» ≤ i
+  pub moved : tally .moved ≤ i
+
+module _ (a : Assertion) (last : LastWriter) (t₀ : List ℕ) (count : ℕ) (b : Bytes t₀) (s : Sound count t₀) where
+  abbrev xs : List Writer
+  xs = writersIn count t₀
+
+  long : length xs ≡ count
+  long = length-read writerOf 40 count t₀
+
+  during : (i : ℕ) (t : List ℕ) (tally : Tally) → Amid (asserted a) t₀ count t i → tally ≡ tallyOf (asserted a) last (take i xs) →
+      During a last t₀ count t tally i
+  during i t tally d e =
+      let k = tally-small (asserted a) last (take i xs) i (omega (arith, length-take-le i xs (omega (arith, long, d .below)))) in
+      record { amid = d; told = e; alive = rw e (k .0); notAlive = rw e (k .1); moved = rw e (k .2) }
+
+  pub start : During a last t₀ count t₀ record { counts = record { alive = 0; «not_alive» = 0 }; moved = 0; last = last } 0
+  unfolding tallyOf pick aliveCount notAliveCount lastAfter
+  start =
+      during 0 t₀ record { counts = record { alive = 0; «not_alive» = 0 }; moved = 0; last = last } (amid-start (asserted a) t₀ count b s) refl
+
+  module _ (t : List ℕ) (tally : Tally) (i : ℕ) (d : During a last t₀ count t tally i) where
+    module _ (h : i < count) where
+      abbrev w : Writer
+      w = writerIn t i
+
+      next : (y : Bool) → (covers a w && renews a w) ≡ y → (t′ : List ℕ) →
+          t′ ≡ cond y (patch t (i * 40) 40 (writerBytes (withState Alive (a .clock) w))) t → Amid (asserted a) t₀ count t′ (i + 1)
+      unfolding asserted
+      next true y t′ p = amid-put (asserted a) t₀ count b s t i (d .amid) h (withState Alive (a .clock) w) t′ (rw y) p
+      next false y t′ p = rw p (amid-kept (asserted a) t₀ count b s t i (d .amid) h (rw y))
+
+      pub turn : (t′ : List ℕ) (r : Tally) → t′ ≡ assertedAt a i t → r ≡ countedBy tally w (asserted a w) → During a last t₀ count t′ r (i + 1)
+      turn t′ r p q =
+          let e : w ≡ getD xs i w = amid-read (asserted a) t₀ count b s t i (d .amid) h w in
+          during (i + 1) t′ r (next (covers a w && renews a w) refl t′ p)
+          (q ∙ ap (λ (z : Tally). countedBy z w (asserted a w)) (d .told) ∙ tally-turn (asserted a) last (take i xs) w
+          ∙ ap (λ (z : Writer). tallyOf (asserted a) last (take i xs ++ z ∷ [])) e
+          ∙ ap (tallyOf (asserted a) last) (sym (take-more xs i w (omega (arith, long)))))
+
+    pub end : count ≤ i → (t ≡ lay writerBytes 40 (length t₀) (map (asserted a) xs)) × (tally ≡ tallyOf (asserted a) last xs)
+    end h =
+        let all : take i xs ≡ xs = take-all i xs (omega (arith, long)) in
+        (amid-end (asserted a) t₀ count b s t i (d .amid) h, rw all at (d .told))

@@ -1,27 +1,31 @@
--- Passes over the writers: what an act does to one, and what is told of all.
-use Prim.Native.Nat.{ℕ, _+_, _*_, _≤_, _<_, _^_}
+-- Passes over the writers: what is told of all, and the table after a pass.
+use Prim.Native.Nat.{ℕ, _+_, _*_, _≤_, _<_, _^_, min}
 use mathlib.Core.Bool.{Bool, true, false, not, _&&_, cond}
 use mathlib.Core.Path.{_≡_}
 use mathlib.Core.List.{List, map}
+use lib.Dec.{leb}
 use lib.ListN.{length, take, drop}
 use Rattle.octets.specs.Lay.{lay}
 use Rattle.octets.specs.Patch.{patch}
 use Rattle.model.specs.declared.Guid.{Guid}
 use Rattle.model.specs.declared.LastWriter.{LastWriter}
 use Rattle.model.specs.declared.LastWriter.the-variants.{Is}
+use Rattle.model.specs.declared.MaybeDue.{MaybeDue}
 use Rattle.model.specs.declared.Writer.{Writer}
 use Rattle.model.specs.declared.WriterState.{WriterState}
-use Rattle.model.specs.declared.WriterState.the-variants.{Alive, NotAlive}
+use Rattle.model.specs.declared.WriterState.the-variants.{Alive}
 use Rattle.model.specs.State.{classOf, isAliveClass, isNotAliveClass, aliveCount, notAliveCount, writersIn}
 use Rattle.model.specs.Tables.{pick, all}
 use Rattle.model.specs.WellFormed.{writerOk}
-use Rattle.model.specs.Writers.{covers, renews, expires, withState, sameClass, lastAfter, guidIn}
+use Rattle.model.specs.Writers.{Assertion, covers, renews, expires, expired, withState, sameClass, lastAfter, guidIn, nextDue}
 use Rattle.model.specs.WriterRecord.{writerOf, writerBytes}
-use Rattle.writer_effects.specs.Acts.{assertionOf}
-use Rattle.writer_pass.specs.declared.Act.{Act}
-use Rattle.writer_pass.specs.declared.Act.the-variants.{Assert, Expire}
 use Rattle.writer_pass.specs.declared.Counts.{Counts}
+use Rattle.writer_pass.specs.declared.Dues.{Dues}
 use Rattle.writer_pass.specs.declared.Tally.{Tally}
+
+-- the writer of record i
+abbrev pub writerIn : List ℕ → ℕ → Writer
+writerIn t i = writerOf (take 40 (drop (i * 40) t))
 
 -- clock and lease of a writer are below 2^62, so that their sum fits
 abbrev pub Bounded : Writer → Type 0
@@ -36,26 +40,13 @@ pub record Sound (count : ℕ) (t : List ℕ) : Type 0 where
 
 -- ---- one writer
 
--- the act changes the writer, and how
-abbrev pub touchesBy : Act → Writer → Bool
-touchesBy (Assert a) w = covers (assertionOf a) w && renews (assertionOf a) w
-touchesBy (Expire clock) w = expires clock w
-
-abbrev pub touchedBy : Act → Writer → Writer
-touchedBy (Assert a) w = withState Alive (a .clock) w
-touchedBy (Expire clock) w = withState NotAlive (w .liveliness .«last_assertion») w
-
--- the writer after the act: model's asserted and expired
-abbrev pub actOf : Act → Writer → Writer
-actOf act w = cond (touchesBy act w) (touchedBy act w) w
-
 -- two states are of different classes
 abbrev pub differs : WriterState → WriterState → Bool
 differs was is = not (sameClass (classOf was) (classOf is))
 
--- the act changes the writer's class
-abbrev pub shiftsBy : Act → Writer → Bool
-shiftsBy act w = differs (w .liveliness .state) (actOf act w .liveliness .state)
+-- f changes the writer's class
+abbrev pub shiftsBy : (Writer → Writer) → Writer → Bool
+shiftsBy f w = differs (w .liveliness .state) (f w .liveliness .state)
 
 -- ---- what is told of all
 
@@ -82,19 +73,34 @@ countedBy tally w v =
       last = lastOne (differs (w .liveliness .state) (v .liveliness .state)) (w .guid) (tally .last);
     }
 
--- the whole tally: the classes after the act, those that changed, and the last writer after them
-unfoldable pub tallyOf : Act → LastWriter → List Writer → Tally
-tallyOf act last ws =
+-- the whole tally of a turn of each writer by f: the classes after it, those that changed, and the last writer after them
+unfoldable pub tallyOf : (Writer → Writer) → LastWriter → List Writer → Tally
+tallyOf f last ws =
     record {
-      counts = countsOf (map (actOf act) ws);
-      moved = length (pick (shiftsBy act) ws);
-      last = lastAfter (map guidIn (pick (shiftsBy act) ws)) last;
+      counts = countsOf (map f ws);
+      moved = length (pick (shiftsBy f) ws);
+      last = lastAfter (map guidIn (pick (shiftsBy f) ws)) last;
     }
 
 -- ---- the table
 
--- record i of the table after the act
-abbrev pub touchedAt : Act → ℕ → List ℕ → List ℕ
-touchedAt act i t =
-    cond (touchesBy act (writerOf (take 40 (drop (i * 40) t))))
-    (patch t (i * 40) 40 (writerBytes (touchedBy act (writerOf (take 40 (drop (i * 40) t)))))) t
+-- record i of the table after an assertion
+abbrev pub assertedAt : Assertion → ℕ → List ℕ → List ℕ
+assertedAt a i t =
+    cond (covers a (writerIn t i) && renews a (writerIn t i))
+    (patch t (i * 40) 40 (writerBytes (withState Alive (a .clock) (writerIn t i)))) t
+
+-- ---- leases
+
+-- the earlier of a lease that runs out at `due` and one that is due
+abbrev pub soonest : ℕ → MaybeDue → MaybeDue
+soonest due d = record { present = true; at = cond (d .present) (min due (d .at)) due }
+
+-- the dues with one writer more, whose lease runs out at `due`
+abbrev pub duesWith : Dues → ℕ → ℕ → Dues
+duesWith d due clock =
+    cond (leb due clock) record { gone = d .gone + 1; next = d .next } record { gone = d .gone; next = soonest due (d .next) }
+
+-- how many expire, and the next lease due once they have
+abbrev pub duesOf : ℕ → List Writer → Dues
+duesOf clock ws = record { gone = length (pick (expires clock) ws); next = nextDue (map (expired clock) ws) }

@@ -1,5 +1,5 @@
-// Passes over the writer table, record by record in GUID order: an assertion or an expiry acts on each, and the classes,
-// the leases that ran out and the next one due are told.
+// Passes over the writer table, record by record: an assertion acts on each, the classes are told, and the leases that ran
+// out are found, with the next one due, and declared.
 //
 // Derives from liveliness_tracker.rs of ZeroDDS (renew_participant and expire).
 // Copyright 2026 ZeroDDS Contributors. SPDX-License-Identifier: Apache-2.0. Changed: written anew in Rattle, over records
@@ -10,25 +10,22 @@ use model::MaybeDue;
 use model::Writer;
 use model::WriterState;
 use writer_effects::Assertion;
-ghost use mathlib.Core.Bool.{_&&_, cond};
+ghost use mathlib.Core.Bool.{true, _&&_, cond};
 ghost use mathlib.Core.List.{_++_, map};
 ghost use mathlib.Core.Path.{_≡_};
 ghost use Prim.Native.Nat.{_+_, _*_, _≤_, _<_};
 ghost use lib.ListN.{length, take, drop};
 ghost use Rattle.octets.specs.Lay.{lay};
-ghost use Rattle.model.specs.Guids.{guidsIn};
+ghost use Rattle.octets.specs.Patch.{patch};
+ghost use Rattle.model.specs.declared.LastWriter.the-variants.{Is};
+ghost use Rattle.model.specs.Guids.{guidBytes, guidsIn};
 ghost use Rattle.model.specs.State.{writersIn, lostOf};
 ghost use Rattle.model.specs.Tables.{pick};
-ghost use Rattle.model.specs.Writers.{covers, renews, expires, guidIn, nextDue, soonerOf};
-ghost use Rattle.model.specs.WriterRecord.{writerOf, writerBytes};
+ghost use Rattle.model.specs.Writers.{covers, renews, asserted, isAliveState, expires, expired, guidIn, lastAfter};
+ghost use Rattle.model.specs.WriterRecord.{writerBytes};
+ghost use Rattle.writer_record.specs.Records.{lapsed};
 ghost use Rattle.writer_effects.specs.Acts.{assertionOf};
-ghost use Rattle.writer_pass.specs.Passes.{Bounded, Sound, countOne, countsOf, lastOne, touchesBy, touchedBy, actOf, countedBy, tallyOf, touchedAt};
-
-// What a pass does to each writer.
-pub enum Act {
-    Assert(Assertion),
-    Expire(u64),
-}
+ghost use Rattle.writer_pass.specs.Passes.{writerIn, Bounded, Sound, countOne, countsOf, lastOne, countedBy, tallyOf, assertedAt, soonest, duesWith, duesOf};
 
 // How many writers are of each class that is counted.
 pub struct Counts {
@@ -41,6 +38,12 @@ pub struct Tally {
     pub counts: Counts,
     pub moved: u32,
     pub last: LastWriter,
+}
+
+// How many writers expire, and when the next lease of the others runs out.
+pub struct Dues {
+    pub gone: u32,
+    pub next: MaybeDue,
 }
 
 // One more, where it is so.
@@ -104,50 +107,26 @@ fn asserts(a: Assertion, w: Writer) -> bool
     false
 }
 
-// Whether the act changes the writer.
-fn touches(act: Act, w: Writer) -> bool
-    requires { ⌜ Bounded w ⌝ }
-    ensures { λ r. ⌜ r ≡ touchesBy act w ⌝ }
-{
-    match act {
-        Act::Assert(a) => asserts(a, w),
-        Act::Expire(clock) => writer_effects::expires(clock, w),
-    }
-}
-
-// The writer that the act changes, changed.
-fn touched(act: Act, w: Writer) -> Writer
-    ensures { λ r. ⌜ r ≡ touchedBy act w ⌝ }
-{
-    match act {
-        Act::Assert(a) => writer_effects::with_state(w, WriterState::Alive, a.clock),
-        Act::Expire(_) => {
-            writer_effects::with_state(w, WriterState::NotAlive, w.liveliness.last_assertion)
-        }
-    }
-}
-
-// The pass at record i: a record that the act does not change is not written.
-fn pass_at(t: &mut [u8], i: usize, act: Act, tally: Tally) -> Tally
-    requires { ⌜ (i * 40 + 40 ≤ length (now t)) × (tally .counts .alive < 128) × (tally .counts .«not_alive» < 128) × (tally .moved < 128)
-        × Bounded (writerOf (take 40 (drop (i * 40) (now t)))) ⌝ }
-    ensures { λ r. ⌜ (now (t .exit) ≡ touchedAt act i (now (t .entry)))
-        × (r ≡ countedBy tally (writerOf (take 40 (drop (i * 40) (now (t .entry))))) (actOf act (writerOf (take 40 (drop (i * 40) (now (t .entry))))))) ⌝ }
+// The pass at record i: a record that the assertion does not change is not written.
+fn pass_at(t: &mut [u8], i: usize, a: Assertion, tally: Tally) -> Tally
+    requires { ⌜ (i * 40 + 40 ≤ length (now t)) × (tally .counts .alive < 128) × (tally .counts .«not_alive» < 128) × (tally .moved < 128) ⌝ }
+    ensures { λ r. ⌜ (now (t .exit) ≡ assertedAt (assertionOf a) i (now (t .entry)))
+        × (r ≡ countedBy tally (writerIn (now (t .entry)) i) (asserted (assertionOf a) (writerIn (now (t .entry)) i))) ⌝ }
 {
     let w = writer_record::writer_at(t, i);
-    if touches(act, w) {
-        let v = touched(act, w);
+    if asserts(a, w) {
+        let v = writer_effects::with_state(w, WriterState::Alive, a.clock);
         writer_record::put_writer(t, i, v);
         return counted(tally, w, v);
     }
     counted(tally, w, w)
 }
 
-// The act on each of the first count records.
-pub fn pass(t: &mut [u8], count: usize, act: Act, last: LastWriter) -> Tally
+// The assertion on each of the first count records.
+pub fn pass(t: &mut [u8], count: usize, a: Assertion, last: LastWriter) -> Tally
     requires { ⌜ Sound count (now t) ⌝ }
-    ensures { λ r. ⌜ (now (t .exit) ≡ lay writerBytes 40 (length (now (t .entry))) (map (actOf act) (writersIn count (now (t .entry)))))
-        × (r ≡ tallyOf act last (writersIn count (now (t .entry)))) ⌝ }
+    ensures { λ r. ⌜ (now (t .exit) ≡ lay writerBytes 40 (length (now (t .entry))) (map (asserted (assertionOf a)) (writersIn count (now (t .entry)))))
+        × (r ≡ tallyOf (asserted (assertionOf a)) last (writersIn count (now (t .entry)))) ⌝ }
 {
     let none = Counts {
         alive: 0,
@@ -160,7 +139,7 @@ pub fn pass(t: &mut [u8], count: usize, act: Act, last: LastWriter) -> Tally
     };
     let mut i = 0;
     while i < count {
-        tally = pass_at(t, i, act, tally);
+        tally = pass_at(t, i, a, tally);
         i += 1;
     }
     tally
@@ -184,46 +163,10 @@ pub fn count_classes(t: &[u8], count: usize) -> Counts
     counts
 }
 
-// How many of the first count writers expire at the clock.
-pub fn expiring(t: &[u8], count: usize, clock: u64) -> u32
-    requires { ⌜ Sound count (now t) ⌝ }
-    ensures { λ r. ⌜ r ≡ length (pick (expires clock) (writersIn count (now (t .entry)))) ⌝ }
+// The earlier of a lease that runs out at `due` and one that is due.
+fn sooner_of(due: u64, d: MaybeDue) -> MaybeDue
+    ensures { λ r. ⌜ r ≡ soonest due d ⌝ }
 {
-    let mut n = 0;
-    let mut i = 0;
-    while i < count {
-        let w = writer_record::writer_at(t, i);
-        n = one_more(writer_effects::expires(clock, w), n);
-        i += 1;
-    }
-    n
-}
-
-// The GUIDs of those of the first count writers that expire at the clock go to Lost, behind the n that are there.
-pub fn note_expiring(t: &[u8], count: usize, clock: u64, lost: &mut [u8], n: usize)
-    requires { ⌜ Sound count (now t) × (length (now lost) ≡ 4096) × (lostOf (guidsIn n (now lost)) ≡ now lost)
-        × (n + length (pick (expires clock) (writersIn count (now t))) ≤ 256) ⌝ }
-    ensures { λ _. ⌜ now (lost .exit) ≡ lostOf (guidsIn n (now (lost .entry)) ++ map guidIn (pick (expires clock) (writersIn count (now (t .entry))))) ⌝ }
-{
-    let mut at = n;
-    let mut i = 0;
-    while i < count {
-        let w = writer_record::writer_at(t, i);
-        i += 1;
-        if writer_effects::expires(clock, w) {
-            let g = w.guid;
-            writer_record::put_guid(lost, at * 16, g);
-            at += 1;
-        }
-    }
-}
-
-// The earlier of a writer's lease and one that is due.
-fn sooner_of(w: Writer, d: MaybeDue) -> MaybeDue
-    requires { ⌜ Bounded w ⌝ }
-    ensures { λ r. ⌜ r ≡ soonerOf w d ⌝ }
-{
-    let due = writer_effects::due_at(w);
     if d.present {
         if d.at <= due {
             return MaybeDue {
@@ -238,22 +181,104 @@ fn sooner_of(w: Writer, d: MaybeDue) -> MaybeDue
     }
 }
 
-// When the next lease of the first count writers runs out.
-pub fn next_due(t: &[u8], count: usize) -> MaybeDue
-    requires { ⌜ Sound count (now t) ⌝ }
-    ensures { λ r. ⌜ r ≡ nextDue (writersIn count (now (t .entry))) ⌝ }
+// The dues with a writer more, whose lease runs out at `due`.
+fn dues_with(d: Dues, due: u64, clock: u64) -> Dues
+    requires { ⌜ d .gone < 128 ⌝ }
+    ensures { λ r. ⌜ r ≡ duesWith d due clock ⌝ }
 {
-    let mut d = MaybeDue {
+    let next = d.next;
+    let sooner = sooner_of(due, next);
+    if due <= clock {
+        return Dues {
+            gone: d.gone + 1,
+            next: next,
+        };
+    }
+    Dues {
+        gone: d.gone,
+        next: sooner,
+    }
+}
+
+// How many of the first count writers expire at the clock, and when the next lease of the others runs out.
+pub fn find_dues(t: &[u8], count: usize, clock: u64) -> Dues
+    requires { ⌜ Sound count (now t) ⌝ }
+    ensures { λ r. ⌜ r ≡ duesOf clock (writersIn count (now (t .entry))) ⌝ }
+{
+    let none = MaybeDue {
         present: false,
         at: 0,
+    };
+    let mut d = Dues {
+        gone: 0,
+        next: none,
     };
     let mut i = count;
     while 0 < i {
         i -= 1;
-        let w = writer_record::writer_at(t, i);
-        if writer_effects::is_leased(w) {
-            d = sooner_of(w, d);
+        if writer_record::leased_at(t, i) {
+            let due = writer_record::due_at(t, i);
+            d = dues_with(d, due, clock);
         }
     }
     d
+}
+
+// Whether the lease of the writer of record i has run out at the clock.
+fn expires_at(t: &[u8], i: usize, clock: u64) -> bool
+    requires { ⌜ (i * 40 + 40 ≤ length (now t)) × Bounded (writerIn (now t) i) ⌝ }
+    ensures { λ r. ⌜ r ≡ expires clock (writerIn (now (t .entry)) i) ⌝ }
+{
+    if writer_record::leased_at(t, i) {
+        return writer_record::due_at(t, i) <= clock;
+    }
+    false
+}
+
+// The writer of record i becomes not alive, and its GUID goes to Lost at place `at`; it is the last writer then.
+fn declare_at(t: &mut [u8], i: usize, lost: &mut [u8], at: usize) -> LastWriter
+    requires { ⌜ (i * 40 + 40 ≤ length (now t)) × (at * 16 + 16 ≤ length (now lost))
+        × (writerBytes (writerIn (now t) i) ≡ take 40 (drop (i * 40) (now t))) × (isAliveState (writerIn (now t) i .liveliness .state) ≡ true) ⌝ }
+    ensures { λ r. ⌜ (now (t .exit) ≡ patch (now (t .entry)) (i * 40) 40 (writerBytes (lapsed (writerIn (now (t .entry)) i))))
+        × (now (lost .exit) ≡ patch (now (lost .entry)) (at * 16) 16 (guidBytes (writerIn (now (t .entry)) i .guid)))
+        × (r ≡ Is (writerIn (now (t .entry)) i .guid)) ⌝ }
+{
+    let g = guid::guid_at(t, i * 40);
+    writer_record::expire_at(t, i);
+    writer_record::put_guid(lost, at * 16, g);
+    LastWriter::Is(g)
+}
+
+// Those of the first count writers that expire at the clock become not alive, and their GUIDs go to Lost, behind the n that
+// are there. There are `gone` of them; the last writer after them is returned.
+pub fn declare(
+    t: &mut [u8],
+    count: usize,
+    clock: u64,
+    lost: &mut [u8],
+    n: usize,
+    gone: u32,
+    last: LastWriter,
+) -> LastWriter
+    requires { ⌜ Sound count (now t) × (length (now lost) ≡ 4096) × (lostOf (guidsIn n (now lost)) ≡ now lost)
+        × (gone ≡ length (pick (expires clock) (writersIn count (now t)))) × (n + gone ≤ 256) ⌝ }
+    ensures { λ r. ⌜ (now (t .exit) ≡ lay writerBytes 40 (length (now (t .entry))) (map (expired clock) (writersIn count (now (t .entry)))))
+        × (now (lost .exit) ≡ lostOf (guidsIn n (now (lost .entry)) ++ map guidIn (pick (expires clock) (writersIn count (now (t .entry))))))
+        × (r ≡ lastAfter (map guidIn (pick (expires clock) (writersIn count (now (t .entry))))) last) ⌝ }
+{
+    if gone == 0 {
+        return last;
+    }
+    let mut newest = last;
+    let mut at = n;
+    let mut i = 0;
+    while i < count {
+        let place = i;
+        i += 1;
+        if expires_at(t, place, clock) {
+            newest = declare_at(t, place, lost, at);
+            at += 1;
+        }
+    }
+    newest
 }

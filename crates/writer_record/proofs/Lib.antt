@@ -1,2 +1,3 @@
 -- Laws that the proofs of writer_record cite.
 pub mod Laws
+pub mod Leases

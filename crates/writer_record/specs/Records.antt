@@ -6,8 +6,10 @@ use lib.Dec.{eqb, ltb}
 use Rattle.octets.specs.Octets.{be}
 use Rattle.model.specs.declared.Guid.{Guid}
 use Rattle.model.specs.declared.Writer.{Writer}
+use Rattle.model.specs.declared.WriterState.the-variants.{NotAlive}
 use Rattle.model.specs.InstanceRecord.{flag}
 use Rattle.model.specs.WriterRecord.{livelinessNumbered, stateNumbered, writerFlagsAt}
+use Rattle.model.specs.Writers.{withState}
 
 -- kind is no 3, and the spare bits and bytes are zero: what model's sparesOk asks of each record
 abbrev pub sparesIn : List ℕ → Bool
@@ -25,3 +27,7 @@ writerFrom guid flags nanos last =
         «last_assertion» = last;
       };
     }
+
+-- the writer whose lease ran out: not alive, and asserted when it was
+abbrev pub lapsed : Writer → Writer
+lapsed w = withState NotAlive (w .liveliness .«last_assertion») w

@@ -10,16 +10,17 @@ use model::LivelinessKind;
 use model::MaybeLease;
 use model::Writer;
 use model::WriterState;
-ghost use mathlib.Core.Bool.{_&&_};
+ghost use mathlib.Core.Bool.{true, _&&_};
 ghost use mathlib.Core.Path.{_≡_};
-ghost use Prim.Native.Nat.{_+_, _*_, _/_, _%_, _≤_, _<_};
+ghost use Prim.Native.Nat.{_+_, _*_, _/_, _%_, _≤_, _<_, _^_};
 ghost use lib.ListN.{length, take, drop};
 ghost use Rattle.octets.specs.Patch.{patch};
 ghost use Rattle.model.specs.Guids.{guidBytes};
 ghost use Rattle.model.specs.InstanceRecord.{bit};
 ghost use Rattle.model.specs.WellFormed.{leaseOk, onlyState, writerOk};
 ghost use Rattle.model.specs.WriterRecord.{livelinessNumber, livelinessNumbered, stateNumber, stateNumbered, writerOf, writerFlags, writerBytes};
-ghost use Rattle.writer_record.specs.Records.{sparesIn, writerFrom};
+ghost use Rattle.model.specs.Writers.{isAliveState, leased, dueAt};
+ghost use Rattle.writer_record.specs.Records.{sparesIn, writerFrom, lapsed};
 
 // The kind that a number stands for.
 pub fn kind_numbered(n: u8) -> LivelinessKind
@@ -151,6 +152,37 @@ pub fn state_at(t: &[u8], i: usize) -> WriterState
     let from = i * 40;
     let end = from + 40;
     read_state(&t[from..end])
+}
+
+// Whether the writer of record i is alive and has a lease, which its byte of flags tells.
+pub fn leased_at(t: &[u8], i: usize) -> bool
+    requires { ⌜ i * 40 + 40 ≤ length (now t) ⌝ }
+    ensures { λ r. ⌜ r ≡ leased (writerOf (take 40 (drop (i * 40) (now (t .entry))))) ⌝ }
+{
+    let flags = octets::get_u8(t, i * 40 + 16);
+    flags / 8 % 8 == 3
+}
+
+// When the lease of the writer of record i runs out.
+pub fn due_at(t: &[u8], i: usize) -> u64
+    requires { ⌜ (i * 40 + 40 ≤ length (now t)) × (writerOf (take 40 (drop (i * 40) (now t))) .liveliness .«last_assertion» < 2 ^ 62)
+        × (writerOf (take 40 (drop (i * 40) (now t))) .liveliness .lease .nanos < 2 ^ 62) ⌝ }
+    ensures { λ r. ⌜ r ≡ dueAt (writerOf (take 40 (drop (i * 40) (now (t .entry))))) ⌝ }
+{
+    let nanos = octets::get_u64(t, i * 40 + 24);
+    let last = octets::get_u64(t, i * 40 + 32);
+    last + nanos
+}
+
+// The writer of record i, alive until now, becomes not alive: its byte of flags alone is written.
+pub fn expire_at(t: &mut [u8], i: usize)
+    requires { ⌜ (i * 40 + 40 ≤ length (now t)) × (writerBytes (writerOf (take 40 (drop (i * 40) (now t)))) ≡ take 40 (drop (i * 40) (now t)))
+        × (isAliveState (writerOf (take 40 (drop (i * 40) (now t))) .liveliness .state) ≡ true) ⌝ }
+    ensures { λ _. ⌜ now (t .exit) ≡ patch (now (t .entry)) (i * 40) 40 (writerBytes (lapsed (writerOf (take 40 (drop (i * 40) (now (t .entry))))))) ⌝ }
+{
+    let at = i * 40 + 16;
+    let flags = octets::get_u8(t, at);
+    octets::put_u8(t, at, flags + 16);
 }
 
 // The record of w is written from index at.

@@ -27,9 +27,8 @@ use Rattle.tables.specs.declared.Found.{Found}
 use Rattle.tables.specs.Found.{foundIn}
 use Rattle.tables.specs.Keys.{keys, rising}
 use Rattle.tables.proofs.RecordLaws.{keys-read, rising-records}
-use Rattle.writer_pass.specs.declared.Act.{Act}
 use Rattle.writer_pass.specs.declared.Tally.{Tally}
-use Rattle.writer_pass.specs.Passes.{actOf, shiftsBy, tallyOf}
+use Rattle.writer_pass.specs.Passes.{shiftsBy, tallyOf}
 use Rattle.writer_pass.proofs.Passing.{counts-small}
 use Rattle.writer_pass.proofs.Picks.{read-at}
 use Rattle.writer_turns.specs.Turns.{CountsFit, calledBy, stillTally, shiftedTally, goneTally, departsTally}
@@ -96,12 +95,12 @@ module _ (head : Head) (n : ℕ) (w : List ℕ) (ready : Passable head n w) wher
   room : (t : Tally) → t .counts .alive ≤ 128 → t .counts .«not_alive» ≤ 128 → CountsFit head t
   room t a b = record { alive = a; notAlive = b; ackAlive = ready .ackAlive; ackNotAlive = ready .ackNotAlive }
 
-  pub room-pass : (act : Act) (last : LastWriter) (t : Tally) (ws : List Writer) → length ws ≤ 128 → t ≡ tallyOf act last ws → CountsFit head t
+  pub room-pass : (f : Writer → Writer) (last : LastWriter) (t : Tally) (ws : List Writer) → length ws ≤ 128 → t ≡ tallyOf f last ws → CountsFit head t
   unfolding tallyOf
-  room-pass act last t ws h e =
-      let k = counts-small (map (actOf act) ws) in
-      let m : length (map (actOf act) ws) ≡ length ws = length-map ws (actOf act) in
-      rw e (room (tallyOf act last ws) (omega (arith, k .0)) (omega (arith, k .1)))
+  room-pass f last t ws h e =
+      let k = counts-small (map f ws) in
+      let m : length (map f ws) ≡ length ws = length-map ws f in
+      rw e (room (tallyOf f last ws) (omega (arith, k .0)) (omega (arith, k .1)))
 
   pub room-still : (t : Tally) → t ≡ stillTally head → CountsFit head t
   room-still t e = rw e (room (stillTally head) (ready .alive) (ready .notAlive))
@@ -129,18 +128,18 @@ module _ (head : Head) (n : ℕ) (w : List ℕ) (ready : Passable head n w) wher
 
 -- ---- a call that passes over every writer
 
-module _ (c : TrackerCall) (s : Sheet) (act : Act) (head : Head) (w : List ℕ) (long : length w ≡ 5120) (good : Good head w)
-    (after : writersAfter c s (writersIn (head .«writer_count») w) ≡ map (actOf act) (writersIn (head .«writer_count») w))
-    (who : movers c s (writersIn (head .«writer_count») w) ≡ map guidIn (pick (shiftsBy act) (writersIn (head .«writer_count») w))) where
+module _ (c : TrackerCall) (s : Sheet) (f : Writer → Writer) (head : Head) (w : List ℕ) (long : length w ≡ 5120) (good : Good head w)
+    (after : writersAfter c s (writersIn (head .«writer_count») w) ≡ map f (writersIn (head .«writer_count») w))
+    (who : movers c s (writersIn (head .«writer_count») w) ≡ map guidIn (pick (shiftsBy f) (writersIn (head .«writer_count») w))) where
   pub pass-settles : (pens lost : List ℕ) → Plain c s (heldBy head pens w lost) → (r : Called) (w′ : List ℕ) →
-      w′ ≡ lay writerBytes 40 (length w) (map (actOf act) (writersIn (head .«writer_count») w)) →
-      r ≡ calledBy head (head .«writer_count») (tallyOf act (head .«last_writer») (writersIn (head .«writer_count») w)) →
+      w′ ≡ lay writerBytes 40 (length w) (map f (writersIn (head .«writer_count») w)) →
+      r ≡ calledBy head (head .«writer_count») (tallyOf f (head .«last_writer») (writersIn (head .«writer_count») w)) →
       Settles (head .places) (trackerCall c s (heldBy head pens w lost)) r w′
   unfolding tallyOf
-  pass-settles pens lost p r w′ f q =
+  pass-settles pens lost p r w′ u q =
       let xs = writersIn (head .«writer_count») w in
-      turn-settles c s head pens w lost (map (actOf act) xs) (map guidIn (pick (shiftsBy act) xs)) (tallyOf act (head .«last_writer») xs) (head .«writer_count») after who refl
-      (sym (length-map (pick (shiftsBy act) xs) guidIn)) refl (sym (length-map xs (actOf act) ∙ good .size)) p r w′ q (f ∙ rw long)
+      turn-settles c s head pens w lost (map f xs) (map guidIn (pick (shiftsBy f) xs)) (tallyOf f (head .«last_writer») xs) (head .«writer_count») after who refl
+      (sym (length-map (pick (shiftsBy f) xs) guidIn)) refl (sym (length-map xs f ∙ good .size)) p r w′ q (u ∙ rw long)
 
 -- no more writers are counted than there are
 pub both-few : (head : Head) (w : List ℕ) → Good head w → head .alive + head .«not_alive» ≤ 128

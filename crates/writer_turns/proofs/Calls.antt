@@ -30,14 +30,13 @@ use Rattle.model.specs.State.{State, neither, classOf, writersIn, writerKey}
 use Rattle.model.specs.Tables.{all, sift, pick}
 use Rattle.model.specs.WellFormed.{clockOk}
 use Rattle.model.specs.WriterRecord.{writerOf, writerBytes, stateNumber}
-use Rattle.model.specs.Writers.{isTracked, unmatchedFrom, lostAs, departed, matchedWriter, matchAsserts, moves, guidIn, movers, writersAfter, trackerCall}
+use Rattle.model.specs.Writers.{assertion, asserted, isTracked, unmatchedFrom, lostAs, departed, matchedWriter, matchAsserts, moves, guidIn, movers, writersAfter, trackerCall}
 use Rattle.model.proofs.Fits.{FitsGuid}
 use Rattle.tables.specs.declared.Found.the-variants.{At, Missing}
 use Rattle.tables.specs.Found.{foundIn}
 use Rattle.tables.specs.Gaps.{opened, closed}
 use Rattle.tables.specs.Keys.{keys}
 use Rattle.tables.proofs.RecordLaws.{at-lt}
-use Rattle.writer_pass.specs.declared.Act.the-variants.{Assert}
 use Rattle.writer_pass.specs.declared.Tally.{Tally}
 use Rattle.writer_turns.specs.Turns.{calledBy, stillTally, goneTally, departsTally}
 use Rattle.writer_turns.specs.WriterCalls.{WritersFormed, Turns, Settles, heldBy, leaving, Passable, assertionOn, automatic, assertedTable, assertedTally}
@@ -111,13 +110,13 @@ module _ (s : Sheet) (head : Head) (w : List ℕ) (bytes : Bytes w) (held : Writ
   pub writer-asserts : (r : Called) (w′ : List ℕ) → w′ ≡ assertedTable (assertionOn true true s) n w →
       r ≡ calledBy head n (assertedTally head (assertionOn true true s) n w) → Turns WriterAsserted s head w r w′
   writer-asserts r w′ e f pens lost =
-      pass-settles WriterAsserted s (Assert (assertionOn true true s)) head w (held .long) g (assert-turn s ws) (assert-who s ws) pens lost
+      pass-settles WriterAsserted s (asserted (assertion true true s)) head w (held .long) g (assert-turn s ws) (assert-who s ws) pens lost
       record { late = refl; told = refl; lost = refl; ackAlive = refl; ackNotAlive = refl } r w′ e f
 
   pub participant-asserts : (r : Called) (w′ : List ℕ) → w′ ≡ assertedTable (assertionOn false (s .manual) s) n w →
       r ≡ calledBy head n (assertedTally head (assertionOn false (s .manual) s) n w) → Turns ParticipantAsserted s head w r w′
   participant-asserts r w′ e f pens lost =
-      pass-settles ParticipantAsserted s (Assert (assertionOn false (s .manual) s)) head w (held .long) g (participant-turn s ws) (participant-who s ws) pens lost
+      pass-settles ParticipantAsserted s (asserted (assertion false (s .manual) s)) head w (held .long) g (participant-turn s ws) (participant-who s ws) pens lost
       record { late = refl; told = refl; lost = refl; ackAlive = refl; ackNotAlive = refl } r w′ e f
 
   -- ---- where the GUID was missing

@@ -31,7 +31,7 @@ use Rattle.model.specs.State.{classOf, countsAlive, countsNotAlive, aliveCount,
 use Rattle.model.specs.Tables.{find, put, all, pick}
 use Rattle.model.specs.WellFormed.{clockOk, leaseOk, writerOk, isDeparted}
 use Rattle.model.specs.WriterRecord.{writerBytes}
-use Rattle.model.specs.Writers.{hasGuid, isTracked, leaseOn, matchedAs, matchedFrom, matchedWriter, matchAsserts, guidIn, trackerLate, trackerCall}
+use Rattle.model.specs.Writers.{assertion, asserted, hasGuid, isTracked, leaseOn, matchedAs, matchedFrom, matchedWriter, matchAsserts, guidIn, trackerLate, trackerCall}
 use Rattle.model.proofs.Fits.{FitsGuid, FitsWriter}
 use Rattle.model.proofs.Tests.{both}
 use Rattle.tables.specs.declared.Found.the-variants.{At, Missing}
@@ -39,8 +39,7 @@ use Rattle.tables.specs.Found.{foundIn}
 use Rattle.tables.specs.Gaps.{opened}
 use Rattle.tables.proofs.GapLaws.{opened-lay}
 use Rattle.tables.proofs.RecordLaws.{at-lt, find-at, put-at, missing-le, find-none, put-in}
-use Rattle.writer_pass.specs.declared.Act.the-variants.{Assert}
-use Rattle.writer_pass.specs.Passes.{Sound, actOf, shiftsBy, tallyOf}
+use Rattle.writer_pass.specs.Passes.{Sound, shiftsBy, tallyOf}
 use Rattle.writer_pass.proofs.Passing.{Any, wide, any-all}
 use Rattle.writer_pass.proofs.Picks.{writers-fit, all-at, bounded}
 use Rattle.writer_turns.specs.Turns.{calledBy, stillTally}
@@ -266,9 +265,9 @@ module _ (s : Sheet) (head : Head) (w : List ℕ) (bytes : Bytes w) (long : leng
     pub match-asserted : matchAsserts s ws ≡ true → (r : Called) (w₂ : List ℕ) → w₂ ≡ assertedTable (assertionOn true false s) n w₁ →
         r ≡ calledBy head n (assertedTally head (assertionOn true false s) n w₁) → Settles (head .places) (trackerCall Matched s (heldBy head pens w lost)) r w₂
     unfolding tallyOf
-    match-asserted e r w₂ f q =
-        let act = Assert (assertionOn true false s) in
+    match-asserted e r w₂ u q =
+        let f = asserted (assertion true false s) in
         let bs = begun s ws in
-        turn-settles Matched s head pens w lost (map (actOf act) bs) _ (tallyOf act (head .«last_writer») bs) n (match-turn s ws e) (match-who s ws e)
-        refl (sym (length-map (pick (shiftsBy act) bs) guidIn)) refl (p .size ∙ sym (length-map bs (actOf act))) plain r w₂ (q ∙ ap (λ (z : List Writer). calledBy head n (tallyOf act (head .«last_writer») z)) (p .back))
-        (f ∙ rw (p .back, p .long))
+        turn-settles Matched s head pens w lost (map f bs) _ (tallyOf f (head .«last_writer») bs) n (match-turn s ws e) (match-who s ws e)
+        refl (sym (length-map (pick (shiftsBy f) bs) guidIn)) refl (p .size ∙ sym (length-map bs f)) plain r w₂ (q ∙ ap (λ (z : List Writer). calledBy head n (tallyOf f (head .«last_writer») z)) (p .back))
+        (u ∙ rw (p .back, p .long))

@@ -26,13 +26,12 @@ use Rattle.model.specs.Guids.{guidOf, guidsIn}
 use Rattle.model.specs.InstanceRecord.{instanceOf}
 use Rattle.model.specs.State.{State, Class, alive, notAlive, neither, classOf, aliveCount, notAliveCount, stateOf, headOf, writersIn, writersOf, writerKey}
 use Rattle.model.specs.Tables.{pick, sift, find, put}
-use Rattle.model.specs.Writers.{asserted, sameClass, moves, moved, movers, guidIn, lastAfter, hasGuid, matchedWriter, matchAsserts, writersAfter, writerActs, lostAfter, acknowledgedAfter, trackerLate, trackerTold, trackerState, trackerTurn, trackerCall}
+use Rattle.model.specs.Writers.{assertion, asserted, sameClass, moves, moved, movers, guidIn, lastAfter, hasGuid, matchedWriter, matchAsserts, writersAfter, writerActs, lostAfter, acknowledgedAfter, trackerLate, trackerTold, trackerState, trackerTurn, trackerCall}
 use Rattle.model.proofs.RowLaws.{length-read}
-use Rattle.writer_pass.specs.declared.Act.the-variants.{Assert}
 use Rattle.writer_pass.specs.declared.Tally.{Tally}
-use Rattle.writer_pass.specs.Passes.{countsOf, actOf, shiftsBy}
+use Rattle.writer_pass.specs.Passes.{countsOf, shiftsBy}
 use Rattle.writer_turns.specs.Turns.{settledHead, calledBy}
-use Rattle.writer_turns.specs.WriterCalls.{heldBy, Settles, assertionOn}
+use Rattle.writer_turns.specs.WriterCalls.{heldBy, Settles}
 
 -- ---- lists
 
@@ -106,31 +105,31 @@ module _ (c : TrackerCall) (s : Sheet) (head : Head) (pens w lost : List ℕ) (w
 -- ---- assertions and matches
 
 module _ (s : Sheet) (ws : List Writer) where
-  pub assert-turn : writersAfter WriterAsserted s ws ≡ map (actOf (Assert (assertionOn true true s))) ws
-  unfolding writersAfter asserted
-  assert-turn = sift-map (actOf (Assert (assertionOn true true s))) ws
+  pub assert-turn : writersAfter WriterAsserted s ws ≡ map (asserted (assertion true true s)) ws
+  unfolding writersAfter
+  assert-turn = sift-map (asserted (assertion true true s)) ws
 
-  pub assert-who : movers WriterAsserted s ws ≡ map guidIn (pick (shiftsBy (Assert (assertionOn true true s))) ws)
-  unfolding movers asserted
+  pub assert-who : movers WriterAsserted s ws ≡ map guidIn (pick (shiftsBy (asserted (assertion true true s))) ws)
+  unfolding movers
   assert-who = refl
 
-  pub participant-turn : writersAfter ParticipantAsserted s ws ≡ map (actOf (Assert (assertionOn false (s .manual) s))) ws
-  unfolding writersAfter asserted
-  participant-turn = sift-map (actOf (Assert (assertionOn false (s .manual) s))) ws
+  pub participant-turn : writersAfter ParticipantAsserted s ws ≡ map (asserted (assertion false (s .manual) s)) ws
+  unfolding writersAfter
+  participant-turn = sift-map (asserted (assertion false (s .manual) s)) ws
 
-  pub participant-who : movers ParticipantAsserted s ws ≡ map guidIn (pick (shiftsBy (Assert (assertionOn false (s .manual) s))) ws)
-  unfolding movers asserted
+  pub participant-who : movers ParticipantAsserted s ws ≡ map guidIn (pick (shiftsBy (asserted (assertion false (s .manual) s))) ws)
+  unfolding movers
   participant-who = refl
 
   abbrev pub begun : List Writer
   begun = put writerKey (matchedWriter s (find (hasGuid (s .guid)) ws)) ws
 
-  pub match-turn : matchAsserts s ws ≡ true → writersAfter Matched s ws ≡ map (actOf (Assert (assertionOn true false s))) begun
-  unfolding writersAfter asserted
-  match-turn e = ap (λ (b : Bool). sift (writerActs Matched s b) begun) e ∙ sift-map (actOf (Assert (assertionOn true false s))) begun
+  pub match-turn : matchAsserts s ws ≡ true → writersAfter Matched s ws ≡ map (asserted (assertion true false s)) begun
+  unfolding writersAfter
+  match-turn e = ap (λ (b : Bool). sift (writerActs Matched s b) begun) e ∙ sift-map (asserted (assertion true false s)) begun
 
-  pub match-who : matchAsserts s ws ≡ true → movers Matched s ws ≡ map guidIn (pick (shiftsBy (Assert (assertionOn true false s))) begun)
-  unfolding movers asserted
+  pub match-who : matchAsserts s ws ≡ true → movers Matched s ws ≡ map guidIn (pick (shiftsBy (asserted (assertion true false s))) begun)
+  unfolding movers
   match-who e = ap (λ (b : Bool). map guidIn (pick (moves (writerActs Matched s b)) begun)) e
 
   pub still-turn : matchAsserts s ws ≡ false → writersAfter Matched s ws ≡ begun

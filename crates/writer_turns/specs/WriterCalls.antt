@@ -14,12 +14,12 @@ use Rattle.model.specs.declared.TrackerCall.the-variants.{Unmatched, LostWithPa
 use Rattle.model.specs.InstanceCalls.{Turned}
 use Rattle.model.specs.State.{State, stateOf, headOf, writersIn, writersOf}
 use Rattle.model.specs.WellFormed.{within, headOk, writerTableOk, countsOk}
-use Rattle.model.specs.Writers.{trackerCall, isAutomatic}
+use Rattle.model.specs.Writers.{asserted, trackerCall, isAutomatic}
 use Rattle.model.specs.WriterRecord.{writerBytes, livelinessNumbered}
 use Rattle.writer_effects.specs.declared.Assertion.{Assertion}
-use Rattle.writer_pass.specs.declared.Act.the-variants.{Assert}
+use Rattle.writer_effects.specs.Acts.{assertionOf}
 use Rattle.writer_pass.specs.declared.Tally.{Tally}
-use Rattle.writer_pass.specs.Passes.{Sound, actOf, tallyOf}
+use Rattle.writer_pass.specs.Passes.{Sound, tallyOf}
 
 -- the writers are well formed, and so is the head that counts them
 pub record WritersFormed (head : Head) (writers : List ℕ) : Type 0 where
@@ -65,7 +65,7 @@ automatic s = isAutomatic (livelinessNumbered (s .kind))
 
 -- the table after an assertion, and what it leaves by value
 abbrev pub assertedTable : Assertion → ℕ → List ℕ → List ℕ
-assertedTable a count t = lay writerBytes 40 (length t) (map (actOf (Assert a)) (writersIn count t))
+assertedTable a count t = lay writerBytes 40 (length t) (map (asserted (assertionOf a)) (writersIn count t))
 
 abbrev pub assertedTally : Head → Assertion → ℕ → List ℕ → Tally
-assertedTally head a count t = tallyOf (Assert a) (head .«last_writer») (writersIn count t)
+assertedTally head a count t = tallyOf (asserted (assertionOf a)) (head .«last_writer») (writersIn count t)

@@ -3,7 +3,8 @@ use mathlib.Core.Path.{ap, _∙_}
 use borrow.Author.Needs.{needs}
 use Rattle.writer_turns.specs.Turns.{calledBy}
 use Rattle.writer_turns.proofs.Calling.{room-pass}
-use Rattle.writer_pass.specs.declared.Act.the-variants.{Assert}
+use Rattle.writer_effects.specs.Acts.{assertionOf}
+use Rattle.model.specs.Writers.{asserted}
 use Rattle.model.proofs.RowLaws.{length-read}
 use Rattle.model.specs.State.{writersIn}
 use Rattle.model.specs.WriterRecord.{writerOf}
@@ -17,7 +18,7 @@ called-requires : tie.Need-called-requires
 called-requires c κs =
     let k = c .before .before in
     let a = k .before .before .before in
-    room-pass (a .args .head) (a .args .count) (a .args .writers .now) (a .pre) (Assert (a .args .a)) (a .args .head .«last_writer») (k .pass .result)
+    room-pass (a .args .head) (a .args .count) (a .args .writers .now) (a .pre) (asserted (assertionOf (a .args .a))) (a .args .head .«last_writer») (k .pass .result)
     (writersIn (a .args .count) (a .args .writers .now)) (rw (length-read writerOf 40 (a .args .count) (a .args .writers .now)) (a .pre .sound .few))
     (k .pass .ensures .1)
 

@@ -1,31 +1,29 @@
 -- `writer_pass::pass` meets its contract. Assumes nothing.
 use Prim.Native.Nat.{_-_}
 use native.Mathlib.Omega.{arith}
-use Rattle.writer_pass.proofs.Passing.{During, start, bounded-at, turn, end}
+use Rattle.writer_effects.specs.Acts.{assertionOf}
+use Rattle.writer_pass.proofs.Passing.{During, start, turn, end}
 use Rattle.writer_pass.proofs.pass.Statement.{statement}
 use Rattle.writer_pass.proofs.pass.Tie as tie
 
 abbrev Inv-loop : tie.InvT-loop
-Inv-loop t₀ count act tally₀ i₀ t tally i = During act (tally₀ .last) t₀ count t tally i
+Inv-loop t₀ count a tally₀ i₀ t tally i = During (assertionOf a) (tally₀ .last) t₀ count t tally i
 
 abbrev μ-loop : tie.MeasureT-loop
-μ-loop t₀ count act tally₀ i₀ t tally i = count - i
+μ-loop t₀ count a tally₀ i₀ t tally i = count - i
 
 loop-holds : tie.Need-loop-holds Inv-loop μ-loop
 loop-holds c =
-    start (c .before .args .act) (c .before .args .last) (c .before .args .t .now) (c .before .args .count) (λ j. (c .slice-known .given) j .fits)
+    start (assertionOf (c .before .args .a)) (c .before .args .last) (c .before .args .t .now) (c .before .args .count) (λ j. (c .slice-known .given) j .fits)
     (c .before .pre)
 
 pass-at-requires : tie.Need-pass-at-requires Inv-loop μ-loop
 pass-at-requires c κs =
-    let l = (c .before .before .loop) in
     let s = (c .before .before .before .before) in (
       omega (arith, s .pre),
       omega (arith, s .pre),
       omega (arith, s .pre),
       omega (arith, s .pre),
-      bounded-at (s .args .act) (s .args .last) (s .args .t .now) (s .args .count) (λ j. (c .before .before .before .slice-known .given) j .fits)
-          (s .pre) (l .t) (l .tally) (l .i) (l .inv) (omega arith),
     )
 
 add-i : tie.Need-add-i Inv-loop μ-loop
@@ -42,7 +40,7 @@ loop-again c =
     let p = n .before in
     let l = (m .loop) in
     let s = (p) in
-    turn (s .args .act) (s .args .last) (s .args .t .now) (s .args .count) (λ j. (n .slice-known .given) j .fits) (s .pre) (l .t) (l .tally) (l .i)
+    turn (assertionOf (s .args .a)) (s .args .last) (s .args .t .now) (s .args .count) (λ j. (n .slice-known .given) j .fits) (s .pre) (l .t) (l .tally) (l .i)
     (l .inv) (omega arith) (k .pass-at .last .0) (k .pass-at .result) (k .pass-at .ensures .0) (k .pass-at .ensures .1)
 
 same-length : tie.Need-same-length Inv-loop μ-loop
@@ -52,7 +50,7 @@ returns : tie.Need-returns Inv-loop μ-loop
 returns c =
     let l = (c .before .loop) in
     let s = (c .before .before .before) in
-    end (s .args .act) (s .args .last) (s .args .t .now) (s .args .count) (λ j. (c .before .before .slice-known .given) j .fits) (s .pre) (l .t)
+    end (assertionOf (s .args .a)) (s .args .last) (s .args .t .now) (s .args .count) (λ j. (c .before .before .slice-known .given) j .fits) (s .pre) (l .t)
     (l .tally) (l .i) (l .inv) (omega arith)
 
 pub pass-spec : {M : Type 1} → statement M

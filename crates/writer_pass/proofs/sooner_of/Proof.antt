@@ -2,23 +2,20 @@
 use Prim.Native.Nat.{_≤_}
 use native.Mathlib.Nat.{min-eq-left, min-eq-right}
 use native.Mathlib.Omega.{arith}
-use borrow.Author.Needs.{needs}
 use Rattle.writer_pass.proofs.sooner_of.Statement.{statement}
 use Rattle.writer_pass.proofs.sooner_of.Tie as tie
 
-due-at-requires : tie.Need-due-at-requires
-due-at-requires c κs = search needs
-
 returns : tie.Need-returns
-returns c = rw ((c .before .before .if1 .taken), ← (c .before .before .before .due-at .ensures), min-eq-right (c .if2 .taken))
+returns c = rw ((c .before .before .if1 .taken), min-eq-right (c .if2 .taken))
 
 returns-2 : tie.Need-returns-2
 returns-2 c =
-    let h : (c .before .before .before .due-at .result) ≤ (c .before .before .before .before .args .d .at) = omega (arith, (c .if2 .left)) in
-    rw ((c .before .before .if1 .taken), ← (c .before .before .before .due-at .ensures), min-eq-left h)
+    let a = c .before .before .before .args in
+    let h : (a .due) ≤ (a .d .at) = omega (arith, (c .if2 .left)) in
+    rw ((c .before .before .if1 .taken), min-eq-left h)
 
 returns-3 : tie.Need-returns-3
-returns-3 c = rw ((c .if1 .left), (c .before .due-at .ensures))
+returns-3 c = rw (c .if1 .left)
 
 pub sooner-of-spec : {M : Type 1} → statement M
-sooner-of-spec = tie.close (tie.spec due-at-requires returns returns-2 returns-3)
+sooner-of-spec = tie.close (tie.spec returns returns-2 returns-3)

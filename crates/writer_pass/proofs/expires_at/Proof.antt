@@ -1,0 +1,22 @@
+-- `writer_pass::expires_at` meets its contract. Assumes nothing.
+use Rattle.model.specs.Writers.{expires}
+use borrow.Author.Needs.{needs}
+use Rattle.writer_pass.proofs.expires_at.Statement.{statement}
+use Rattle.writer_pass.proofs.expires_at.Tie as tie
+
+leased-at-requires : tie.Need-leased-at-requires
+leased-at-requires c κs = search needs
+
+due-at-requires : tie.Need-due-at-requires
+due-at-requires c κs = search needs
+
+returns : tie.Need-returns
+unfolding expires
+returns c = rw (← (c .before .before .leased-at .ensures), (c .before .if1 .taken), (c .due-at .ensures))
+
+returns-2 : tie.Need-returns-2
+unfolding expires
+returns-2 c = rw (← (c .before .leased-at .ensures), (c .if1 .left))
+
+pub expires-at-spec : {M : Type 1} → statement M
+expires-at-spec = tie.close (tie.spec leased-at-requires due-at-requires returns returns-2)
