@@ -1,30 +1,35 @@
--- Keys that rise from one record to the next rise.
---     steps         each key is above the one before it, the first above n
---     steps-rise    that is to say, all are above n and they rise
---     rise-start, rise-turn, rise-stop, rise-end    the loop over the GUIDs of a writer set
+-- GUIDs end to end that rise from one to the next rise.
+--     high-decides                      of two numbers of two digits, where the high ones differ
+--     rise-two                          keys rise where the first is below the second and those from the second on rise
+--     next                              the GUID at a place is below the one behind it
+--     rise-few, rise-next, rise-six     none or one, two and six of them
+--     rise-stop, rise-turn              the first ones do not rise, or do: then the rest decides
 -- Assumes nothing.
-use Prim.Native.Nat.{ℕ, _+_, _-_, _*_, _≤_, _<_}
-use mathlib.Core.Bool.{Bool, true, false, _&&_, and-false}
+use Prim.Native.Nat.{ℕ, zero, suc, _+_, _-_, _*_, _≤_, _<_}
+use mathlib.Core.Bool.{Bool, true, false, _&&_, and-true, and-false, and-assoc}
 use mathlib.Core.Path.{_≡_, refl, sym, ap, _∙_}
 use mathlib.Core.List.{List, [], _∷_}
+use native.Mathlib.Nat.{le-of-lt}
 use native.Mathlib.Omega.{arith}
 use lib.Dec.{ltb}
-use lib.ListN.{drop}
-use borrow.Author.Tests.{ltb-true, lt-ltb}
+use lib.ListN.{take, drop}
+use lib.Seq.{drop-drop}
+use borrow.Author.Tests.{ltb-true, ltb-false, lt-ltb, le-ltb}
 use Rattle.model.proofs.Tests.{both}
-use Rattle.model.specs.declared.Guid.{Guid}
 use Rattle.model.specs.Guids.{num, less, guidAt, guidOf, guidsIn}
 use Rattle.model.specs.Layout.{readRows}
 use Rattle.model.specs.Tables.{above, rising}
-use Rattle.model.proofs.RowLaws.{read-cons}
-use Rattle.instance_record.proofs.Rows.{guid-in}
+use Rattle.model.proofs.GuidLaws.{guid-part}
+use Rattle.guid.proofs.Digits.{digit-lt}
+
+pub high-decides : (m h h′ l l′ : ℕ) → l < m → l′ < m → (h ≡ h′ → ⊥) → ltb (h * m + l) (h′ * m + l′) ≡ ltb h h′
+high-decides m h h′ l l′ p p′ n = each (ltb h h′) refl
+  where
+    each : (t : Bool) → ltb h h′ ≡ t → ltb (h * m + l) (h′ * m + l′) ≡ t
+    each true q = lt-ltb (h * m + l) (h′ * m + l′) (digit-lt m l′ p (ltb-true h h′ q))
+    each false q = le-ltb (h * m + l) (h′ * m + l′) (le-of-lt (digit-lt m l p′ (omega (arith, ltb-false h h′ q))))
 
 module _ {A : Type 0} (key : A → ℕ) where
-  -- each key is above the one before it, the first above n
-  unfoldable pub steps : ℕ → List A → Bool
-  steps n [] = true
-  steps n (x ∷ xs) = ltb n (key x) && steps (key x) xs
-
   above-lower : (m n : ℕ) (xs : List A) → n < m → above key m xs ≡ true → above key n xs ≡ true
   unfolding above
   above-lower m n [] l h = refl
@@ -32,44 +37,72 @@ module _ {A : Type 0} (key : A → ℕ) where
       let p = both (ltb m (key x)) (above key m xs) h in
       rw (lt-ltb n (key x) (omega (arith, ltb-true m (key x) (p .0))), above-lower m n xs l (p .1))
 
-  pub steps-rise : (n : ℕ) (xs : List A) → steps n xs ≡ (above key n xs && rising key xs)
-  unfolding steps above rising
-  steps-rise n [] = refl
-  steps-rise n (x ∷ xs) = rw (steps-rise (key x) xs) (each (ltb n (key x)) (above key (key x) xs) refl refl)
+  pub rise-two : (x y : A) (xs : List A) → rising key (x ∷ y ∷ xs) ≡ (ltb (key x) (key y) && rising key (y ∷ xs))
+  unfolding above rising
+  rise-two x y xs = each (ltb (key x) (key y)) (above key (key y) xs) refl refl
     where
-      each : (a b : Bool) → ltb n (key x) ≡ a → above key (key x) xs ≡ b → (a && (b && rising key xs)) ≡ ((a && above key n xs) && (b && rising key xs))
+      each : (a b : Bool) → ltb (key x) (key y) ≡ a → above key (key y) xs ≡ b → ((a && above key (key x) xs) && (b && rising key xs)) ≡ (a && (b && rising key xs))
       each false b p q = refl
-      each true false p q = sym (and-false (above key n xs))
-      each true true p q = rw (above-lower (key x) n xs (ltb-true n (key x) p) q)
+      each true false p q = and-false (above key (key x) xs)
+      each true true p q = rw (above-lower (key y) (key x) xs (ltb-true (key x) (key y) p) q)
 
-  pub rise-steps : (x : A) (xs : List A) → rising key (x ∷ xs) ≡ steps (key x) xs
-  unfolding rising
-  rise-steps x xs = sym (steps-rise (key x) xs)
+module _ (s : List ℕ) where
+  -- the GUID of the 16 bytes from at is below that of the next 16
+  abbrev pub next : ℕ → Bool
+  next at = less (guidAt s at) (guidAt s (at + 16))
 
--- the GUIDs of a set of n from number i on
-abbrev pub guidsFrom : List ℕ → ℕ → ℕ → List Guid
-guidsFrom s n i = guidsIn (n - i) (drop (i * 16) (drop 256 s))
+  -- so is each of the k from at on
+  abbrev steps : ℕ → ℕ → Bool
+  steps zero at = true
+  steps (suc k) at = next at && steps k (at + 16)
 
-module _ (s : List ℕ) (n : ℕ) where
-  guids-cons : (i : ℕ) (g : Guid) → i < n → g ≡ guidAt s (256 + i * 16) → guidsFrom s n i ≡ g ∷ guidsFrom s n (i + 1)
-  guids-cons i g h e = read-cons guidOf 16 n i (drop 256 s) h ∙ rw (guid-in s i, e)
+  first : (n at : ℕ) → guidsIn (suc n) (drop at s) ≡ guidAt s at ∷ guidsIn n (drop (at + 16) s)
+  unfolding readRows
+  first n at = rw (guid-part 16 at s (omega arith), drop-drop 16 at s)
 
-  pub rise-start : (g : Guid) → 0 < n → g ≡ guidAt s 256 → rising num (guidsIn n (drop 256 s)) ≡ steps num (num g) (guidsFrom s n 1)
-  rise-start g h e =
-      let z : n - 0 ≡ n = omega arith in
-      ap (λ (m : ℕ). rising num (guidsIn m (drop 256 s))) (sym z) ∙ ap (rising num) (guids-cons 0 g h e) ∙ rise-steps num g (guidsFrom s n 1)
+  pub rise-few : (n at : ℕ) → n ≤ 1 → rising num (guidsIn n (drop at s)) ≡ true
+  unfolding rising above readRows
+  rise-few zero at h = refl
+  rise-few (suc zero) at h = refl
+  rise-few (suc (suc n)) at h = absurd (omega arith)
 
-  module _ (i : ℕ) (last g : Guid) (h : i < n) (e : g ≡ guidAt s (256 + i * 16)) where
-    next : steps num (num last) (guidsFrom s n i) ≡ (less last g && steps num (num g) (guidsFrom s n (i + 1)))
-    unfolding steps
-    next = rw (guids-cons i g h e)
+  rise-steps : (k at : ℕ) → rising num (guidsIn (suc k) (drop at s)) ≡ steps k at
+  rise-steps zero at = rise-few 1 at (omega arith)
+  rise-steps (suc k) at =
+      ap (rising num) (first (suc k) at ∙ rw (first k (at + 16)))
+      ∙ rise-two num (guidAt s at) (guidAt s (at + 16)) (guidsIn k (drop (at + 16 + 16) s))
+      ∙ rw (← first k (at + 16), rise-steps k (at + 16))
 
-    pub rise-turn : less last g ≡ true → steps num (num last) (guidsFrom s n i) ≡ steps num (num g) (guidsFrom s n (i + 1))
-    rise-turn p = next ∙ rw p
+  steps-add : (j k at : ℕ) → steps (j + k) at ≡ (steps j at && steps k (at + j * 16))
+  steps-add zero k at = let e : at + zero * 16 ≡ at = omega arith in let f : zero + k ≡ k = omega arith in rw (e, f)
+  steps-add (suc j) k at =
+      let e : at + 16 + j * 16 ≡ at + suc j * 16 = omega arith in
+      let f : suc j + k ≡ suc (j + k) = omega arith in
+      rw (f, steps-add j k (at + 16), e) (sym (and-assoc (next at) (steps j (at + 16)) (steps k (at + suc j * 16))))
 
-    pub rise-stop : less last g ≡ false → steps num (num last) (guidsFrom s n i) ≡ false
-    rise-stop p = next ∙ rw p
+  -- the first of n GUIDs up to number j, and those from it on
+  module _ (j n at : ℕ) (h : j < n) where
+    parts : rising num (guidsIn n (drop at s)) ≡ (rising num (guidsIn (suc j) (drop at s)) && rising num (guidsIn (n - j) (drop (at + j * 16) s)))
+    parts =
+        let k : ℕ = n - suc j in
+        let e : n ≡ suc (j + k) = omega arith in
+        let f : n - j ≡ suc k = omega arith in
+        rw (f, rise-steps j at, rise-steps k (at + j * 16))
+        (ap (λ (m : ℕ). rising num (guidsIn m (drop at s))) e ∙ rise-steps (j + k) at ∙ steps-add j k at)
 
-  pub rise-end : (i : ℕ) (last : Guid) → n ≤ i → steps num (num last) (guidsFrom s n i) ≡ true
-  unfolding steps readRows
-  rise-end i last h = let e : n - i ≡ 0 = omega arith in rw e
+    pub rise-stop : rising num (guidsIn (suc j) (drop at s)) ≡ false → rising num (guidsIn n (drop at s)) ≡ false
+    rise-stop p = parts ∙ rw p
+
+    pub rise-turn : rising num (guidsIn (suc j) (drop at s)) ≡ true → rising num (guidsIn n (drop at s)) ≡ rising num (guidsIn (n - j) (drop (at + j * 16) s))
+    rise-turn p = parts ∙ rw p
+
+  pub rise-next : (at : ℕ) → rising num (guidsIn 2 (drop at s)) ≡ next at
+  rise-next at = rise-steps 1 at ∙ and-true (next at)
+
+  pub rise-six : (at : ℕ) {a b c d e : Bool} → next at ≡ a → next (at + 16) ≡ b → next (at + 32) ≡ c → next (at + 48) ≡ d → next (at + 64) ≡ e →
+      (a && (b && (c && (d && e)))) ≡ rising num (guidsIn 6 (drop at s))
+  rise-six at {e = e} p q r u v =
+      let x : at + 16 + 16 ≡ at + 32 = omega arith in
+      let y : at + 32 + 16 ≡ at + 48 = omega arith in
+      let z : at + 48 + 16 ≡ at + 64 = omega arith in
+      sym (rise-steps 5 at ∙ rw (p, q, x, r, y, u, z, v, and-true e))

@@ -1,71 +1,56 @@
--- `set_rises` meets its contract: what is left rises from the last GUID on. The measure is how many are left. Assumes nothing.
-use Prim.Native.Nat.{_-_, _≤_}
-use mathlib.Core.Path.{_≡_, sym, _∙_}
+-- `set_rises` meets its contract: what is left rises where all do. The measure is how many are left. Assumes nothing.
+use Prim.Native.Nat.{_+_, _*_, _≤_}
+use mathlib.Core.Path.{_≡_, refl, sym, _∙_}
 use native.Mathlib.Omega.{arith}
 use lib.ListN.{drop}
-use Rattle.model.specs.Guids.{num, guidsIn}
-use Rattle.instance_validity.proofs.Rise.{steps, guidsFrom, rise-start, rise-turn, rise-stop, rise-end}
-use Rattle.model.specs.Layout.{readRows}
-use Rattle.model.specs.Tables.{rising}
 use borrow.Author.Tests.{not-true, not-false}
-use borrow.Author.Needs.{needs}
+use Rattle.model.specs.Guids.{num, guidsIn}
+use Rattle.model.specs.Tables.{rising}
+use Rattle.instance_validity.proofs.Rise.{rise-stop, rise-turn}
 use Rattle.instance_validity.proofs.set_rises.Statement.{statement}
 use Rattle.instance_validity.proofs.set_rises.Tie as tie
 
 abbrev Inv-loop : tie.InvT-loop
-Inv-loop s n last₀ i₀ last i = (1 ≤ i) × (i ≤ n) × (rising num (guidsIn n (drop 256 s)) ≡ steps num (num last) (guidsFrom s n i))
+Inv-loop s n at₀ left₀ at left = (left ≤ n) × (at + left * 16 ≡ 256 + n * 16) × (rising num (guidsIn n (drop 256 s)) ≡ rising num (guidsIn left (drop at s)))
 
 abbrev μ-loop : tie.MeasureT-loop
-μ-loop s n last₀ i₀ last i = n - i
-
-returns : tie.Need-returns Inv-loop μ-loop
-unfolding readRows rising
-returns c = rw (c .if1 .taken)
-
-guid-at-requires : tie.Need-guid-at-requires Inv-loop μ-loop
-guid-at-requires c κs = search needs
+μ-loop s n at₀ left₀ at left = left
 
 loop-holds : tie.Need-loop-holds Inv-loop μ-loop
-loop-holds c = (omega arith, omega arith, rise-start (c .before .before .before .args .s .now) (c .before .before .before .args .n) (c .guid-at .result) (omega arith) (c .guid-at .ensures))
+loop-holds c = (omega arith, omega arith, refl)
 
-mul-guid-at : tie.Need-mul-guid-at Inv-loop μ-loop
-mul-guid-at c = omega arith
+six-rise-requires : tie.Need-six-rise-requires Inv-loop μ-loop
+six-rise-requires c κs = omega arith
 
-add-guid-at : tie.Need-add-guid-at Inv-loop μ-loop
-add-guid-at c = omega arith
+returns : tie.Need-returns Inv-loop μ-loop
+returns c =
+    let a = c .before .before .before .before .before .args in
+    let l = c .before .before .before .loop in
+    sym (l .inv .2 ∙ rise-stop (a .s .now) 5 (l .left) (l .at) (omega arith) (sym (c .before .six-rise .ensures) ∙ not-true _ (c .if1 .taken)))
 
-guid-at-requires-2 : tie.Need-guid-at-requires-2 Inv-loop μ-loop
-guid-at-requires-2 c κs = omega arith
+add-at : tie.Need-add-at Inv-loop μ-loop
+add-at c = omega arith
 
-is-less-requires : tie.Need-is-less-requires Inv-loop μ-loop
-is-less-requires c κs = search needs
-
-returns-2 : tie.Need-returns-2 Inv-loop μ-loop
-returns-2 c =
-    let a = c .before .before .before .before .before .before .before .before .args in
-    let l = c .before .before .before .before .loop in
-    sym (l .inv .2 ∙ rise-stop (a .s .now) (a .n) (l .i) (l .last) (c .before .before .guid-at2 .result) (omega arith) (c .before .before .guid-at2 .ensures) (sym (c .before .is-less .ensures) ∙ not-true _ (c .if2 .taken)))
-
-add-i : tie.Need-add-i Inv-loop μ-loop
-add-i c = omega arith
+sub-left : tie.Need-sub-left Inv-loop μ-loop
+sub-left c = omega arith
 
 loop-less : tie.Need-loop-less Inv-loop μ-loop
 loop-less c = omega arith
 
 loop-again : tie.Need-loop-again Inv-loop μ-loop
 loop-again c =
-    let a = c .before .before .before .before .before .before .before .before .args in
-    let l = c .before .before .before .before .loop in (
+    let a = c .before .before .before .before .before .args in
+    let l = c .before .before .before .loop in (
       omega arith,
       omega arith,
-      l .inv .2 ∙ rise-turn (a .s .now) (a .n) (l .i) (l .last) (c .before .before .guid-at2 .result) (omega arith) (c .before .before .guid-at2 .ensures) (sym (c .before .is-less .ensures) ∙ not-false _ (c .if2 .left)),
+      l .inv .2 ∙ rise-turn (a .s .now) 5 (l .left) (l .at) (omega arith) (sym (c .before .six-rise .ensures) ∙ not-false _ (c .if1 .left)),
     )
 
-returns-3 : tie.Need-returns-3 Inv-loop μ-loop
-returns-3 c =
-    let a = c .before .before .before .before .before .args in
-    let l = c .before .loop in
-    sym (l .inv .2 ∙ rise-end (a .s .now) (a .n) (l .i) (l .last) (omega arith))
+few-rise-requires : tie.Need-few-rise-requires Inv-loop μ-loop
+few-rise-requires c κs = omega arith
+
+returns-2 : tie.Need-returns-2 Inv-loop μ-loop
+returns-2 c = c .few-rise .ensures ∙ sym (c .before .before .loop .inv .2)
 
 pub set-rises-spec : {M : Type 1} → statement M
 set-rises-spec =
@@ -73,15 +58,12 @@ set-rises-spec =
     (tie.spec
     Inv-loop
     μ-loop
-    returns
-    guid-at-requires
     loop-holds
-    mul-guid-at
-    add-guid-at
-    guid-at-requires-2
-    is-less-requires
-    returns-2
-    add-i
+    six-rise-requires
+    returns
+    add-at
+    sub-left
     loop-less
     loop-again
-    returns-3)
+    few-rise-requires
+    returns-2)

@@ -1,0 +1,66 @@
+-- `few_rise` meets its contract: what is left rises where all do. The measure is how many are left. Assumes nothing.
+use Prim.Native.Nat.{_+_, _*_}
+use mathlib.Core.Path.{_≡_, refl, sym, _∙_}
+use native.Mathlib.Omega.{arith}
+use lib.ListN.{drop}
+use borrow.Author.Tests.{not-true, not-false}
+use Rattle.model.specs.Guids.{num, guidsIn}
+use Rattle.model.specs.Tables.{rising}
+use Rattle.instance_validity.proofs.Rise.{rise-few, rise-next, rise-stop, rise-turn}
+use Rattle.instance_validity.proofs.few_rise.Statement.{statement}
+use Rattle.instance_validity.proofs.few_rise.Tie as tie
+
+abbrev Inv-loop : tie.InvT-loop
+Inv-loop s from n at₀ left₀ at left = (at + left * 16 ≡ from + n * 16) × (rising num (guidsIn n (drop from s)) ≡ rising num (guidsIn left (drop at s)))
+
+abbrev μ-loop : tie.MeasureT-loop
+μ-loop s from n at₀ left₀ at left = left
+
+loop-holds : tie.Need-loop-holds Inv-loop μ-loop
+loop-holds c = (omega arith, refl)
+
+next-above-requires : tie.Need-next-above-requires Inv-loop μ-loop
+next-above-requires c κs = omega arith
+
+returns : tie.Need-returns Inv-loop μ-loop
+returns c =
+    let a = c .before .before .before .before .before .args in
+    let l = c .before .before .before .loop in
+    sym (l .inv .1 ∙ rise-stop (a .s .now) 1 (l .left) (l .at) (omega arith) (rise-next (a .s .now) (l .at) ∙ sym (c .before .next-above .ensures) ∙ not-true _ (c .if1 .taken)))
+
+add-at : tie.Need-add-at Inv-loop μ-loop
+add-at c = omega arith
+
+sub-left : tie.Need-sub-left Inv-loop μ-loop
+sub-left c = omega arith
+
+loop-less : tie.Need-loop-less Inv-loop μ-loop
+loop-less c = omega arith
+
+loop-again : tie.Need-loop-again Inv-loop μ-loop
+loop-again c =
+    let a = c .before .before .before .before .before .args in
+    let l = c .before .before .before .loop in (
+      omega arith,
+      l .inv .1 ∙ rise-turn (a .s .now) 1 (l .left) (l .at) (omega arith) (rise-next (a .s .now) (l .at) ∙ sym (c .before .next-above .ensures) ∙ not-false _ (c .if1 .left)),
+    )
+
+returns-2 : tie.Need-returns-2 Inv-loop μ-loop
+returns-2 c =
+    let l = c .before .loop in
+    sym (l .inv .1 ∙ rise-few (c .before .before .before .args .s .now) (l .left) (l .at) (omega arith))
+
+pub few-rise-spec : {M : Type 1} → statement M
+few-rise-spec =
+    tie.close
+    (tie.spec
+    Inv-loop
+    μ-loop
+    loop-holds
+    next-above-requires
+    returns
+    add-at
+    sub-left
+    loop-less
+    loop-again
+    returns-2)
