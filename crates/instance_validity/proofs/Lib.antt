@@ -2,3 +2,4 @@
 pub mod Nil
 pub mod Rise
 pub mod Valid
+pub mod Zeros

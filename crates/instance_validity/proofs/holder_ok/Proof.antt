@@ -17,28 +17,28 @@ returns : tie.Need-returns
 unfolding holderOk
 returns c = rw (← c .before .before .get-u16 .ensures, eq-eqb _ 1 (c .before .if1 .taken), lt-leb _ _ (c .if2 .taken))
 
-add-zero-between : tie.Need-add-zero-between
-add-zero-between c = search needs
+add-zero-tail : tie.Need-add-zero-tail
+add-zero-tail c = search needs
 
-zero-between-requires : tie.Need-zero-between-requires
-zero-between-requires c κs = search needs
+zero-tail-requires : tie.Need-zero-tail-requires
+zero-tail-requires c κs = search needs
 
 returns-2 : tie.Need-returns-2
 unfolding holderOk
 returns-2 c =
     rw (← c .before .before .before .get-u16 .ensures, eq-eqb _ 1 (c .before .before .if1 .taken), le-leb _ _ (c .before .if2 .left))
-    (c .zero-between .ensures ∙ sym (holder-tail (c .before .before .before .before .before .args .s .now) (c .before .before .before .get-u16 .result)))
+    (c .zero-tail .ensures ∙ sym (holder-tail (c .before .before .before .before .before .args .s .now) (c .before .before .before .get-u16 .result)))
 
 returns-3 : tie.Need-returns-3
 unfolding holderOk
 returns-3 c = rw (← c .before .before .get-u16 .ensures, ne-eqb _ 1 (c .before .if1 .left), ne-eqb _ 0 (c .if3 .taken))
 
-zero-between-requires-2 : tie.Need-zero-between-requires-2
-zero-between-requires-2 c κs = search needs
+zero-tail-requires-2 : tie.Need-zero-tail-requires-2
+zero-tail-requires-2 c κs = search needs
 
 returns-4 : tie.Need-returns-4
 unfolding holderOk
-returns-4 c = rw (← c .before .before .before .get-u16 .ensures, ne-eqb _ 1 (c .before .before .if1 .left), eq-eqb _ 0 (c .before .if3 .left)) (c .zero-between2 .ensures)
+returns-4 c = rw (← c .before .before .before .get-u16 .ensures, ne-eqb _ 1 (c .before .before .if1 .left), eq-eqb _ 0 (c .before .if3 .left)) (c .zero-tail2 .ensures)
 
 pub holder-ok-spec : {M : Type 1} → statement M
 holder-ok-spec =
@@ -47,9 +47,9 @@ holder-ok-spec =
     get-u16-requires
     cast-n
     returns
-    add-zero-between
-    zero-between-requires
+    add-zero-tail
+    zero-tail-requires
     returns-2
     returns-3
-    zero-between-requires-2
+    zero-tail-requires-2
     returns-4)
