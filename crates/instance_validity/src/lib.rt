@@ -1,5 +1,5 @@
 // Whether the 512 bytes of an instance are well formed. Each function works on one record, lent as a slice of its own, so that
-// the offsets are the document's. No early exit, since a record is nearly always valid.
+// the offsets are the document's.
 //
 // Derives from instance_tracker.rs of ZeroDDS.
 // Copyright 2026 ZeroDDS Contributors. SPDX-License-Identifier: Apache-2.0. Changed: written anew in Rattle, with the
@@ -34,13 +34,22 @@ fn times_ok(s: &[u8], f: u16) -> bool
     requires { ⌜ length (now s) ≡ 512 ⌝ }
     ensures { λ r. ⌜ r ≡ timesOk (timesOf (now (s .entry)) f) ⌝ }
 {
-    let a = time_ok(s, 44, f / 4096 % 2 == 1);
-    let b = time_ok(s, 52, f / 2048 % 2 == 1);
-    let c = time_ok(s, 60, f / 1024 % 2 == 1);
-    let d = time_ok(s, 68, f / 512 % 2 == 1);
-    let e = time_ok(s, 76, f / 256 % 2 == 1);
-    let g = time_ok(s, 84, f / 64 % 2 == 1);
-    a & (b & (c & (d & (e & g))))
+    if !time_ok(s, 44, f / 4096 % 2 == 1) {
+        return false;
+    }
+    if !time_ok(s, 52, f / 2048 % 2 == 1) {
+        return false;
+    }
+    if !time_ok(s, 60, f / 1024 % 2 == 1) {
+        return false;
+    }
+    if !time_ok(s, 68, f / 512 % 2 == 1) {
+        return false;
+    }
+    if !time_ok(s, 76, f / 256 % 2 == 1) {
+        return false;
+    }
+    time_ok(s, 84, f / 64 % 2 == 1)
 }
 
 // The kind is one of three, and the generations are not negative.
@@ -196,8 +205,10 @@ fn set_ok(s: &[u8], f: u16) -> bool
     if 16 < n {
         return false;
     }
-    let rises = set_rises(s, n);
-    rises & octets::zero_from(s, 256 + n * 16)
+    if !set_rises(s, n) {
+        return false;
+    }
+    octets::zero_from(s, 256 + n * 16)
 }
 
 // Whether the record is well formed.
@@ -206,10 +217,17 @@ pub fn record_ok(s: &[u8]) -> bool
     ensures { λ r. ⌜ r ≡ recordOk (now (s .entry)) ⌝ }
 {
     let f = octets::get_u16(s, 24);
-    let a = life_ok(s, f);
-    let b = times_ok(s, f);
-    let c = owner_ok(s, f);
-    let d = holder_ok(s, f);
-    let e = set_ok(s, f);
-    a & (b & (c & (d & e)))
+    if !life_ok(s, f) {
+        return false;
+    }
+    if !times_ok(s, f) {
+        return false;
+    }
+    if !owner_ok(s, f) {
+        return false;
+    }
+    if !holder_ok(s, f) {
+        return false;
+    }
+    set_ok(s, f)
 }

@@ -1,6 +1,7 @@
--- `record_ok` meets its contract: its callees' equations say so. Assumes nothing.
-use mathlib.Core.Path.{sym}
-use Rattle.instance_validity.proofs.Valid.{record-parts}
+-- `record_ok` meets its contract: the first part that is not well formed makes the whole fail. Assumes nothing.
+use mathlib.Core.Path.{refl, sym, _∙_}
+use borrow.Author.Tests.{not-true, not-false}
+use Rattle.instance_validity.proofs.Valid.{record-by}
 use borrow.Author.Needs.{needs}
 use Rattle.instance_validity.proofs.record_ok.Statement.{statement}
 use Rattle.instance_validity.proofs.record_ok.Tie as tie
@@ -11,23 +12,67 @@ get-u16-requires c κs = search needs
 life-ok-requires : tie.Need-life-ok-requires
 life-ok-requires c κs = search needs
 
+returns : tie.Need-returns
+returns c =
+    let f = c .before .before in
+    record-by (f .before .before .args .s .now) (f .get-u16 .result) (f .get-u16 .ensures)
+    (sym (c .before .life-ok .ensures) ∙ not-true _ (c .if1 .taken))
+    refl
+    refl
+    refl
+    refl
+
 times-ok-requires : tie.Need-times-ok-requires
 times-ok-requires c κs = search needs
+
+returns-2 : tie.Need-returns-2
+returns-2 c =
+    let f = c .before .before .before .before in
+    record-by (f .before .before .args .s .now) (f .get-u16 .result) (f .get-u16 .ensures)
+    (sym (c .before .before .before .life-ok .ensures) ∙ not-false _ (c .before .before .if1 .left))
+    (sym (c .before .times-ok .ensures) ∙ not-true _ (c .if2 .taken))
+    refl
+    refl
+    refl
 
 owner-ok-requires : tie.Need-owner-ok-requires
 owner-ok-requires c κs = search needs
 
+returns-3 : tie.Need-returns-3
+returns-3 c =
+    let f = c .before .before .before .before .before .before in
+    record-by (f .before .before .args .s .now) (f .get-u16 .result) (f .get-u16 .ensures)
+    (sym (c .before .before .before .before .before .life-ok .ensures) ∙ not-false _ (c .before .before .before .before .if1 .left))
+    (sym (c .before .before .before .times-ok .ensures) ∙ not-false _ (c .before .before .if2 .left))
+    (sym (c .before .owner-ok .ensures) ∙ not-true _ (c .if3 .taken))
+    refl
+    refl
+
 holder-ok-requires : tie.Need-holder-ok-requires
 holder-ok-requires c κs = search needs
+
+returns-4 : tie.Need-returns-4
+returns-4 c =
+    let f = c .before .before .before .before .before .before .before .before in
+    record-by (f .before .before .args .s .now) (f .get-u16 .result) (f .get-u16 .ensures)
+    (sym (c .before .before .before .before .before .before .before .life-ok .ensures) ∙ not-false _ (c .before .before .before .before .before .before .if1 .left))
+    (sym (c .before .before .before .before .before .times-ok .ensures) ∙ not-false _ (c .before .before .before .before .if2 .left))
+    (sym (c .before .before .before .owner-ok .ensures) ∙ not-false _ (c .before .before .if3 .left))
+    (sym (c .before .holder-ok .ensures) ∙ not-true _ (c .if4 .taken))
+    refl
 
 set-ok-requires : tie.Need-set-ok-requires
 set-ok-requires c κs = search needs
 
-returns : tie.Need-returns
-returns c =
-    let f = c .before .before .before .before .before .get-u16 in
-    rw (c .set-ok .ensures, c .before .holder-ok .ensures, c .before .before .owner-ok .ensures, c .before .before .before .times-ok .ensures, c .before .before .before .before .life-ok .ensures)
-    (sym (record-parts (c .before .before .before .before .before .before .before .args .s .now) (f .result) (f .ensures)))
+returns-5 : tie.Need-returns-5
+returns-5 c =
+    let f = c .before .before .before .before .before .before .before .before .before in
+    record-by (f .before .before .args .s .now) (f .get-u16 .result) (f .get-u16 .ensures)
+    (sym (c .before .before .before .before .before .before .before .before .life-ok .ensures) ∙ not-false _ (c .before .before .before .before .before .before .before .if1 .left))
+    (sym (c .before .before .before .before .before .before .times-ok .ensures) ∙ not-false _ (c .before .before .before .before .before .if2 .left))
+    (sym (c .before .before .before .before .owner-ok .ensures) ∙ not-false _ (c .before .before .before .if3 .left))
+    (sym (c .before .before .holder-ok .ensures) ∙ not-false _ (c .before .if4 .left))
+    (sym (c .set-ok .ensures))
 
 pub record-ok-spec : {M : Type 1} → statement M
 record-ok-spec =
@@ -35,8 +80,12 @@ record-ok-spec =
     (tie.spec
     get-u16-requires
     life-ok-requires
+    returns
     times-ok-requires
+    returns-2
     owner-ok-requires
+    returns-3
     holder-ok-requires
+    returns-4
     set-ok-requires
-    returns)
+    returns-5)

@@ -1,7 +1,8 @@
 -- `set_ok` meets its contract: the test of the length decides what is asked. Assumes nothing.
 use Prim.Native.Nat.{_%_}
+use mathlib.Core.Path.{sym, _∙_}
 use lib.ListN.{drop}
-use borrow.Author.Tests.{lt-leb, le-leb}
+use borrow.Author.Tests.{lt-leb, le-leb, not-true, not-false}
 use Rattle.model.specs.Guids.{guidOf}
 use Rattle.model.specs.WellFormed.{setOk}
 use Rattle.model.proofs.RowLaws.{take-read}
@@ -20,6 +21,13 @@ returns c = rw (lt-leb _ _ (c .if1 .taken))
 set-rises-requires : tie.Need-set-rises-requires
 set-rises-requires c κs = search needs
 
+returns-2 : tie.Need-returns-2
+unfolding setOk
+returns-2 c =
+    let a = c .before .before .before .before .args in
+    let few = c .before .before .if1 .left in
+    rw (le-leb _ _ few, take-read guidOf 16 (a .f % 32) 16 (drop 256 (a .s .now)) few, sym (c .before .set-rises .ensures) ∙ not-true _ (c .if2 .taken))
+
 mul-zero-from : tie.Need-mul-zero-from
 mul-zero-from c = search needs
 
@@ -29,17 +37,18 @@ add-zero-from c = search needs
 zero-from-requires : tie.Need-zero-from-requires
 zero-from-requires c κs = search needs
 
-returns-2 : tie.Need-returns-2
+returns-3 : tie.Need-returns-3
 unfolding setOk
-returns-2 c =
-    let a = c .before .before .before .before .args in
-    let few = c .before .before .if1 .left in
+returns-3 c =
+    let k = c .before .before .before in
+    let a = k .before .before .args in
+    let few = k .if1 .left in
     rw (
       le-leb _ _ few,
       take-read guidOf 16 (a .f % 32) 16 (drop 256 (a .s .now)) few,
-      set-tail (a .s .now) (a .f % 32) (c .before .before .before .before .pre) few,
+      set-tail (a .s .now) (a .f % 32) (k .before .before .pre) few,
+      sym (c .before .before .set-rises .ensures) ∙ not-false _ (c .before .if2 .left),
       c .zero-from .ensures,
-      c .before .set-rises .ensures,
     )
 
 pub set-ok-spec : {M : Type 1} → statement M
@@ -49,7 +58,8 @@ set-ok-spec =
     cast-n
     returns
     set-rises-requires
+    returns-2
     mul-zero-from
     add-zero-from
     zero-from-requires
-    returns-2)
+    returns-3)
