@@ -1,13 +1,12 @@
 -- The test of head and buffers together, from its parts.
 --     formed-by       the whole test, from its parts in the order of the code
 --     parts           its parts, from the whole test
---     few-writers     a well-formed table of writers has at most 128
 -- Assumes nothing.
-use Prim.Native.Nat.{ℕ, _≤_}
-use mathlib.Core.Bool.{Bool, true, _&&_}
+use Prim.Native.Nat.{ℕ}
+use mathlib.Core.Bool.{Bool, true, false, _&&_, and-false}
 use mathlib.Core.List.{List}
-use mathlib.Core.Path.{_≡_, sym}
-use borrow.Author.Tests.{eq-eqb, leb-true}
+use mathlib.Core.Path.{_≡_, refl, sym}
+use borrow.Author.Tests.{eq-eqb}
 use lib.Dec.{eqb}
 use Rattle.model.specs.declared.Head.{Head}
 use Rattle.model.specs.Call.{lentOf}
@@ -15,16 +14,27 @@ use Rattle.model.specs.State.{Lent, writersIn}
 use Rattle.model.specs.WellFormed.{headOk, instanceTableOk, writerTableOk, lostOk, countsOk, wellFormed}
 use Rattle.model.proofs.Tests.{both}
 
-pub formed-by : (places : ℕ) (h : Head) (pens writers lost out : List ℕ) → h .places ≡ places → {a b c d e : Bool} → headOk h ≡ a →
-    instanceTableOk places (h .«instance_count») (h .«next_handle» .0) pens ≡ b → writerTableOk (h .«writer_count») writers ≡ c →
-    lostOk (h .«lost_count») lost ≡ d → countsOk h (writersIn (h .«writer_count») writers) ≡ e →
-    (a && (b && (c && (d && e)))) ≡ wellFormed places (lentOf h pens writers lost out)
-unfolding wellFormed
-formed-by places h pens writers lost out figure p q r s u = sym (rw (eq-eqb (h .places) places figure, p, q, r, s, u))
+counts-first : (w l n : Bool) → (w && (l && n)) ≡ ((w && n) && l)
+counts-first true true true = refl
+counts-first true true false = refl
+counts-first true false n = sym (and-false n)
+counts-first false l n = refl
 
-pub few-writers : (n : ℕ) (t : List ℕ) → writerTableOk n t ≡ true → n ≤ 128
-unfolding writerTableOk
-few-writers n t e = leb-true n 128 (both _ _ e .0)
+pub formed-by : (places : ℕ) (h : Head) (pens writers lost out : List ℕ) → h .places ≡ places → {a b c d : Bool} → headOk h ≡ a →
+    instanceTableOk places (h .«instance_count») (h .«next_handle» .0) pens ≡ b →
+    (writerTableOk (h .«writer_count») writers && countsOk h (writersIn (h .«writer_count») writers)) ≡ c → lostOk (h .«lost_count») lost ≡ d →
+    (a && (b && (c && d))) ≡ wellFormed places (lentOf h pens writers lost out)
+unfolding wellFormed
+formed-by places h pens writers lost out figure p q r s =
+    sym
+    (rw (
+      eq-eqb (h .places) places figure,
+      counts-first (writerTableOk (h .«writer_count») writers) (lostOk (h .«lost_count») lost) (countsOk h (writersIn (h .«writer_count») writers)),
+      p,
+      q,
+      r,
+      s,
+    ))
 
 -- its parts, from the test
 pub record Parts (places : ℕ) (l : Lent) : Type 0 where

@@ -29,13 +29,10 @@ pub fn state_ok(head: Head, pens: &[u8], writers: &[u8], lost: &[u8], places: us
         return false;
     }
     let count = head.writer_count as usize;
-    if !writer_validity::writers_ok(writers, count) {
+    if !writer_validity::writers_ok(head, writers, count) {
         return false;
     }
-    if !writer_validity::lost_ok(lost, head.lost_count as usize) {
-        return false;
-    }
-    writer_validity::counts_ok(head, writers, count)
+    writer_validity::lost_ok(lost, head.lost_count as usize)
 }
 
 // What a call on the instances leaves: another count of them and another next handle.

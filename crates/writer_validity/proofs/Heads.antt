@@ -2,15 +2,13 @@
 --     head-by, sizes-by, alone-by        of the head
 --     acknowledged-as                    what was acknowledged of a count, the change read from its bits
 --     status-made                        the status that is put together
---     counts-off, counts-on              both counts against the records
 --     lost-by                            of Lost
 -- Assumes nothing.
 use Prim.Native.Nat.{ℕ, _+_, _*_}
-use mathlib.Core.Bool.{Bool, false, _&&_}
+use mathlib.Core.Bool.{Bool, _&&_}
 use mathlib.Core.List.{List}
 use mathlib.Core.Path.{_≡_, sym, ap, _∙_}
-use borrow.Author.Tests.{eq-eqb, ne-eqb}
-use lib.Dec.{eqb, leb, ltb}
+use lib.Dec.{leb, ltb}
 use lib.IntN.{ℤ, pos, _-ℤ_}
 use lib.ListN.{drop}
 use mir.Facts.{toZ-ofZ}
@@ -20,13 +18,10 @@ use Rattle.octets.specs.Zeros.{allZero}
 use Rattle.model.specs.declared.Head.{Head}
 use Rattle.model.specs.declared.InstanceHandle.{InstanceHandle}
 use Rattle.model.specs.declared.LivelinessChangedStatus.{LivelinessChangedStatus}
-use Rattle.model.specs.declared.Writer.{Writer}
 use Rattle.model.specs.Reads.{headAlone, headStatus}
-use Rattle.model.specs.State.{figureOk, aliveCount}
-use Rattle.model.specs.WellFormed.{within, headOk, countsOk, lostOk}
+use Rattle.model.specs.State.{figureOk}
+use Rattle.model.specs.WellFormed.{within, headOk, lostOk}
 use Rattle.model.specs.Writers.{publication}
-use Rattle.writer_pass.specs.declared.Counts.{Counts}
-use Rattle.writer_pass.specs.Passes.{countsOf}
 use Rattle.writer_validity.specs.Sizes.{sizesOk}
 
 pub head-by : (h : Head) {a b x y : Bool} → leb 1 (h .«next_handle» .0) ≡ a → leb (h .«next_handle» .0) 9223372036854775808 ≡ b →
@@ -44,16 +39,6 @@ sizes-by h p q r s u = sym (rw (p, q, r, s, u))
 pub alone-by : (h : Head) {a b c : Bool} → figureOk (h .places) ≡ a → headOk h ≡ b → sizesOk h ≡ c → (a && (b && c)) ≡ headAlone h
 unfolding headAlone sizesOk
 alone-by h p q r = sym (rw (p, q, r))
-
-module _ (h : Head) (ws : List Writer) (c : Counts) (e : c ≡ countsOf ws) where
-  pub counts-off : (h .alive ≡ c .alive → ⊥) → false ≡ countsOk h ws
-  unfolding countsOk
-  counts-off n = sym (rw (ne-eqb (h .alive) (aliveCount ws) (λ p. n (p ∙ sym (ap (λ (k : Counts). k .alive) e)))))
-
-  pub counts-on : h .alive ≡ c .alive → eqb (h .«not_alive») (c .«not_alive») ≡ countsOk h ws
-  unfolding countsOk
-  counts-on p =
-      sym (rw (eq-eqb (h .alive) (aliveCount ws) (p ∙ ap (λ (k : Counts). k .alive) e)) (ap (λ (k : Counts). eqb (h .«not_alive») (k .«not_alive»)) (sym e)))
 
 pub acknowledged-as : (count : ℕ) (change : ℤ) {b : Bool} → SFits w32 change → b ≡ within (pos count -ℤ toZ w32 (ofZ w32 change)) →
     within (pos count -ℤ change) ≡ b

@@ -23,13 +23,11 @@ use Rattle.tables.specs.Keys.{keys, rising as rise}
 use Rattle.tables.proofs.RecordLaws.{keys-read, rising-records}
 use Rattle.tables.proofs.RecordTests.{swap}
 use Rattle.writer_record.specs.Records.{sparesIn}
+use Rattle.writer_validity.specs.Agreed.{recordsTest}
 
 -- what is asked of one record by itself
 abbrev pub recordTest : List ℕ → Bool
 recordTest r = sparesIn r && writerOk (writerOf r)
-
-abbrev pub recordsTest : ℕ → List ℕ → Bool
-recordsTest n t = sparesOk n t && all writerOk (writersIn n t)
 
 -- the spare bits and bytes of a table's first record are those of the table's front
 spares-part : (t : List ℕ) → sparesIn (take 40 t) ≡ sparesIn t

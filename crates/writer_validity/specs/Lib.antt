@@ -1,2 +1,3 @@
 -- What the contracts of writer_validity cite beside model's definitions.
 pub mod Sizes
+pub mod Agreed

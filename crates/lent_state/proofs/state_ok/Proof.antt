@@ -1,9 +1,8 @@
 -- `state_ok` meets its contract: the first part of the test that fails makes the whole fail. Assumes nothing.
 use mathlib.Core.Path.{refl, sym, _∙_}
-use native.Mathlib.Omega.{arith}
 use borrow.Author.Needs.{needs}
 use borrow.Author.Tests.{not-true, not-false}
-use Rattle.lent_state.proofs.Formed.{formed-by, few-writers}
+use Rattle.lent_state.proofs.Formed.{formed-by}
 use Rattle.lent_state.proofs.state_ok.Statement.{statement}
 use Rattle.lent_state.proofs.state_ok.Tie as tie
 
@@ -15,7 +14,7 @@ returns c =
     let b = c .before .before .before .before .before in
     let a = b .args in
     λ out. formed-by (a .places) (a .head) (a .pens .now) (a .writers .now) (a .lost .now) out (b .pre .3)
-    (sym (c .before .head-ok .ensures) ∙ not-true _ (c .if1 .taken)) refl refl refl refl
+    (sym (c .before .head-ok .ensures) ∙ not-true _ (c .if1 .taken)) refl refl refl
 
 cast-table-ok : tie.Need-cast-table-ok
 cast-table-ok c = search needs
@@ -29,7 +28,7 @@ returns-2 c =
     let b = d .before .before .before .before .before in
     let a = b .args in
     λ out. formed-by (a .places) (a .head) (a .pens .now) (a .writers .now) (a .lost .now) out (b .pre .3)
-    (sym (d .before .head-ok .ensures) ∙ not-false _ (d .if1 .left)) (sym (c .before .table-ok .ensures) ∙ not-true _ (c .if2 .taken)) refl refl refl
+    (sym (d .before .head-ok .ensures) ∙ not-false _ (d .if1 .left)) (sym (c .before .table-ok .ensures) ∙ not-true _ (c .if2 .taken)) refl refl
 
 cast-count : tie.Need-cast-count
 cast-count c = search needs
@@ -45,7 +44,7 @@ returns-3 c =
     let a = b .args in
     λ out. formed-by (a .places) (a .head) (a .pens .now) (a .writers .now) (a .lost .now) out (b .pre .3)
     (sym (d .before .head-ok .ensures) ∙ not-false _ (d .if1 .left)) (sym (e .before .table-ok .ensures) ∙ not-false _ (e .if2 .left))
-    (sym (c .before .writers-ok .ensures) ∙ not-true _ (c .if3 .taken)) refl refl
+    (sym (c .before .writers-ok .ensures) ∙ not-true _ (c .if3 .taken)) refl
 
 cast-lost-ok : tie.Need-cast-lost-ok
 cast-lost-ok c = search needs
@@ -55,34 +54,14 @@ lost-ok-requires c κs = search needs
 
 returns-4 : tie.Need-returns-4
 returns-4 c =
-    let f = c .before .before .before in
+    let f = c .before .before in
     let e = f .before .before .before in
     let d = e .before .before .before .before in
     let b = d .before .before .before .before .before in
     let a = b .args in
     λ out. formed-by (a .places) (a .head) (a .pens .now) (a .writers .now) (a .lost .now) out (b .pre .3)
     (sym (d .before .head-ok .ensures) ∙ not-false _ (d .if1 .left)) (sym (e .before .table-ok .ensures) ∙ not-false _ (e .if2 .left))
-    (sym (f .before .writers-ok .ensures) ∙ not-false _ (f .if3 .left)) (sym (c .before .lost-ok .ensures) ∙ not-true _ (c .if4 .taken)) refl
-
-counts-ok-requires : tie.Need-counts-ok-requires
-counts-ok-requires c κs =
-    let f = c .before .before .before in
-    let s = f .before .before .before .before .before .before .before .before .before .before .before .before in
-    let few = few-writers (s .args .head .«writer_count») (s .args .writers .now) (sym (f .before .writers-ok .ensures) ∙ not-false _ (f .if3 .left)) in
-    (omega (arith, few), omega (arith, few, s .pre .1))
-
-returns-5 : tie.Need-returns-5
-returns-5 c =
-    let g = c .before in
-    let f = g .before .before .before in
-    let e = f .before .before .before in
-    let d = e .before .before .before .before in
-    let b = d .before .before .before .before .before in
-    let a = b .args in
-    λ out. formed-by (a .places) (a .head) (a .pens .now) (a .writers .now) (a .lost .now) out (b .pre .3)
-    (sym (d .before .head-ok .ensures) ∙ not-false _ (d .if1 .left)) (sym (e .before .table-ok .ensures) ∙ not-false _ (e .if2 .left))
-    (sym (f .before .writers-ok .ensures) ∙ not-false _ (f .if3 .left)) (sym (g .before .lost-ok .ensures) ∙ not-false _ (g .if4 .left))
-    (sym (c .counts-ok .ensures))
+    (sym (f .before .writers-ok .ensures) ∙ not-false _ (f .if3 .left)) (sym (c .lost-ok .ensures))
 
 pub state-ok-spec : {M : Type 1} → statement M
 state-ok-spec =
@@ -98,6 +77,4 @@ state-ok-spec =
     returns-3
     cast-lost-ok
     lost-ok-requires
-    returns-4
-    counts-ok-requires
-    returns-5)
+    returns-4)

@@ -1,46 +1,73 @@
--- `records_ok` meets its contract: what is left of the test is the whole of it. Assumes nothing.
-use Prim.Native.Nat.{_-_, _≤_}
-use mathlib.Core.Path.{_≡_, sym, _∙_}
+-- `records_ok` meets its contract: the pass so far, and the measure is how many records are left. Assumes nothing.
+use Prim.Native.Nat.{_-_, _*_, _/_, _%_}
+use mathlib.Core.Path.{refl}
 use native.Mathlib.Omega.{arith}
+use lib.Dec.{eqb, leb}
+use lib.ListN.{take, drop}
 use borrow.Author.Tests.{not-true, not-false}
-use Rattle.tables.proofs.RecordTests.{testsFrom, tests-start, tests-stop, tests-turn, tests-end}
-use Rattle.writer_validity.proofs.Records.{recordTest, recordsTest, records-first, records-none}
+use Rattle.model.specs.WriterRecord.{writerOf}
+use Rattle.writer_validity.proofs.Values.{alive-read, not-read}
+use Rattle.writer_validity.proofs.Pass.{During, start, stop-key, stop-record, turn, end}
 use Rattle.writer_validity.proofs.records_ok.Statement.{statement}
 use Rattle.writer_validity.proofs.records_ok.Tie as tie
 
 abbrev Inv-loop : tie.InvT-loop
-Inv-loop t count i₀ i = (i ≤ count) × (testsFrom 40 recordTest recordsTest i count t ≡ recordsTest count t)
+Inv-loop t count alive not-alive last₀ a₀ d₀ i₀ last a d i = During count t last a d i
 
 abbrev μ-loop : tie.MeasureT-loop
-μ-loop t count i₀ i = count - i
+μ-loop t count alive not-alive last₀ a₀ d₀ i₀ last a d i = count - i
+
+nil-requires : tie.Need-nil-requires Inv-loop μ-loop
+nil-requires c κs = tt
 
 loop-holds : tie.Need-loop-holds Inv-loop μ-loop
-loop-holds c = (omega arith, tests-start 40 recordTest recordsTest (c .before .args .count) (c .before .args .t .now))
+loop-holds c = start (c .before .before .args .count) (c .before .before .args .t .now) (c .nil .result)
 
-mul-from : tie.Need-mul-from Inv-loop μ-loop
-mul-from c = omega arith
+mul-guid-at : tie.Need-mul-guid-at Inv-loop μ-loop
+mul-guid-at c = omega arith
 
-add-end : tie.Need-add-end Inv-loop μ-loop
-add-end c = omega arith
+guid-at-requires : tie.Need-guid-at-requires Inv-loop μ-loop
+guid-at-requires c κs = omega arith
 
-sub-writer-ok : tie.Need-sub-writer-ok Inv-loop μ-loop
-sub-writer-ok c = omega arith
-
-part-writer-ok-start : tie.Need-part-writer-ok-start Inv-loop μ-loop
-part-writer-ok-start c = omega arith
-
-part-writer-ok-end : tie.Need-part-writer-ok-end Inv-loop μ-loop
-part-writer-ok-end c = omega arith
-
-writer-ok-requires : tie.Need-writer-ok-requires Inv-loop μ-loop
-writer-ok-requires c κs = omega arith
+follows-requires : tie.Need-follows-requires Inv-loop μ-loop
+follows-requires c κs = tt
 
 returns : tie.Need-returns Inv-loop μ-loop
 returns c =
-    let a = c .before .before .before .before .before .before .args in
-    let l = c .before .before .before .before .loop in
-    let r = c .before .writer-ok in
-    tests-stop 40 recordTest recordsTest records-first (l .i) (a .count) (a .t .now) (r .result) (omega arith) (r .ensures) (l .inv .1) (not-true _ (c .if1 .taken))
+    let g = c .before .before in
+    let l = g .before .before in
+    let a = l .before .before .before .args in
+    stop-key (a .count) (a .t .now) (l .loop .last) (l .loop .a) (l .loop .d) (l .loop .i) (l .loop .inv) (g .before .loop-test .taken)
+    (g .guid-at .result) (c .before .follows .result) (a .alive) (a .not-alive) (g .guid-at .ensures) (c .before .follows .ensures) (not-true _ (c .if1 .taken))
+
+mul-record-ok : tie.Need-mul-record-ok Inv-loop μ-loop
+mul-record-ok c = omega arith
+
+record-ok-requires : tie.Need-record-ok-requires Inv-loop μ-loop
+record-ok-requires c κs = omega arith
+
+returns-2 : tie.Need-returns-2 Inv-loop μ-loop
+returns-2 c =
+    let n = c .before .before .before .before .before in
+    let l = n .before in
+    let a = l .before .before .before .args in
+    stop-record (a .count) (a .t .now) (l .loop .last) (l .loop .a) (l .loop .d) (l .loop .i) (l .loop .inv) (n .loop-test .taken)
+    (c .before .record-ok .result) (a .alive) (a .not-alive) (c .before .record-ok .ensures) (not-true _ (c .if2 .taken))
+
+mul-get-u8 : tie.Need-mul-get-u8 Inv-loop μ-loop
+mul-get-u8 c = omega arith
+
+add-get-u8 : tie.Need-add-get-u8 Inv-loop μ-loop
+add-get-u8 c = omega arith
+
+get-u8-requires : tie.Need-get-u8-requires Inv-loop μ-loop
+get-u8-requires c κs = omega arith
+
+one-more-requires : tie.Need-one-more-requires Inv-loop μ-loop
+one-more-requires c κs = omega arith
+
+one-more-requires-2 : tie.Need-one-more-requires-2 Inv-loop μ-loop
+one-more-requires-2 c κs = omega arith
 
 add-i : tie.Need-add-i Inv-loop μ-loop
 add-i c = omega arith
@@ -50,16 +77,24 @@ loop-less c = omega arith
 
 loop-again : tie.Need-loop-again Inv-loop μ-loop
 loop-again c =
-    let a = c .before .before .before .before .before .before .args in
-    let l = c .before .before .before .before .loop in
-    let r = c .before .writer-ok in
-    (omega arith, tests-turn 40 recordTest recordsTest records-first (l .i) (a .count) (a .t .now) (r .result) (omega arith) (r .ensures) (l .inv .1) (not-false _ (c .if1 .left)))
+    let b = c .before .before in
+    let f = b .before .before .before .before in
+    let g = f .before in
+    let l = g .before .before in
+    let a = l .before .before .before .args in
+    let w = writerOf (take 40 (drop (l .loop .i * 40) (a .t .now))) in
+    let state = b .get-u8 .result / 16 % 4 in
+    rw (c .before .one-more .ensures, c .one-more2 .ensures)
+    (turn (a .count) (a .t .now) (l .loop .last) (l .loop .a) (l .loop .d) (l .loop .i) (l .loop .inv) (g .before .loop-test .taken)
+    (g .guid-at .result) (f .follows .result) (b .before .before .record-ok .result) (eqb state 1) (leb 2 state) w refl (g .guid-at .ensures)
+    (f .follows .ensures) (not-false _ (b .before .before .before .if1 .left)) (b .before .before .record-ok .ensures) (not-false _ (b .before .if2 .left))
+    (alive-read (a .t .now) (l .loop .i * 40) (b .get-u8 .result) (b .get-u8 .ensures)) (not-read (a .t .now) (l .loop .i * 40) (b .get-u8 .result) (b .get-u8 .ensures)))
 
-returns-2 : tie.Need-returns-2 Inv-loop μ-loop
-returns-2 c =
-    let a = c .before .before .before .args in
+returns-3 : tie.Need-returns-3 Inv-loop μ-loop
+returns-3 c =
     let l = c .before .loop in
-    sym (tests-end 40 recordTest recordsTest records-none (l .i) (a .count) (a .t .now) (omega arith)) ∙ l .inv .1
+    let a = c .before .before .before .before .args in
+    end (a .count) (a .t .now) (l .last) (l .a) (l .d) (l .i) (l .inv) (a .alive) (a .not-alive) (omega arith)
 
 pub records-ok-spec : {M : Type 1} → statement M
 records-ok-spec =
@@ -67,15 +102,21 @@ records-ok-spec =
     (tie.spec
     Inv-loop
     μ-loop
+    nil-requires
     loop-holds
-    mul-from
-    add-end
-    sub-writer-ok
-    part-writer-ok-start
-    part-writer-ok-end
-    writer-ok-requires
+    mul-guid-at
+    guid-at-requires
+    follows-requires
     returns
+    mul-record-ok
+    record-ok-requires
+    returns-2
+    mul-get-u8
+    add-get-u8
+    get-u8-requires
+    one-more-requires
+    one-more-requires-2
     add-i
     loop-less
     loop-again
-    returns-2)
+    returns-3)
