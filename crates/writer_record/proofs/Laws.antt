@@ -1,12 +1,10 @@
--- One record: its numbers, its bytes put one field after the other, and its tests, over plain variables.
+-- One record: its numbers, and its bytes put one field after the other, over plain variables.
 --     kind-rest, state-rest     the last number of each
 --     record-put, guid-put      fields put one after the other are the record's bytes
 --     whole                     a record written over all of its bytes
 --     part-size                 a record's part of its table
---     not-departed, is-departed what the number of a state says
 -- Assumes nothing.
 use Prim.Native.Nat.{ℕ, zero, suc, _+_, _-_, _≤_}
-use mathlib.Core.Bool.{true, false}
 use mathlib.Core.Path.{_≡_, refl}
 use mathlib.Core.List.{List, [], _∷_, append-nil}
 use native.Mathlib.Omega.{arith}
@@ -17,11 +15,9 @@ use Rattle.octets.proofs.PatchLaws.{puts-patch}
 use Rattle.model.specs.declared.Guid.{Guid}
 use Rattle.model.specs.declared.LivelinessKind.the-variants.{ManualByTopic}
 use Rattle.model.specs.declared.Writer.{Writer}
-use Rattle.model.specs.declared.WriterState.{WriterState}
-use Rattle.model.specs.declared.WriterState.the-variants.{Unasserted, Alive, NotAlive, Departed}
+use Rattle.model.specs.declared.WriterState.the-variants.{Departed}
 use Rattle.model.specs.Guids.{guidBytes}
-use Rattle.model.specs.WellFormed.{isDeparted}
-use Rattle.model.specs.WriterRecord.{livelinessNumbered, stateNumber, stateNumbered, writerFlags, writerWidths, writerValues, writerBytes}
+use Rattle.model.specs.WriterRecord.{livelinessNumbered, stateNumbered, writerFlags, writerWidths, writerValues, writerBytes}
 
 pub kind-rest : (n : ℕ) → (n ≡ 0 → ⊥) → (n ≡ 1 → ⊥) → ManualByTopic ≡ livelinessNumbered n
 kind-rest zero a b = absurd (a refl)
@@ -55,15 +51,3 @@ whole s b e = rw (drop-of-length-le s {i = 40} (omega arith)) (append-nil b)
 
 pub part-size : (at : ℕ) → at + 40 - at ≡ 40
 part-size at = omega arith
-
-pub not-departed : (s : WriterState) (n : ℕ) → n ≡ stateNumber s → (n ≡ 3 → ⊥) → isDeparted s ≡ false
-not-departed Unasserted n e h = refl
-not-departed Alive n e h = refl
-not-departed NotAlive n e h = refl
-not-departed Departed n e h = absurd (h e)
-
-pub is-departed : (s : WriterState) (n : ℕ) → n ≡ stateNumber s → n ≡ 3 → isDeparted s ≡ true
-is-departed Unasserted n e h = absurd (omega arith)
-is-departed Alive n e h = absurd (omega arith)
-is-departed NotAlive n e h = absurd (omega arith)
-is-departed Departed n e h = refl

@@ -1,5 +1,5 @@
-// A writer's record: 40 bytes of the table on one side, a struct by value on the other; and whether such bytes are a
-// record. What the bytes mean stands in model's WriterRecord and WellFormed.
+// A writer's record: 40 bytes of the table on one side, a struct by value on the other. What the bytes mean stands in
+// model's WriterRecord.
 //
 // Derives from liveliness_tracker.rs of ZeroDDS.
 // Copyright 2026 ZeroDDS Contributors. SPDX-License-Identifier: Apache-2.0. Changed: written anew in Rattle, the map of
@@ -10,17 +10,16 @@ use model::LivelinessKind;
 use model::MaybeLease;
 use model::Writer;
 use model::WriterState;
-ghost use mathlib.Core.Bool.{true, _&&_};
+ghost use mathlib.Core.Bool.{true};
 ghost use mathlib.Core.Path.{_≡_};
 ghost use Prim.Native.Nat.{_+_, _*_, _/_, _%_, _≤_, _<_, _^_};
 ghost use lib.ListN.{length, take, drop};
 ghost use Rattle.octets.specs.Patch.{patch};
 ghost use Rattle.model.specs.Guids.{guidBytes};
 ghost use Rattle.model.specs.InstanceRecord.{bit};
-ghost use Rattle.model.specs.WellFormed.{leaseOk, onlyState, writerOk};
 ghost use Rattle.model.specs.WriterRecord.{livelinessNumber, livelinessNumbered, stateNumber, stateNumbered, writerOf, writerFlags, writerBytes};
 ghost use Rattle.model.specs.Writers.{isAliveState, leased, dueAt};
-ghost use Rattle.writer_record.specs.Records.{sparesIn, writerFrom, lapsed};
+ghost use Rattle.writer_record.specs.Records.{writerFrom, lapsed};
 
 // The kind that a number stands for.
 pub fn kind_numbered(n: u8) -> LivelinessKind
@@ -214,74 +213,4 @@ pub fn put_guid(t: &mut [u8], at: usize, g: Guid)
 {
     octets::put_u64(t, at, g.hi);
     octets::put_u64(t, at + 8, g.lo);
-}
-
-// Whether kind is no 3 and the spare bits and bytes are zero.
-fn spares_ok(r: &[u8]) -> bool
-    requires { ⌜ length (now r) ≡ 40 ⌝ }
-    ensures { λ b. ⌜ b ≡ sparesIn (now (r .entry)) ⌝ }
-{
-    let flags = octets::get_u8(r, 16);
-    if 192 <= flags {
-        return false;
-    }
-    if flags % 8 != 0 {
-        return false;
-    }
-    octets::get(r, 17, 7) == 0
-}
-
-// Whether a lease is below 2^62, and zero where it is absent.
-fn lease_ok(l: MaybeLease) -> bool
-    ensures { λ b. ⌜ b ≡ leaseOk l ⌝ }
-{
-    if l.present {
-        l.nanos < 0x4000_0000_0000_0000
-    } else {
-        l.nanos == 0
-    }
-}
-
-// Whether nothing but the state is there.
-fn only_state(l: Liveliness) -> bool
-    ensures { λ b. ⌜ b ≡ onlyState l ⌝ }
-{
-    let k = l.kind;
-    if kind_number(k) != 0 {
-        return false;
-    }
-    if l.lease.present {
-        return false;
-    }
-    l.last_assertion == 0
-}
-
-// Whether the values of a writer are within their bounds, and a departed one has only GUID and state.
-fn values_ok(w: Writer) -> bool
-    ensures { λ b. ⌜ b ≡ writerOk w ⌝ }
-{
-    let l = w.liveliness;
-    let s = l.state;
-    let lease = l.lease;
-    if !lease_ok(lease) {
-        return false;
-    }
-    if 0x4000_0000_0000_0000 <= w.liveliness.last_assertion {
-        return false;
-    }
-    if state_number(s) != 3 {
-        return true;
-    }
-    only_state(l)
-}
-
-// Whether the bytes are a writer's record.
-pub fn writer_ok(r: &[u8]) -> bool
-    requires { ⌜ length (now r) ≡ 40 ⌝ }
-    ensures { λ b. ⌜ b ≡ (sparesIn (now (r .entry)) && writerOk (writerOf (now (r .entry)))) ⌝ }
-{
-    if !spares_ok(r) {
-        return false;
-    }
-    values_ok(read_writer(r))
 }

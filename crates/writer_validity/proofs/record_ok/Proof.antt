@@ -1,8 +1,9 @@
 -- `record_ok` meets its contract: spare bits and bytes first, then the values. Assumes nothing.
 use Prim.Native.Nat.{ℕ, _+_, _/_, _%_}
-use mathlib.Core.Bool.{Bool, _&&_}
+use mathlib.Core.Bool.{Bool, _&&_, and-false}
 use mathlib.Core.Path.{_≡_, refl, sym, ap, _∙_}
 use native.Mathlib.Omega.{arith}
+use lib.Dec.{eqb}
 use lib.ListN.{take, drop}
 use borrow.Author.Tests.{le-ltb, lt-ltb, eq-eqb, ne-eqb}
 use Rattle.octets.specs.Octets.{be}
@@ -53,8 +54,10 @@ returns-3 : tie.Need-returns-3
 returns-3 c =
     let k = c .before .before .before in
     let a = k .before .before .args in
+    let flags = k .get-u64 .result / 72057594037927936 in
     ap (λ (b : Bool). b && writerOk (writerOf (take 40 (drop (a .at) (a .t .now)))))
-    (spares-by (a .t .now) (a .at) (k .get-u64 .result / 72057594037927936) (high k) (lt-ltb _ _ (c .before .before .if1 .left)) (eq-eqb _ 0 (c .before .if2 .left))
+    (sym (and-false (eqb (flags % 8) 0))
+    ∙ spares-by (a .t .now) (a .at) flags (high k) (lt-ltb _ _ (c .before .before .if1 .left)) refl
     (ne-eqb (be 7 (a .t .now) (a .at + 16 + 1)) 0 (λ e. c .if3 .taken (omega (arith, low k, e)))))
 
 add-get-u64-2 : tie.Need-add-get-u64-2
