@@ -1,5 +1,5 @@
 -- Classes by their numbers, and a match by the state that it finds, over plain variables.
---     alive-number, not-alive-number, same-number     what the numbers of classes say
+--     alive-number, not-alive-number                  what the numbers of classes say
 --     from-tracked, from-departed                     a match of a tracked writer and of a departed one
 -- Assumes nothing.
 use Prim.Native.Nat.{ℕ}
@@ -11,7 +11,7 @@ use Rattle.model.specs.declared.Sheet.{Sheet}
 use Rattle.model.specs.declared.WriterState.{WriterState}
 use Rattle.model.specs.declared.WriterState.the-variants.{Unasserted, Alive, NotAlive, Departed}
 use Rattle.model.specs.State.{Class, alive, notAlive, neither, isAliveClass, isNotAliveClass}
-use Rattle.model.specs.Writers.{isTracked, matchedAs, matchedFrom, sameClass}
+use Rattle.model.specs.Writers.{isTracked, matchedAs, matchedFrom}
 use Rattle.writer_effects.specs.Acts.{classNumber}
 
 pub alive-number : (c : Class) → eqb (classNumber c) 1 ≡ isAliveClass c
@@ -23,17 +23,6 @@ pub not-alive-number : (c : Class) → eqb (classNumber c) 2 ≡ isNotAliveClass
 not-alive-number alive = refl
 not-alive-number notAlive = refl
 not-alive-number neither = refl
-
-pub same-number : (a b : Class) → eqb (classNumber a) (classNumber b) ≡ sameClass a b
-same-number alive alive = refl
-same-number alive notAlive = refl
-same-number alive neither = refl
-same-number notAlive alive = refl
-same-number notAlive notAlive = refl
-same-number notAlive neither = refl
-same-number neither alive = refl
-same-number neither notAlive = refl
-same-number neither neither = refl
 
 pub from-tracked : (sheet : Sheet) (s : WriterState) (last : ℕ) → isTracked s ≡ true → matchedAs sheet s last ≡ matchedFrom sheet s last
 from-tracked sheet Unasserted last e = refl

@@ -14,7 +14,7 @@ ghost use mathlib.Core.Bool.{_&&_};
 ghost use mathlib.Core.Option.{none, some};
 ghost use mathlib.Core.Path.{_≡_};
 ghost use Rattle.model.specs.State.{classOf, isAliveClass, isNotAliveClass};
-ghost use Rattle.model.specs.Writers.{isTracked, isNotAlive, isAutomatic, coversKind, hasGuid, leaseOn, matchedAs, matchedWriter, withState, covers, renews, departed, sameClass};
+ghost use Rattle.model.specs.Writers.{isTracked, isNotAlive, isAutomatic, coversKind, hasGuid, leaseOn, matchedAs, matchedWriter, withState, covers, renews, departed};
 ghost use Rattle.writer_effects.specs.Acts.{assertionOf, classNumber};
 
 // An assertion: whom it names or whose prefix it gives, whether it names that writer, whether it is manual, and its clock.
@@ -73,13 +73,6 @@ pub fn counts_not_alive(s: WriterState) -> bool
     ensures { λ r. ⌜ r ≡ isNotAliveClass (classOf s) ⌝ }
 {
     class_number(s) == 2
-}
-
-// Whether two states are of one class.
-pub fn same_class(a: WriterState, b: WriterState) -> bool
-    ensures { λ r. ⌜ r ≡ sameClass (classOf a) (classOf b) ⌝ }
-{
-    class_number(a) == class_number(b)
 }
 
 // Whether a kind is automatic.

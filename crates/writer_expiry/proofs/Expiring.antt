@@ -39,11 +39,12 @@ use Rattle.model.proofs.RowLaws.{length-read, lay-read}
 use Rattle.writer_pass.specs.declared.Dues.{Dues}
 use Rattle.writer_pass.specs.declared.Tally.{Tally}
 use Rattle.writer_pass.specs.Passes.{differs, shiftsBy, duesOf}
+use Rattle.writer_pass.proofs.Picks.{count-cons, same-self}
 use Rattle.writer_turns.specs.Turns.{CountsFit, settledHead}
 use Rattle.writer_turns.specs.WriterCalls.{WritersFormed, heldBy}
 use Rattle.writer_turns.proofs.Calling.{both-few}
-use Rattle.writer_turns.proofs.Holding.{Good, good, head-same}
-use Rattle.writer_turns.proofs.Turning.{moved-is, sift-map, same-self, turn-head}
+use Rattle.writer_turns.proofs.Holding.{Good, good, head-same, few-alive}
+use Rattle.writer_turns.proofs.Turning.{moved-is, sift-map, turn-head}
 use Rattle.writer_expiry.specs.Losing.{expiryTally, Expires}
 
 -- ---- those that expire change class, and no other
@@ -84,15 +85,6 @@ expire-who s ws = ap (map guidIn) (pick-ext (shiftsBy (expired (s .a))) (expires
 
 -- ---- the classes after it
 
--- what is picked of one writer more in front, counted
-bit-pick : (p : Writer → Bool) (w : Writer) (ws : List Writer) → length (pick p (w ∷ ws)) ≡ bit (p w) + length (pick p ws)
-unfolding pick
-bit-pick p w ws = each (p w)
-  where
-    each : (b : Bool) → length (cond b (w ∷ pick p ws) (pick p ws)) ≡ bit b + length (pick p ws)
-    each true = omega arith
-    each false = omega arith
-
 class-alive : (st : WriterState) → isAliveState st ≡ true → (isAliveClass (classOf st) ≡ true) × (isNotAliveClass (classOf st) ≡ false)
 class-alive Unasserted e = let z : _≡_ {A = ℕ} 0 1 = cc in absurd (omega arith)
 class-alive Alive e = (refl, refl)
@@ -119,9 +111,9 @@ alive-after clock (w ∷ ws) =
       arith,
       alive-after clock ws,
       bits-after clock w .0,
-      bit-pick countsAlive (expired clock w) (map (expired clock) ws),
-      bit-pick (expires clock) w ws,
-      bit-pick countsAlive w ws,
+      count-cons countsAlive (expired clock w) (map (expired clock) ws),
+      count-cons (expires clock) w ws,
+      count-cons countsAlive w ws,
     )
 
 pub not-alive-after : (clock : ℕ) (ws : List Writer) → notAliveCount (map (expired clock) ws) ≡ notAliveCount ws + length (pick (expires clock) ws)
@@ -132,9 +124,9 @@ not-alive-after clock (w ∷ ws) =
       arith,
       not-alive-after clock ws,
       bits-after clock w .1,
-      bit-pick countsNotAlive (expired clock w) (map (expired clock) ws),
-      bit-pick (expires clock) w ws,
-      bit-pick countsNotAlive w ws,
+      count-cons countsNotAlive (expired clock w) (map (expired clock) ws),
+      count-cons (expires clock) w ws,
+      count-cons countsNotAlive w ws,
     )
 
 -- ---- Lost
@@ -198,7 +190,7 @@ module _ (s : Sheet) (head : Head) (w lost : List ℕ) (bytes : Bytes w) (held :
     gone-are = ap (λ (z : Dues). z .gone) k
 
     pub gone-alive : d .gone ≤ head .alive
-    gone-alive = omega (arith, gone-are, g .alive, alive-after (s .a) ws)
+    gone-alive = omega (arith, gone-are, g .ready .alive, alive-after (s .a) ws)
 
     pub gone-room : head .«not_alive» + d .gone ≤ 128
     gone-room = omega (arith, gone-alive, both-few head w g)
@@ -207,7 +199,7 @@ module _ (s : Sheet) (head : Head) (w lost : List ℕ) (bytes : Bytes w) (held :
     gone-fits last t e =
         rw e
         record {
-          alive = omega (arith, g .ready .alive);
+          alive = omega (arith, few-alive head (head .«writer_count») w (g .ready));
           notAlive = gone-room;
           ackAlive = g .ready .ackAlive;
           ackNotAlive = g .ready .ackNotAlive;
@@ -224,8 +216,8 @@ module _ (s : Sheet) (head : Head) (w lost : List ℕ) (bytes : Bytes w) (held :
         let m : d .gone ≡ length gs = gone-are ∙ sym (length-map (pick (expires (s .a)) ws) guidIn) in
         let n : head .«lost_count» + d .gone ≡ length (guidsIn (head .«lost_count») lost ++ gs) =
         omega (arith, m, length-append (guidsIn (head .«lost_count») lost) gs, length-read guidOf 16 (head .«lost_count») lost) in
-        let a : head .alive - d .gone ≡ aliveCount after = omega (arith, gone-are, g .alive, alive-after (s .a) ws) in
-        let b : head .«not_alive» + d .gone ≡ notAliveCount after = omega (arith, gone-are, g .notAlive, not-alive-after (s .a) ws) in
+        let a : head .alive - d .gone ≡ aliveCount after = omega (arith, gone-are, g .ready .alive, alive-after (s .a) ws) in
+        let b : head .«not_alive» + d .gone ≡ notAliveCount after = omega (arith, gone-are, g .ready .notAlive, not-alive-after (s .a) ws) in
         let hd = turn-head Expire s head pens w lost after gs (expiryTally head (d .gone) last) (head .«writer_count») (expire-turn s ws) (expire-who s ws) (rw (a, b)) m et
         (sym size) (guidsIn (head .«lost_count») lost ++ gs) (head .«lost_count» + d .gone) refl n refl refl in
         let said : sayingDue (not (eqb (d .gone) 0)) (d .next) ≡ trackerTold Expire s (heldBy head pens w lost) =

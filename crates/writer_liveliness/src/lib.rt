@@ -9,6 +9,7 @@ use model::Head;
 use model::Sheet;
 use tables::Found;
 use writer_effects::Assertion;
+use writer_pass::Counts;
 ghost use mathlib.Core.Bool.{true, false, cond};
 ghost use mathlib.Core.Path.{_≡_};
 ghost use Prim.Native.Nat.{_+_, _-_, _*_, _<_};
@@ -28,14 +29,18 @@ ghost use Rattle.tables.specs.Keys.{keys};
 ghost use Rattle.writer_turns.specs.Turns.{CountsFit, calledBy, stillTally, goneTally, departsTally};
 ghost use Rattle.writer_turns.specs.WriterCalls.{WritersFormed, Turns, leaving, Passable, assertionOn, automatic, assertedTable, assertedTally};
 
-// An assertion on each of the first count writers.
+// An assertion on the first count writers.
 fn assert_on(head: Head, writers: &mut [u8], count: u32, a: Assertion) -> Called
     requires { ⌜ Passable head count (now writers) ⌝ }
     ensures { λ r. ⌜ (now (writers .exit) ≡ assertedTable a count (now (writers .entry)))
         × (r ≡ calledBy head count (assertedTally head a count (now (writers .entry)))) ⌝ }
 {
     let last = head.last_writer;
-    let tally = writer_pass::pass(writers, count as usize, a, last);
+    let counts = Counts {
+        alive: head.alive,
+        not_alive: head.not_alive,
+    };
+    let tally = writer_pass::assert_writers(writers, count as usize, a, counts, last);
     writer_turns::called(head, count, tally)
 }
 

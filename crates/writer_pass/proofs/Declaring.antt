@@ -32,7 +32,7 @@ use Rattle.model.proofs.RowLaws.{length-read}
 use Rattle.model.proofs.Tests.{both}
 use Rattle.writer_record.specs.Records.{lapsed}
 use Rattle.writer_pass.specs.Passes.{writerIn, Sound}
-use Rattle.writer_pass.proofs.Passing.{Amid, amid-start, amid-read, amid-put, amid-kept, amid-end}
+use Rattle.writer_pass.proofs.Passing.{Amid, amid-from, amid-read, amid-put, amid-kept, amid-end}
 use Rattle.writer_pass.proofs.Picks.{take-more, pick-part, count-snoc, mapped-snoc, last-snoc}
 
 -- ---- a record more
@@ -102,7 +102,7 @@ module _ (t₀ : List ℕ) (count clock : ℕ) (lost₀ : List ℕ) (n : ℕ) (l
   unfolding pick lastAfter
   declaring-start =
       record {
-        amid = amid-start (expired clock) t₀ count b s;
+        amid = amid-from (expired clock) t₀ count b s 0 (omega arith) refl;
         long = refl;
         place = omega arith;
         fits = omega arith;

@@ -3,3 +3,5 @@ pub mod Picks
 pub mod Passing
 pub mod Reading
 pub mod Declaring
+pub mod Prefixes
+pub mod Asserting

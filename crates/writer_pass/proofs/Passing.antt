@@ -1,39 +1,30 @@
 -- A pass while it runs, over plain variables.
---     midway, mid-split, mid-next     the writers, the first i of them turned by f
---     Amid                            the table with the first i of its writers turned; amid-start, amid-read, amid-bounded,
---                                     amid-forth, amid-put, amid-kept and amid-end are its laws
---     During                          that and the tally, at the head of the loop over assertions; start, turn and end are
---                                     its laws
---     part-touched, part-kept         the assertion at one record, from what its callees ensure
 --     counts-turn, counts-small       the classes of one writer more
+--     midway, mid-split, mid-next, mid-rest, mid-length     the writers, the first i of them turned by f
+--     Amid                            the table with the first i of its writers turned; amid-from, amid-read, amid-bounded,
+--                                     amid-forth, amid-put, amid-kept, amid-rest and amid-end are its laws
 -- Assumes nothing.
 use Prim.Native.Nat.{ℕ, suc, _+_, _*_, _≤_, _<_}
-use mathlib.Core.Bool.{Bool, true, false, _&&_, cond}
-use mathlib.Core.Path.{_≡_, refl, sym, ap, _∙_}
-use mathlib.Core.List.{List, [], _∷_, _++_, map, map-append, append-assoc, append-nil}
+use mathlib.Core.Path.{_≡_, sym, ap, _∙_}
+use mathlib.Core.List.{List, [], _∷_, _++_, map, map-append, append-assoc}
 use native.Mathlib.Numerals.{add-one}
 use native.Mathlib.Omega.{arith}
-use lib.ListN.{length, take, drop, getD, set, length-map, length-append, length-drop, drop-of-length-le}
-use lib.Seq.{take-all, drop-cons, length-take-le, getD-at, set-at}
+use lib.ListN.{length, take, drop, getD, set, length-map, length-append, length-drop, drop-of-length-le, take-append-drop}
+use lib.Seq.{drop-cons, length-take-le, getD-at, set-at}
 use Rattle.octets.specs.Bounds.{Bytes}
 use Rattle.octets.specs.Lay.{lay, All}
 use Rattle.octets.proofs.LayLaws.{all-get, length-lay, lay-read, lay-set}
 use Rattle.octets.specs.Patch.{patch}
-use Rattle.model.specs.declared.LastWriter.{LastWriter}
 use Rattle.model.specs.declared.Writer.{Writer}
-use Rattle.model.specs.declared.WriterState.the-variants.{Alive}
 use Rattle.model.specs.State.{countsAlive, countsNotAlive, aliveCount, notAliveCount, writersIn}
-use Rattle.model.specs.Tables.{pick}
 use Rattle.model.specs.WellFormed.{writerOk}
-use Rattle.model.specs.Writers.{Assertion, covers, renews, asserted, withState, guidIn, lastAfter}
 use Rattle.model.specs.WriterRecord.{writerOf, writerBytes}
 use Rattle.model.proofs.RowLaws.{length-read}
 use Rattle.model.proofs.WriterLaws.{length-writer, writer-back}
 use Rattle.model.proofs.Fits.{FitsWriter}
 use Rattle.writer_pass.specs.declared.Counts.{Counts}
-use Rattle.writer_pass.specs.declared.Tally.{Tally}
-use Rattle.writer_pass.specs.Passes.{writerIn, Bounded, Sound, countOne, countsOf, shiftsBy, countedBy, tallyOf, assertedAt}
-use Rattle.writer_pass.proofs.Picks.{take-more, pick-le, count-snoc, mapped-snoc, last-snoc, all-at, writers-fit, bounded}
+use Rattle.writer_pass.specs.Passes.{writerIn, Bounded, Sound, countOne, countsOf}
+use Rattle.writer_pass.proofs.Picks.{take-more, pick-le, count-snoc, all-at, writers-fit, bounded}
 
 -- every writer's record is 40 bytes
 abbrev pub Any : Writer → Type 0
@@ -94,7 +85,11 @@ module _ (g : Writer → Writer) (ws : List Writer) (i : ℕ) (d : Writer) (h : 
       ap (λ (l : List Writer). set l i (g (getD ws i d))) mid-split
       ∙ set-at (map g (take i ws)) (getD ws i d) (drop (suc i) ws) (g (getD ws i d)) i front ∙ sym mid-next
 
-mid-length : (g : Writer → Writer) (ws : List Writer) (i : ℕ) → i ≤ length ws → length (midway g i ws) ≡ length ws
+pub mid-rest : (g : Writer → Writer) (ws : List Writer) (i : ℕ) → map g (drop i ws) ≡ drop i ws → midway g i ws ≡ map g ws
+mid-rest g ws i e =
+    ap (λ (l : List Writer). map g (take i ws) ++ l) (sym e) ∙ sym (map-append g (take i ws) (drop i ws)) ∙ ap (map g) (take-append-drop i ws)
+
+pub mid-length : (g : Writer → Writer) (ws : List Writer) (i : ℕ) → i ≤ length ws → length (midway g i ws) ≡ length ws
 mid-length g ws i h =
     omega (arith, length-append (map g (take i ws)) (drop i ws), length-map (take i ws) g, length-take-le i ws h, length-drop i ws)
 
@@ -122,8 +117,11 @@ module _ (f : Writer → Writer) (t₀ : List ℕ) (count : ℕ) (b : Bytes t₀
         table = e;
       }
 
-  pub amid-start : Amid f t₀ count t₀ 0
-  amid-start = amid 0 t₀ (omega arith) (sym (s .laid))
+  -- f leaves the first i as they are
+  pub amid-from : (i : ℕ) → i ≤ count → map f (take i ws) ≡ take i ws → Amid f t₀ count t₀ i
+  amid-from i h e =
+      amid i t₀ h
+      (sym (s .laid) ∙ ap (lay writerBytes 40 (length t₀)) (sym (ap (λ (l : List Writer). l ++ drop i ws) e ∙ take-append-drop i ws)))
 
   module _ (t : List ℕ) (i : ℕ) (d : Amid f t₀ count t i) where
     module _ (h : i < count) where
@@ -171,95 +169,9 @@ module _ (f : Writer → Writer) (t₀ : List ℕ) (count : ℕ) (b : Bytes t₀
           ∙ ap (lay writerBytes 40 (length t₀))
           (mid-split f ws i w inside ∙ ap (λ (z : Writer). map f (take i ws) ++ z ∷ drop (suc i) ws) v ∙ sym (mid-next f ws i w inside)))
 
+    -- f leaves those from i on as they are
+    pub amid-rest : map f (drop i ws) ≡ drop i ws → t ≡ lay writerBytes 40 (length t₀) (map f ws)
+    amid-rest e = d .table ∙ ap (lay writerBytes 40 (length t₀)) (mid-rest f ws i e)
+
     pub amid-end : count ≤ i → t ≡ lay writerBytes 40 (length t₀) (map f ws)
-    amid-end h =
-        let all : take i ws ≡ ws = take-all i ws (omega (arith, size)) in
-        let none : drop i ws ≡ [] = drop-of-length-le ws {i = i} (omega (arith, size)) in
-        d .table ∙ ap (lay writerBytes 40 (length t₀)) (rw (all, none) (append-nil (map f ws)))
-
--- ---- the tally of one writer more
-
-tally-turn : (f : Writer → Writer) (last : LastWriter) (xs : List Writer) (w : Writer) →
-    countedBy (tallyOf f last xs) w (f w) ≡ tallyOf f last (xs ++ w ∷ [])
-unfolding tallyOf
-tally-turn f last xs w =
-    rw (
-      map-append f xs (w ∷ []),
-      counts-snoc (map f xs) (f w),
-      count-snoc (shiftsBy f) xs w,
-      mapped-snoc guidIn (shiftsBy f) xs w,
-      last-snoc (map guidIn (pick (shiftsBy f) xs)) (shiftsBy f w) (w .guid) last,
-    )
-
-tally-small : (f : Writer → Writer) (last : LastWriter) (xs : List Writer) (n : ℕ) → length xs ≤ n →
-    (tallyOf f last xs .counts .alive ≤ n) × (tallyOf f last xs .counts .«not_alive» ≤ n) × (tallyOf f last xs .moved ≤ n)
-unfolding tallyOf
-tally-small f last xs n h =
-    let c = counts-small (map f xs) in
-    let m : length (map f xs) ≡ length xs = length-map xs f in
-    (omega (arith, c .0), omega (arith, c .1), omega (arith, pick-le (shiftsBy f) xs))
-
--- ---- the assertion at one record
-
-pub part-touched : (a : Assertion) (w v x : Writer) (t t′ : List ℕ) (i : ℕ) (tally r : Tally) → w ≡ x → (covers a w && renews a w) ≡ true →
-    v ≡ withState Alive (a .clock) w → t′ ≡ patch t (i * 40) 40 (writerBytes v) → r ≡ countedBy tally w v →
-    (t′ ≡ cond (covers a x && renews a x) (patch t (i * 40) 40 (writerBytes (withState Alive (a .clock) x))) t) × (r ≡ countedBy tally x (asserted a x))
-unfolding asserted
-part-touched a w v x t t′ i tally r e b f p q =
-    rw (← e, b) (p ∙ ap (λ (z : Writer). patch t (i * 40) 40 (writerBytes z)) f, q ∙ ap (countedBy tally w) f)
-
-pub part-kept : (a : Assertion) (w x : Writer) (t : List ℕ) (i : ℕ) (tally r : Tally) → w ≡ x → (covers a w && renews a w) ≡ false → r ≡ countedBy tally w w →
-    (t ≡ cond (covers a x && renews a x) (patch t (i * 40) 40 (writerBytes (withState Alive (a .clock) x))) t) × (r ≡ countedBy tally x (asserted a x))
-unfolding asserted
-part-kept a w x t i tally r e b q = rw (← e, b) (refl, q)
-
--- ---- the loop over assertions
-
-pub record During (a : Assertion) (last : LastWriter) (t₀ : List ℕ) (count : ℕ) (t : List ℕ) (tally : Tally) (i : ℕ) : Type 0 where
-  pub amid : Amid (asserted a) t₀ count t i
-  pub told : tally ≡ tallyOf (asserted a) last (take i (writersIn count t₀))
-  pub alive : tally .counts .alive ≤ i
-  pub notAlive : tally .counts .«not_alive» ≤ i
-  pub moved : tally .moved ≤ i
-
-module _ (a : Assertion) (last : LastWriter) (t₀ : List ℕ) (count : ℕ) (b : Bytes t₀) (s : Sound count t₀) where
-  abbrev xs : List Writer
-  xs = writersIn count t₀
-
-  long : length xs ≡ count
-  long = length-read writerOf 40 count t₀
-
-  during : (i : ℕ) (t : List ℕ) (tally : Tally) → Amid (asserted a) t₀ count t i → tally ≡ tallyOf (asserted a) last (take i xs) →
-      During a last t₀ count t tally i
-  during i t tally d e =
-      let k = tally-small (asserted a) last (take i xs) i (omega (arith, length-take-le i xs (omega (arith, long, d .below)))) in
-      record { amid = d; told = e; alive = rw e (k .0); notAlive = rw e (k .1); moved = rw e (k .2) }
-
-  pub start : During a last t₀ count t₀ record { counts = record { alive = 0; «not_alive» = 0 }; moved = 0; last = last } 0
-  unfolding tallyOf pick aliveCount notAliveCount lastAfter
-  start =
-      during 0 t₀ record { counts = record { alive = 0; «not_alive» = 0 }; moved = 0; last = last } (amid-start (asserted a) t₀ count b s) refl
-
-  module _ (t : List ℕ) (tally : Tally) (i : ℕ) (d : During a last t₀ count t tally i) where
-    module _ (h : i < count) where
-      abbrev w : Writer
-      w = writerIn t i
-
-      next : (y : Bool) → (covers a w && renews a w) ≡ y → (t′ : List ℕ) →
-          t′ ≡ cond y (patch t (i * 40) 40 (writerBytes (withState Alive (a .clock) w))) t → Amid (asserted a) t₀ count t′ (i + 1)
-      unfolding asserted
-      next true y t′ p = amid-put (asserted a) t₀ count b s t i (d .amid) h (withState Alive (a .clock) w) t′ (rw y) p
-      next false y t′ p = rw p (amid-kept (asserted a) t₀ count b s t i (d .amid) h (rw y))
-
-      pub turn : (t′ : List ℕ) (r : Tally) → t′ ≡ assertedAt a i t → r ≡ countedBy tally w (asserted a w) → During a last t₀ count t′ r (i + 1)
-      turn t′ r p q =
-          let e : w ≡ getD xs i w = amid-read (asserted a) t₀ count b s t i (d .amid) h w in
-          during (i + 1) t′ r (next (covers a w && renews a w) refl t′ p)
-          (q ∙ ap (λ (z : Tally). countedBy z w (asserted a w)) (d .told) ∙ tally-turn (asserted a) last (take i xs) w
-          ∙ ap (λ (z : Writer). tallyOf (asserted a) last (take i xs ++ z ∷ [])) e
-          ∙ ap (tallyOf (asserted a) last) (sym (take-more xs i w (omega (arith, long)))))
-
-    pub end : count ≤ i → (t ≡ lay writerBytes 40 (length t₀) (map (asserted a) xs)) × (tally ≡ tallyOf (asserted a) last xs)
-    end h =
-        let all : take i xs ≡ xs = take-all i xs (omega (arith, long)) in
-        (amid-end (asserted a) t₀ count b s t i (d .amid) h, rw all at (d .told))
+    amid-end h = let none : drop i ws ≡ [] = drop-of-length-le ws {i = i} (omega (arith, size)) in amid-rest (rw none)

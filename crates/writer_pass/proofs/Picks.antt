@@ -1,7 +1,9 @@
 -- Lists taken one element further, and records read at their places.
 --     take-more             one element more is taken
---     pick-append, pick-le, pick-part, count-snoc, picked-snoc     what is picked of a list in two parts, and of one more
---     all-at                what holds of all holds at a place
+--     pick-append, pick-le, pick-part, picked-snoc, mapped-snoc     what is picked of a list in two parts, and of one more
+--     count-snoc, count-cons, count-middle                          how many that are, one more behind, in front, between
+--     all-at, all-from      what holds of all holds at a place, and the other way round
+--     same-self             a class is the same as itself
 --     last-snoc             the last writer after one GUID more
 --     read-at               record i of those that are read
 --     writers-fit           what was read of bytes fits
@@ -26,16 +28,17 @@ use Rattle.model.specs.declared.LastWriter.{LastWriter}
 use Rattle.model.specs.declared.LastWriter.the-variants.{Is}
 use Rattle.model.specs.declared.MaybeLease.{MaybeLease}
 use Rattle.model.specs.declared.Writer.{Writer}
+use Rattle.model.specs.InstanceRecord.{bit}
 use Rattle.model.specs.Layout.{readRows}
-use Rattle.model.specs.State.{writersIn}
+use Rattle.model.specs.State.{Class, alive, notAlive, neither, writersIn}
 use Rattle.model.specs.Tables.{pick, all}
 use Rattle.model.specs.WellFormed.{leaseOk, clockOk, isDeparted, onlyState, writerOk}
-use Rattle.model.specs.Writers.{lastAfter}
+use Rattle.model.specs.Writers.{sameClass, lastAfter}
 use Rattle.model.specs.WriterRecord.{writerOf}
 use Rattle.model.proofs.Fits.{FitsWriter}
 use Rattle.model.proofs.GuidLaws.{bytes-take, bytes-drop}
 use Rattle.model.proofs.Tests.{both}
-use Rattle.writer_pass.specs.Passes.{Bounded, lastOne}
+use Rattle.writer_pass.specs.Passes.{Bounded}
 
 module _ {A : Type 0} where
   pub take-more : (xs : List A) (i : ℕ) (d : A) → i < length xs → take (i + 1) xs ≡ take i xs ++ getD xs i d ∷ []
@@ -87,11 +90,35 @@ module _ {A : Type 0} where
     pub count-snoc : (xs : List A) (x : A) → length (pick p (xs ++ x ∷ [])) ≡ cond (p x) (length (pick p xs) + 1) (length (pick p xs))
     count-snoc xs x = ap length (picked-snoc xs x) ∙ count-by (p x) (pick p xs) x
 
+    bit-count : (b : Bool) (x : A) (xs : List A) → length (cond b (x ∷ xs) xs) ≡ bit b + length xs
+    bit-count true x xs = omega arith
+    bit-count false x xs = omega arith
+
+    pub count-cons : (x : A) (xs : List A) → length (pick p (x ∷ xs)) ≡ bit (p x) + length (pick p xs)
+    unfolding pick
+    count-cons x xs = bit-count (p x) x (pick p xs)
+
+    pub count-middle : (a b : List A) (x : A) → length (pick p (a ++ x ∷ b)) ≡ bit (p x) + length (pick p (a ++ b))
+    count-middle a b x =
+        omega (
+          arith,
+          ap length (pick-append a (x ∷ b)),
+          ap length (pick-append a b),
+          length-append (pick p a) (pick p (x ∷ b)),
+          length-append (pick p a) (pick p b),
+          count-cons x b,
+        )
+
     pub all-at : (xs : List A) (i : ℕ) (d : A) → all p xs ≡ true → i < length xs → p (getD xs i d) ≡ true
     unfolding all
     all-at [] i d h l = absurd (omega arith)
     all-at (x ∷ xs) zero d h l = both (p x) (all p xs) h .0
     all-at (x ∷ xs) (suc i) d h l = all-at xs i d (both (p x) (all p xs) h .1) (omega arith)
+
+  -- what holds at each place holds of all
+  pub all-from : (P : A → Type 0) (d : A) (xs : List A) → ((j : ℕ) → j < length xs → P (getD xs j d)) → All P xs
+  all-from P d [] h = tt
+  all-from P d (x ∷ xs) h = (h zero (omega arith), all-from P d xs (λ j l. h (suc j) (omega arith)))
 
   map-by : {B : Type 0} (f : A → B) (b : Bool) (xs : List A) (x : A) → map f (xs ++ cond b (x ∷ []) []) ≡ map f xs ++ cond b (f x ∷ []) []
   map-by f true xs x = map-append f xs (x ∷ [])
@@ -101,7 +128,12 @@ module _ {A : Type 0} where
       map f (pick p (xs ++ x ∷ [])) ≡ map f (pick p xs) ++ cond (p x) (f x ∷ []) []
   mapped-snoc f p xs x = ap (map f) (picked-snoc p xs x) ∙ map-by f (p x) (pick p xs) x
 
-pub last-snoc : (gs : List Guid) (b : Bool) (g : Guid) (last : LastWriter) → lastAfter (gs ++ cond b (g ∷ []) []) last ≡ lastOne b g (lastAfter gs last)
+pub same-self : (c : Class) → sameClass c c ≡ true
+same-self alive = refl
+same-self notAlive = refl
+same-self neither = refl
+
+pub last-snoc : (gs : List Guid) (b : Bool) (g : Guid) (last : LastWriter) → lastAfter (gs ++ cond b (g ∷ []) []) last ≡ cond b (Is g) (lastAfter gs last)
 unfolding lastAfter
 last-snoc [] true g last = refl
 last-snoc [] false g last = refl

@@ -1,24 +1,23 @@
--- Passes over the writers: what is told of all, and the table after a pass.
-use Prim.Native.Nat.{ℕ, _+_, _*_, _≤_, _<_, _^_, min}
-use mathlib.Core.Bool.{Bool, true, false, not, _&&_, cond}
+-- Passes over the writers: what is told of one and of all.
+use Prim.Native.Nat.{ℕ, _+_, _-_, _*_, _≤_, _<_, _^_, min}
+use mathlib.Core.Bool.{Bool, true, not, _&&_, cond}
 use mathlib.Core.Path.{_≡_}
 use mathlib.Core.List.{List, map}
 use lib.Dec.{leb}
 use lib.ListN.{length, take, drop}
 use Rattle.octets.specs.Lay.{lay}
-use Rattle.octets.specs.Patch.{patch}
-use Rattle.model.specs.declared.Guid.{Guid}
 use Rattle.model.specs.declared.LastWriter.{LastWriter}
 use Rattle.model.specs.declared.LastWriter.the-variants.{Is}
 use Rattle.model.specs.declared.MaybeDue.{MaybeDue}
 use Rattle.model.specs.declared.Writer.{Writer}
 use Rattle.model.specs.declared.WriterState.{WriterState}
-use Rattle.model.specs.declared.WriterState.the-variants.{Alive}
-use Rattle.model.specs.State.{classOf, isAliveClass, isNotAliveClass, aliveCount, notAliveCount, writersIn}
+use Rattle.model.specs.State.{classOf, isAliveClass, isNotAliveClass, countsAlive, countsNotAlive, aliveCount, notAliveCount, writersIn}
 use Rattle.model.specs.Tables.{pick, all}
 use Rattle.model.specs.WellFormed.{writerOk}
-use Rattle.model.specs.Writers.{Assertion, covers, renews, expires, expired, withState, sameClass, lastAfter, guidIn, nextDue}
+use Rattle.model.specs.Writers.{covers, renews, expires, expired, sameClass, lastAfter, guidIn, nextDue}
 use Rattle.model.specs.WriterRecord.{writerOf, writerBytes}
+use Rattle.writer_effects.specs.declared.Assertion.{Assertion}
+use Rattle.writer_effects.specs.Acts.{assertionOf}
 use Rattle.writer_pass.specs.declared.Counts.{Counts}
 use Rattle.writer_pass.specs.declared.Dues.{Dues}
 use Rattle.writer_pass.specs.declared.Tally.{Tally}
@@ -40,6 +39,10 @@ pub record Sound (count : ℕ) (t : List ℕ) : Type 0 where
 
 -- ---- one writer
 
+-- the assertion covers the writer and acts on it
+abbrev pub acts : Assertion → Writer → Bool
+acts a w = covers (assertionOf a) w && renews (assertionOf a) w
+
 -- two states are of different classes
 abbrev pub differs : WriterState → WriterState → Bool
 differs was is = not (sameClass (classOf was) (classOf is))
@@ -60,17 +63,17 @@ countOne c s =
 abbrev pub countsOf : List Writer → Counts
 countsOf ws = record { alive = aliveCount ws; «not_alive» = notAliveCount ws }
 
-abbrev pub lastOne : Bool → Guid → LastWriter → LastWriter
-lastOne true g last = Is g
-lastOne false g last = last
-
--- the tally with one writer more, which was w and is v
-abbrev pub countedBy : Tally → Writer → Writer → Tally
-countedBy tally w v =
+-- the tally once w is alive: where it was not, it moves to the alive ones from the class that it was of
+abbrev pub raised : Tally → Writer → Tally
+raised tally w =
+    cond (countsAlive w) tally
     record {
-      counts = countOne (tally .counts) (v .liveliness .state);
-      moved = cond (differs (w .liveliness .state) (v .liveliness .state)) (tally .moved + 1) (tally .moved);
-      last = lastOne (differs (w .liveliness .state) (v .liveliness .state)) (w .guid) (tally .last);
+      counts = record {
+        alive = tally .counts .alive + 1;
+        «not_alive» = cond (countsNotAlive w) (tally .counts .«not_alive» - 1) (tally .counts .«not_alive»);
+      };
+      moved = tally .moved + 1;
+      last = Is (w .guid);
     }
 
 -- the whole tally of a turn of each writer by f: the classes after it, those that changed, and the last writer after them
@@ -81,14 +84,6 @@ tallyOf f last ws =
       moved = length (pick (shiftsBy f) ws);
       last = lastAfter (map guidIn (pick (shiftsBy f) ws)) last;
     }
-
--- ---- the table
-
--- record i of the table after an assertion
-abbrev pub assertedAt : Assertion → ℕ → List ℕ → List ℕ
-assertedAt a i t =
-    cond (covers a (writerIn t i) && renews a (writerIn t i))
-    (patch t (i * 40) 40 (writerBytes (withState Alive (a .clock) (writerIn t i)))) t
 
 -- ---- leases
 

@@ -1,5 +1,5 @@
-// Passes over the writer table, record by record: an assertion acts on each, the classes are told, and the leases that ran
-// out are found, with the next one due, and declared.
+// Passes over the writer table, record by record: an assertion acts on the writers of its participant, the classes are told,
+// and the leases that ran out are found, with the next one due, and declared.
 //
 // Derives from liveliness_tracker.rs of ZeroDDS (renew_participant and expire).
 // Copyright 2026 ZeroDDS Contributors. SPDX-License-Identifier: Apache-2.0. Changed: written anew in Rattle, over records
@@ -10,22 +10,23 @@ use model::MaybeDue;
 use model::Writer;
 use model::WriterState;
 use writer_effects::Assertion;
-ghost use mathlib.Core.Bool.{true, _&&_, cond};
+ghost use mathlib.Core.Bool.{true, cond};
 ghost use mathlib.Core.List.{_++_, map};
 ghost use mathlib.Core.Path.{_≡_};
-ghost use Prim.Native.Nat.{_+_, _*_, _≤_, _<_};
+ghost use Prim.Native.Nat.{_+_, _-_, _*_, _≤_, _<_, _^_};
 ghost use lib.ListN.{length, take, drop};
 ghost use Rattle.octets.specs.Lay.{lay};
 ghost use Rattle.octets.specs.Patch.{patch};
 ghost use Rattle.model.specs.declared.LastWriter.the-variants.{Is};
-ghost use Rattle.model.specs.Guids.{guidBytes, guidsIn};
-ghost use Rattle.model.specs.State.{writersIn, lostOf};
-ghost use Rattle.model.specs.Tables.{pick};
-ghost use Rattle.model.specs.Writers.{covers, renews, asserted, isAliveState, expires, expired, guidIn, lastAfter};
+ghost use Rattle.model.specs.declared.WriterState.the-variants.{Alive};
+ghost use Rattle.model.specs.Guids.{num, prefix, guidBytes, guidsIn};
+ghost use Rattle.model.specs.State.{writerKey, countsNotAlive, writersIn, lostOf};
+ghost use Rattle.model.specs.Tables.{pick, rising};
+ghost use Rattle.model.specs.Writers.{asserted, withState, isAliveState, expires, expired, guidIn, lastAfter};
 ghost use Rattle.model.specs.WriterRecord.{writerBytes};
 ghost use Rattle.writer_record.specs.Records.{lapsed};
 ghost use Rattle.writer_effects.specs.Acts.{assertionOf};
-ghost use Rattle.writer_pass.specs.Passes.{writerIn, Bounded, Sound, countOne, countsOf, lastOne, countedBy, tallyOf, assertedAt, soonest, duesWith, duesOf};
+ghost use Rattle.writer_pass.specs.Passes.{writerIn, Bounded, Sound, acts, countOne, countsOf, raised, tallyOf, soonest, duesWith, duesOf};
 
 // How many writers are of each class that is counted.
 pub struct Counts {
@@ -67,39 +68,9 @@ fn count_one(c: Counts, s: WriterState) -> Counts
     }
 }
 
-// The last writer, where g changed class or did not.
-fn last_one(yes: bool, g: Guid, last: LastWriter) -> LastWriter
-    ensures { λ r. ⌜ r ≡ lastOne yes g last ⌝ }
-{
-    if yes { LastWriter::Is(g) } else { last }
-}
-
-// The tally with a writer more, which was w and is v.
-fn counted(tally: Tally, w: Writer, v: Writer) -> Tally
-    requires { ⌜ (tally .counts .alive < 128) × (tally .counts .«not_alive» < 128) × (tally .moved < 128) ⌝ }
-    ensures { λ r. ⌜ r ≡ countedBy tally w v ⌝ }
-{
-    let before = w.liveliness;
-    let was = before.state;
-    let after = v.liveliness;
-    let now = after.state;
-    let g = w.guid;
-    let c = tally.counts;
-    let last = tally.last;
-    let counts = count_one(c, now);
-    let shifts = !writer_effects::same_class(was, now);
-    let moved = one_more(shifts, tally.moved);
-    let newest = last_one(shifts, g, last);
-    Tally {
-        counts: counts,
-        moved: moved,
-        last: newest,
-    }
-}
-
 // Whether an assertion covers the writer and acts on it.
 fn asserts(a: Assertion, w: Writer) -> bool
-    ensures { λ r. ⌜ r ≡ (covers (assertionOf a) w && renews (assertionOf a) w) ⌝ }
+    ensures { λ r. ⌜ r ≡ acts a w ⌝ }
 {
     if writer_effects::covers(a, w) {
         return writer_effects::renews(a, w);
@@ -107,39 +78,90 @@ fn asserts(a: Assertion, w: Writer) -> bool
     false
 }
 
-// The pass at record i: a record that the assertion does not change is not written.
-fn pass_at(t: &mut [u8], i: usize, a: Assertion, tally: Tally) -> Tally
-    requires { ⌜ (i * 40 + 40 ≤ length (now t)) × (tally .counts .alive < 128) × (tally .counts .«not_alive» < 128) × (tally .moved < 128) ⌝ }
-    ensures { λ r. ⌜ (now (t .exit) ≡ assertedAt (assertionOf a) i (now (t .entry)))
-        × (r ≡ countedBy tally (writerIn (now (t .entry)) i) (asserted (assertionOf a) (writerIn (now (t .entry)) i))) ⌝ }
+// One less, where it is so.
+fn one_less(yes: bool, n: u32) -> u32
+    requires { ⌜ (yes ≡ true → 1 ≤ n) ⌝ }
+    ensures { λ r. ⌜ r ≡ cond yes (n - 1) n ⌝ }
 {
-    let w = writer_record::writer_at(t, i);
+    if yes { n - 1 } else { n }
+}
+
+// The tally once w is alive: where it was not, it moves to the alive ones from the class that it was of.
+fn raise(tally: Tally, w: Writer) -> Tally
+    requires { ⌜ (tally .counts .alive ≤ 128) × (tally .moved ≤ 128) × (countsNotAlive w ≡ true → 1 ≤ tally .counts .«not_alive») ⌝ }
+    ensures { λ r. ⌜ r ≡ raised tally w ⌝ }
+{
+    let l = w.liveliness;
+    let s = l.state;
+    if writer_effects::counts_alive(s) {
+        return tally;
+    }
+    let g = w.guid;
+    let c = tally.counts;
+    let not_alive = one_less(writer_effects::counts_not_alive(s), c.not_alive);
+    let counts = Counts {
+        alive: c.alive + 1,
+        not_alive: not_alive,
+    };
+    Tally {
+        counts: counts,
+        moved: tally.moved + 1,
+        last: LastWriter::Is(g),
+    }
+}
+
+// The assertion at record i, whose writer is w: a record on which it does not act is not written.
+fn assert_at(t: &mut [u8], i: usize, w: Writer, a: Assertion, tally: Tally) -> Tally
+    requires { ⌜ (i * 40 + 40 ≤ length (now t)) × (tally .counts .alive ≤ 128) × (tally .moved ≤ 128)
+        × (countsNotAlive w ≡ true → 1 ≤ tally .counts .«not_alive») ⌝ }
+    ensures { λ r. ⌜ (now (t .exit) ≡ cond (acts a w) (patch (now (t .entry)) (i * 40) 40 (writerBytes (withState Alive (a .clock) w))) (now (t .entry)))
+        × (r ≡ cond (acts a w) (raised tally w) tally) ⌝ }
+{
     if asserts(a, w) {
         let v = writer_effects::with_state(w, WriterState::Alive, a.clock);
         writer_record::put_writer(t, i, v);
-        return counted(tally, w, v);
+        return raise(tally, w);
     }
-    counted(tally, w, w)
+    tally
 }
 
-// The assertion on each of the first count records.
-pub fn pass(t: &mut [u8], count: usize, a: Assertion, last: LastWriter) -> Tally
-    requires { ⌜ Sound count (now t) ⌝ }
+// The least GUID of the prefix of g.
+fn first_of(g: Guid) -> Guid
+    ensures { λ r. ⌜ num r ≡ prefix g * 2 ^ 32 ⌝ }
+{
+    Guid {
+        hi: g.hi,
+        lo: g.lo / 4294967296 * 4294967296,
+    }
+}
+
+// The assertion on the first count writers, of which it concerns those of its prefix alone. They stand together, as the
+// table rises. The counts are those of the table before.
+pub fn assert_writers(
+    t: &mut [u8],
+    count: usize,
+    a: Assertion,
+    counts: Counts,
+    last: LastWriter,
+) -> Tally
+    requires { ⌜ Sound count (now t) × (rising writerKey (writersIn count (now t)) ≡ true) × (counts ≡ countsOf (writersIn count (now t))) ⌝ }
     ensures { λ r. ⌜ (now (t .exit) ≡ lay writerBytes 40 (length (now (t .entry))) (map (asserted (assertionOf a)) (writersIn count (now (t .entry)))))
         × (r ≡ tallyOf (asserted (assertionOf a)) last (writersIn count (now (t .entry)))) ⌝ }
 {
-    let none = Counts {
-        alive: 0,
-        not_alive: 0,
-    };
+    let named = a.guid;
     let mut tally = Tally {
-        counts: none,
+        counts: counts,
         moved: 0,
         last: last,
     };
-    let mut i = 0;
+    let mut i = tables::lower_bound(t, 40, count, first_of(named));
     while i < count {
-        tally = pass_at(t, i, a, tally);
+        let w = writer_record::writer_at(t, i);
+        let g = w.guid;
+        if !guid::same_prefix(g, named) {
+            return tally;
+        }
+        tally = assert_at(t, i, w, a, tally);
         i += 1;
     }
     tally

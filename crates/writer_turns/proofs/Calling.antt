@@ -1,12 +1,12 @@
 -- What the calls' callees ask, and the calls that pass over every writer, over plain variables.
---     keys-are, find-rises, found-in        a GUID looked for among the records' keys
+--     find-rises, found-in                  a GUID looked for among the records' keys
 --     at-place                              the record at a place
 --     room-pass, room-still, room-gone, room-departs      the tallies fit the head
 --     alive-there, not-alive-there          a writer that is there is counted
 --     pass-settles                          a call that passes over every writer leaves model's turn
 -- Assumes nothing.
 use Prim.Native.Nat.{ℕ, suc, _+_, _-_, _*_, _≤_, _<_}
-use mathlib.Core.Bool.{Bool, true, false, cond}
+use mathlib.Core.Bool.{true, cond}
 use mathlib.Core.Path.{_≡_, refl, sym, ap, _∙_}
 use mathlib.Core.List.{List, [], _∷_, _++_, map}
 use native.Mathlib.Omega.{arith}
@@ -26,26 +26,23 @@ use Rattle.model.specs.WriterRecord.{writerOf, writerBytes}
 use Rattle.tables.specs.declared.Found.{Found}
 use Rattle.tables.specs.Found.{foundIn}
 use Rattle.tables.specs.Keys.{keys, rising}
-use Rattle.tables.proofs.RecordLaws.{keys-read, rising-records}
+use Rattle.tables.proofs.RecordLaws.{rising-records}
 use Rattle.writer_pass.specs.declared.Tally.{Tally}
 use Rattle.writer_pass.specs.Passes.{shiftsBy, tallyOf}
 use Rattle.writer_pass.proofs.Passing.{counts-small}
-use Rattle.writer_pass.proofs.Picks.{read-at}
+use Rattle.writer_pass.proofs.Picks.{read-at, count-cons}
+use Rattle.writer_pass.proofs.Prefixes.{keys-are}
 use Rattle.writer_turns.specs.Turns.{CountsFit, calledBy, stillTally, shiftedTally, goneTally, departsTally}
 use Rattle.writer_turns.specs.WriterCalls.{heldBy, Passable, Settles}
-use Rattle.writer_turns.proofs.Holding.{Good, count-out}
+use Rattle.writer_turns.proofs.Holding.{Good, count-out, few-alive, few-not-alive}
 use Rattle.writer_turns.proofs.Turning.{Plain, turn-settles}
-
-pub keys-are : (n : ℕ) (w : List ℕ) → keys 40 n w ≡ map writerKey (writersIn n w)
-unfolding writerOf
-keys-are n w = keys-read writerOf 40 writerKey (λ r. refl) (omega arith) n w
 
 module _ (head : Head) (w : List ℕ) (good : Good head w) where
   abbrev ws : List Writer
   ws = writersIn (head .«writer_count») w
 
   pub find-rises : rising (keys 40 (head .«writer_count») w) ≡ true
-  find-rises = ap rising (keys-are (head .«writer_count») w) ∙ rising-records writerKey ws ∙ good .rises
+  find-rises = ap rising (keys-are (head .«writer_count») w) ∙ rising-records writerKey ws ∙ good .ready .rises
 
   pub found-in : (k : ℕ) (f : Found) → foundIn (keys 40 (head .«writer_count») w) k ≡ f → foundIn (map writerKey ws) k ≡ f
   found-in k f e = ap (λ (z : List ℕ). foundIn z k) (sym (keys-are (head .«writer_count») w)) ∙ e
@@ -63,10 +60,10 @@ module _ (head : Head) (w : List ℕ) (good : Good head w) where
     out-not-alive = rw (← at-place i x h e) at (count-out countsNotAlive ws i x (omega (arith, good .size)))
 
     pub alive-there : isAliveClass (classOf (x .liveliness .state)) ≡ true → 1 ≤ head .alive
-    alive-there b = omega (arith, good .alive, rw b at out-alive)
+    alive-there b = omega (arith, good .ready .alive, rw b at out-alive)
 
     pub not-alive-there : isNotAliveClass (classOf (x .liveliness .state)) ≡ true → 1 ≤ head .«not_alive»
-    not-alive-there b = omega (arith, good .notAlive, rw b at out-not-alive)
+    not-alive-there b = omega (arith, good .ready .notAlive, rw b at out-not-alive)
 
 -- ---- the tallies fit the head
 
@@ -74,10 +71,6 @@ both-count : (c : Class) → bit (isAliveClass c) + bit (isNotAliveClass c) ≤ 
 both-count alive = omega arith
 both-count notAlive = omega arith
 both-count neither = omega arith
-
-bit-cond : (b : Bool) (x : Writer) (xs : List Writer) → length (cond b (x ∷ xs) xs) ≡ bit b + length xs
-bit-cond true x xs = omega arith
-bit-cond false x xs = omega arith
 
 pub counts-apart : (ws : List Writer) → aliveCount ws + notAliveCount ws ≤ length ws
 unfolding aliveCount notAliveCount pick
@@ -87,8 +80,8 @@ counts-apart (w ∷ ws) =
       arith,
       counts-apart ws,
       both-count (classOf (w .liveliness .state)),
-      bit-cond (countsAlive w) w (pick countsAlive ws),
-      bit-cond (countsNotAlive w) w (pick countsNotAlive ws),
+      count-cons countsAlive w ws,
+      count-cons countsNotAlive w ws,
     )
 
 module _ (head : Head) (n : ℕ) (w : List ℕ) (ready : Passable head n w) where
@@ -103,7 +96,7 @@ module _ (head : Head) (n : ℕ) (w : List ℕ) (ready : Passable head n w) wher
       rw e (room (tallyOf f last ws) (omega (arith, k .0)) (omega (arith, k .1)))
 
   pub room-still : (t : Tally) → t ≡ stillTally head → CountsFit head t
-  room-still t e = rw e (room (stillTally head) (ready .alive) (ready .notAlive))
+  room-still t e = rw e (room (stillTally head) (few-alive head n w ready) (few-not-alive head n w ready))
 
   pub room-gone : (t : Tally) (x : Writer) → t ≡ goneTally head x → CountsFit head t
   room-gone t x e = rw e (each (classOf (x .liveliness .state)))
@@ -112,9 +105,9 @@ module _ (head : Head) (n : ℕ) (w : List ℕ) (ready : Passable head n w) wher
           CountsFit head
           (cond (isAliveClass c) (shiftedTally (head .alive - 1) (head .«not_alive») (x .guid))
           (cond (isNotAliveClass c) (shiftedTally (head .alive) (head .«not_alive» - 1) (x .guid)) (stillTally head)))
-      each alive = room (shiftedTally (head .alive - 1) (head .«not_alive») (x .guid)) (omega (arith, ready .alive)) (ready .notAlive)
-      each notAlive = room (shiftedTally (head .alive) (head .«not_alive» - 1) (x .guid)) (ready .alive) (omega (arith, ready .notAlive))
-      each neither = room (stillTally head) (ready .alive) (ready .notAlive)
+      each alive = room (shiftedTally (head .alive - 1) (head .«not_alive») (x .guid)) (omega (arith, few-alive head n w ready)) (few-not-alive head n w ready)
+      each notAlive = room (shiftedTally (head .alive) (head .«not_alive» - 1) (x .guid)) (few-alive head n w ready) (omega (arith, few-not-alive head n w ready))
+      each neither = room (stillTally head) (few-alive head n w ready) (few-not-alive head n w ready)
 
   pub room-departs : (t : Tally) (x : Writer) → (isAliveClass (classOf (x .liveliness .state)) ≡ true → 1 ≤ head .alive) → head .alive + head .«not_alive» ≤ 128 →
       t ≡ departsTally head x → CountsFit head t
@@ -122,9 +115,9 @@ module _ (head : Head) (n : ℕ) (w : List ℕ) (ready : Passable head n w) wher
     where
       each : (c : Class) → (isAliveClass c ≡ true → 1 ≤ head .alive) →
           CountsFit head (cond (isAliveClass c) (shiftedTally (head .alive - 1) (head .«not_alive» + 1) (x .guid)) (stillTally head))
-      each alive h = room (shiftedTally (head .alive - 1) (head .«not_alive» + 1) (x .guid)) (omega (arith, ready .alive)) (omega (arith, h refl))
-      each notAlive h = room (stillTally head) (ready .alive) (ready .notAlive)
-      each neither h = room (stillTally head) (ready .alive) (ready .notAlive)
+      each alive h = room (shiftedTally (head .alive - 1) (head .«not_alive» + 1) (x .guid)) (omega (arith, few-alive head n w ready)) (omega (arith, h refl))
+      each notAlive h = room (stillTally head) (few-alive head n w ready) (few-not-alive head n w ready)
+      each neither h = room (stillTally head) (few-alive head n w ready) (few-not-alive head n w ready)
 
 -- ---- a call that passes over every writer
 
@@ -144,4 +137,4 @@ module _ (c : TrackerCall) (s : Sheet) (f : Writer → Writer) (head : Head) (w 
 -- no more writers are counted than there are
 pub both-few : (head : Head) (w : List ℕ) → Good head w → head .alive + head .«not_alive» ≤ 128
 both-few head w g =
-    omega (arith, g .alive, g .notAlive, counts-apart (writersIn (head .«writer_count») w), g .size, g .ready .sound .few)
+    omega (arith, g .ready .alive, g .ready .notAlive, counts-apart (writersIn (head .«writer_count») w), g .size, g .ready .sound .few)

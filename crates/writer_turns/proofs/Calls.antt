@@ -124,12 +124,12 @@ module _ (s : Sheet) (head : Head) (w : List ℕ) (bytes : Bytes w) (held : Writ
   unmatched-missing : (i : ℕ) → foundIn (keys 40 n w) (num (s .guid)) ≡ Missing i → (r : Called) → r ≡ calledBy head n (stillTally head) → Turns Unmatched s head w r w
   unmatched-missing i f r e pens lost =
       single-missing Unmatched s unmatchedFrom head w (held .long) g (unmatched-after s ws) (unmatched-who s ws) (λ p l. unmatched-plain s _)
-      (missing-lacks (s .guid) ws i (g .rises) (departed (s .guid)) (found-in head w g (num (s .guid)) (Missing i) f)) r e pens lost
+      (missing-lacks (s .guid) ws i (g .ready .rises) (departed (s .guid)) (found-in head w g (num (s .guid)) (Missing i) f)) r e pens lost
 
   lost-missing : (i : ℕ) → foundIn (keys 40 n w) (num (s .guid)) ≡ Missing i → (r : Called) → r ≡ calledBy head n (stillTally head) → Turns LostWithParticipant s head w r w
   lost-missing i f r e pens lost =
       single-missing LostWithParticipant s lostFrom head w (held .long) g (lost-after s ws) (lost-who s ws) (λ p l. lost-plain s _)
-      (missing-lacks (s .guid) ws i (g .rises) (departed (s .guid)) (found-in head w g (num (s .guid)) (Missing i) f)) r e pens lost
+      (missing-lacks (s .guid) ws i (g .ready .rises) (departed (s .guid)) (found-in head w g (num (s .guid)) (Missing i) f)) r e pens lost
 
   pub leave-missing : (lost : Bool) (i : ℕ) → foundIn (keys 40 n w) (num (s .guid)) ≡ Missing i → (r : Called) → r ≡ calledBy head n (stillTally head) →
       Turns (leaving lost) s head w r w

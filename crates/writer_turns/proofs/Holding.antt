@@ -2,29 +2,29 @@
 --     Good, good            the facts of `WritersFormed`
 --     head-same             the head of the state that is held is the head
 --     sound-laid            a table laid out from writers that are within their bounds may be passed over, and is read back
---     count-middle, counts-set, counts-in, counts-out     the classes with one writer changed, put in, or taken out
+--     few-alive, few-not-alive                    at most 128 are counted
+--     count-set, count-out                        how many are picked with one record changed, or taken out
 --     all-put, all-in       what holds of all holds with one writer changed, or put in
 -- Assumes nothing.
 use Prim.Native.Nat.{ℕ, suc, _+_, _*_, _≤_, _<_, _^_}
-use mathlib.Core.Bool.{Bool, true, false, _&&_, cond}
+use mathlib.Core.Bool.{Bool, true, _&&_}
 use mathlib.Core.Path.{_≡_, ap, _∙_}
 use mathlib.Core.List.{List, [], _∷_, _++_}
 use native.Mathlib.Omega.{arith}
-use borrow.Author.Tests.{ltb-true, eqb-true, leb-true}
-use lib.Dec.{eqb, leb, ltb}
+use borrow.Author.Tests.{eqb-true, leb-true}
+use lib.Dec.{leb}
 use lib.IntN.{pos, _-ℤ_}
-use lib.ListN.{length, take, drop, getD, set, length-append, length-drop, take-append-drop}
-use lib.Seq.{split-at, set-split, length-take-le, getD-take}
+use lib.ListN.{length, take, drop, getD, set, take-append-drop}
+use lib.Seq.{split-at, set-split}
 use Rattle.octets.specs.Bounds.{Bytes}
 use Rattle.octets.specs.Lay.{lay, All}
 use Rattle.octets.proofs.LayLaws.{length-lay}
-use Rattle.octets.specs.Octets.{be}
 use Rattle.model.specs.declared.Head.{Head}
 use Rattle.model.specs.declared.Writer.{Writer}
 use Rattle.model.specs.Guids.{guidOf}
 use Rattle.model.specs.InstanceRecord.{bit, instanceOf}
-use Rattle.model.specs.State.{countsAlive, countsNotAlive, aliveCount, notAliveCount, stateOf, headOf, writersIn, writerKey}
-use Rattle.model.specs.Tables.{pick, all, rising}
+use Rattle.model.specs.State.{countsAlive, countsNotAlive, aliveCount, notAliveCount, stateOf, headOf, writersIn}
+use Rattle.model.specs.Tables.{pick, all}
 use Rattle.model.specs.WellFormed.{within, headOk, writerOk, writersOk, writerTableOk, countsOk}
 use Rattle.model.specs.WriterRecord.{writerOf, writerBytes}
 use Rattle.model.proofs.Fits.{FitsWriter}
@@ -33,7 +33,7 @@ use Rattle.model.proofs.RowLaws.{length-read, read-rows, lay-read}
 use Rattle.model.proofs.StateLaws.{writers-each, writers-all}
 use Rattle.writer_pass.specs.Passes.{Sound}
 use Rattle.writer_pass.proofs.Passing.{Any, wide, any-all}
-use Rattle.writer_pass.proofs.Picks.{pick-append, pick-le}
+use Rattle.writer_pass.proofs.Picks.{pick-le, count-middle}
 use Rattle.writer_turns.specs.WriterCalls.{WritersFormed, Passable, heldBy}
 
 -- ---- the facts of `WritersFormed`
@@ -41,9 +41,6 @@ use Rattle.writer_turns.specs.WriterCalls.{WritersFormed, Passable, held
 pub record Good (head : Head) (w : List ℕ) : Type 0 where
   pub ready : Passable head (head .«writer_count») w
   pub size : length (writersIn (head .«writer_count») w) ≡ head .«writer_count»
-  pub rises : rising writerKey (writersIn (head .«writer_count») w) ≡ true
-  pub alive : head .alive ≡ aliveCount (writersIn (head .«writer_count») w)
-  pub notAlive : head .«not_alive» ≡ notAliveCount (writersIn (head .«writer_count») w)
 
 pub good : (head : Head) (w : List ℕ) → Bytes w → WritersFormed head w → Good head w
 unfolding headOk writerTableOk writersOk countsOk aliveCount notAliveCount
@@ -61,22 +58,27 @@ good head w b h =
     let v = both _ _ (u .1) in
     let few : n ≤ 128 = leb-true n 128 (p .0) in
     let room : n * 40 ≤ length w = omega (arith, h .long) in
-    let size : length ws ≡ n = length-read writerOf 40 n w in
-    let a : head .alive ≡ aliveCount ws = eqb-true _ _ (k .0) in
-    let d : head .«not_alive» ≡ notAliveCount ws = eqb-true _ _ (k .1) in
     record {
       ready = record {
         sound = record { few = few; room = room; laid = lay-read writerBytes writerOf 40 n w room (writers-each n w b room (r .0)) (q .0); ok = o .1 };
-        alive = omega (arith, a, pick-le countsAlive ws, size);
-        notAlive = omega (arith, d, pick-le countsNotAlive ws, size);
+        rises = o .0;
+        alive = eqb-true _ _ (k .0);
+        notAlive = eqb-true _ _ (k .1);
         ackAlive = v .0;
         ackNotAlive = v .1;
       };
-      size = size;
-      rises = o .0;
-      alive = a;
-      notAlive = d;
+      size = length-read writerOf 40 n w;
     }
+
+-- no more are counted than there are
+module _ (head : Head) (n : ℕ) (w : List ℕ) (p : Passable head n w) where
+  pub few-alive : head .alive ≤ 128
+  unfolding aliveCount
+  few-alive = omega (arith, p .alive, pick-le countsAlive (writersIn n w), length-read writerOf 40 n w, p .sound .few)
+
+  pub few-not-alive : head .«not_alive» ≤ 128
+  unfolding notAliveCount
+  few-not-alive = omega (arith, p .notAlive, pick-le countsNotAlive (writersIn n w), length-read writerOf 40 n w, p .sound .few)
 
 -- ---- the head of the state that is held
 
@@ -87,8 +89,8 @@ head-same head w g pens lost =
       length-read instanceOf 512 (head .«instance_count») pens,
       length-read guidOf 16 (head .«lost_count») lost,
       g .size,
-      ← g .alive,
-      ← g .notAlive,
+      ← g .ready .alive,
+      ← g .ready .notAlive,
       less-less (pos (head .alive)) (head .«alive_change»),
       less-less (pos (head .«not_alive»)) (head .«not_alive_change»),
     )
@@ -115,28 +117,12 @@ module _ (ws : List Writer) (n : ℕ) (fits : All FitsWriter ws) (room : length 
 -- ---- one writer changed, put in, or taken out
 
 module _ {A : Type 0} (p : A → Bool) where
-  bit-count : (b : Bool) (x : A) (xs : List A) → length (cond b (x ∷ xs) xs) ≡ bit b + length xs
-  bit-count true x xs = omega arith
-  bit-count false x xs = omega arith
-
-  pub count-middle : (a b : List A) (x : A) → length (pick p (a ++ x ∷ b)) ≡ bit (p x) + length (pick p (a ++ b))
-  unfolding pick
-  count-middle a b x =
-      omega (
-        arith,
-        ap length (pick-append p a (x ∷ b)),
-        ap length (pick-append p a b),
-        length-append (pick p a) (pick p (x ∷ b)),
-        length-append (pick p a) (pick p b),
-        bit-count (p x) x (pick p b),
-      )
-
   module _ (xs : List A) (i : ℕ) (d : A) (h : i < length xs) where
     pub count-out : length (pick p xs) ≡ bit (p (getD xs i d)) + length (pick p (take i xs ++ drop (suc i) xs))
-    count-out = ap (λ (l : List A). length (pick p l)) (split-at xs i d h) ∙ count-middle (take i xs) (drop (suc i) xs) (getD xs i d)
+    count-out = ap (λ (l : List A). length (pick p l)) (split-at xs i d h) ∙ count-middle p (take i xs) (drop (suc i) xs) (getD xs i d)
 
     pub count-set : (y : A) → length (pick p (set xs i y)) ≡ bit (p y) + length (pick p (take i xs ++ drop (suc i) xs))
-    count-set y = ap (λ (l : List A). length (pick p l)) (set-split xs i y h) ∙ count-middle (take i xs) (drop (suc i) xs) y
+    count-set y = ap (λ (l : List A). length (pick p l)) (set-split xs i y h) ∙ count-middle p (take i xs) (drop (suc i) xs) y
 
   all-middle : (a b : List A) (x : A) → all p (a ++ b) ≡ true → p x ≡ true → all p (a ++ x ∷ b) ≡ true
   unfolding all

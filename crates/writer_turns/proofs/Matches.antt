@@ -28,7 +28,7 @@ use Rattle.model.specs.Answers.{refusedWith}
 use Rattle.model.specs.Guids.{num}
 use Rattle.model.specs.Refusals.{clocksUsedBy}
 use Rattle.model.specs.State.{classOf, countsAlive, countsNotAlive, aliveCount, notAliveCount, stateOf, writersIn, writersOf, writerKey}
-use Rattle.model.specs.Tables.{find, put, all, pick}
+use Rattle.model.specs.Tables.{find, put, all, pick, rising}
 use Rattle.model.specs.WellFormed.{clockOk, leaseOk, writerOk, isDeparted}
 use Rattle.model.specs.WriterRecord.{writerBytes}
 use Rattle.model.specs.Writers.{assertion, asserted, hasGuid, isTracked, leaseOn, matchedAs, matchedFrom, matchedWriter, matchAsserts, guidIn, trackerLate, trackerCall}
@@ -38,13 +38,14 @@ use Rattle.tables.specs.declared.Found.the-variants.{At, Missing}
 use Rattle.tables.specs.Found.{foundIn}
 use Rattle.tables.specs.Gaps.{opened}
 use Rattle.tables.proofs.GapLaws.{opened-lay}
+use Rattle.tables.proofs.Puts.{rising-put}
 use Rattle.tables.proofs.RecordLaws.{at-lt, find-at, put-at, missing-le, find-none, put-in}
 use Rattle.writer_pass.specs.Passes.{Sound, shiftsBy, tallyOf}
 use Rattle.writer_pass.proofs.Passing.{Any, wide, any-all}
-use Rattle.writer_pass.proofs.Picks.{writers-fit, all-at, bounded}
+use Rattle.writer_pass.proofs.Picks.{writers-fit, count-middle, all-at, bounded}
 use Rattle.writer_turns.specs.Turns.{calledBy, stillTally}
 use Rattle.writer_turns.specs.WriterCalls.{heldBy, Settles, Passable, assertionOn, automatic, assertedTable, assertedTally}
-use Rattle.writer_turns.proofs.Holding.{Good, head-same, read-laid-all, length-laid, sound-laid, count-middle, count-out, count-set, all-put, all-in}
+use Rattle.writer_turns.proofs.Holding.{Good, head-same, read-laid-all, length-laid, sound-laid, count-out, count-set, all-put, all-in}
 use Rattle.writer_turns.proofs.Singles.{still-tallied}
 use Rattle.writer_turns.proofs.Turning.{Plain, turn-settles, begun, match-turn, match-who, still-turn, still-who}
 
@@ -186,10 +187,10 @@ module _ (s : Sheet) (head : Head) (w : List ℕ) (bytes : Bytes w) (long : leng
 
   module _ (i : ℕ) (found : foundIn (map writerKey ws) (num (s .guid)) ≡ Missing i) where
     pub absent : find (hasGuid (s .guid)) ws ≡ none
-    absent = find-none writerKey ws (num (s .guid)) i (good .rises) found
+    absent = find-none writerKey ws (num (s .guid)) i (good .ready .rises) found
 
     pub within : i ≤ head .«writer_count»
-    within = omega (arith, missing-le writerKey ws (num (s .guid)) i (good .rises) found, good .size)
+    within = omega (arith, missing-le writerKey ws (num (s .guid)) i (good .ready .rises) found, good .size)
 
     abbrev z : Writer
     z = matchedWriter s none
@@ -200,7 +201,7 @@ module _ (s : Sheet) (head : Head) (w : List ℕ) (bytes : Bytes w) (long : leng
     in-is : begun s ws ≡ bs
     in-is =
         ap (λ (o : Option Writer). put writerKey (matchedWriter s o) ws) absent
-        ∙ put-in writerKey ws (num (s .guid)) i (good .rises) found z refl
+        ∙ put-in writerKey ws (num (s .guid)) i (good .ready .rises) found z refl
 
     size-in : length bs ≡ length ws + 1
     size-in = omega (arith, length-append (take i ws) (z ∷ drop i ws), length-take-le i ws (omega (arith, within, good .size)), length-drop i ws, within, good .size)
@@ -246,8 +247,9 @@ module _ (s : Sheet) (head : Head) (w : List ℕ) (bytes : Bytes w) (long : leng
   ready w₁ n p =
       record {
         sound = p .sound;
-        alive = good .ready .alive;
-        notAlive = good .ready .notAlive;
+        rises = ap (rising writerKey) (p .back) ∙ rising-put writerKey (matchedWriter s (find (hasGuid (s .guid)) ws)) ws (good .ready .rises);
+        alive = good .ready .alive ∙ sym (ap aliveCount (p .back) ∙ p .alive);
+        notAlive = good .ready .notAlive ∙ sym (ap notAliveCount (p .back) ∙ p .notAlive);
         ackAlive = good .ready .ackAlive;
         ackNotAlive = good .ready .ackNotAlive;
       }
@@ -258,7 +260,7 @@ module _ (s : Sheet) (head : Head) (w : List ℕ) (bytes : Bytes w) (long : leng
 
     pub match-kept : matchAsserts s ws ≡ false → (r : Called) → r ≡ calledBy head n (stillTally head) → Settles (head .places) (trackerCall Matched s (heldBy head pens w lost)) r w₁
     match-kept e r q =
-        let t = still-tallied head ws (begun s ws) (matchedWriter s none) (good .alive) (good .notAlive) (p .alive) (p .notAlive) in
+        let t = still-tallied head ws (begun s ws) (matchedWriter s none) (good .ready .alive) (good .ready .notAlive) (p .alive) (p .notAlive) in
         turn-settles Matched s head pens w lost (begun s ws) [] (stillTally head) n (still-turn s ws e) (still-who s ws e) (t .counts) (t .moved) (t .newest) (p .size)
         plain r w₁ q (p .laid)
 

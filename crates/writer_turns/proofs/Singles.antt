@@ -5,7 +5,7 @@
 --     gone-tallied, departs-tallied         the tallies of a record taken out, and of one that departs
 --     single-gone, single-departs, single-stays, single-missing     what the call leaves is model's turn
 -- Assumes nothing.
-use Prim.Native.Nat.{ℕ, zero, suc, _+_, _-_, _*_, _<_}
+use Prim.Native.Nat.{ℕ, suc, _+_, _-_, _*_, _<_}
 use mathlib.Core.Bool.{Bool, true, false, not, cond}
 use mathlib.Core.Path.{_≡_, refl, sym, ap, _∙_}
 use mathlib.Core.Logic.{⊎-elim}
@@ -42,26 +42,17 @@ use Rattle.tables.proofs.RecordLaws.{rising-records, at-lt}
 use Rattle.writer_pass.specs.declared.Tally.{Tally}
 use Rattle.writer_pass.specs.Passes.{countsOf}
 use Rattle.writer_pass.proofs.Passing.{Any, wide, any-all}
-use Rattle.writer_pass.proofs.Picks.{pick-append}
+use Rattle.writer_pass.proofs.Prefixes.{get-map}
+use Rattle.writer_pass.proofs.Picks.{all-from, pick-append, same-self}
 use Rattle.writer_turns.specs.Turns.{calledBy, stillTally, shiftedTally, goneTally, departsTally}
 use Rattle.writer_turns.specs.WriterCalls.{heldBy, Settles}
 use Rattle.writer_turns.proofs.Holding.{Good, count-out, count-set}
-use Rattle.writer_turns.proofs.Turning.{Plain, same-self, turn-settles}
+use Rattle.writer_turns.proofs.Turning.{Plain, turn-settles}
 
 -- ---- no other record has the GUID
 
 abbrev pub Lacks : Guid → List Writer → Type 0
 Lacks g ws = All (λ (w : Writer). hasGuid g w ≡ false) ws
-
--- what holds at each place holds of all
-all-from : {A : Type 0} (P : A → Type 0) (d : A) (xs : List A) → ((j : ℕ) → j < length xs → P (getD xs j d)) → All P xs
-all-from P d [] h = tt
-all-from P d (x ∷ xs) h = (h zero (omega arith), all-from P d xs (λ j l. h (suc j) (omega arith)))
-
-get-map : (ws : List Writer) (j : ℕ) (d : Writer) → j < length ws → getD (map writerKey ws) j 0 ≡ writerKey (getD ws j d)
-get-map [] j d h = absurd (omega arith)
-get-map (w ∷ ws) zero d h = refl
-get-map (w ∷ ws) (suc j) d h = get-map ws j d (omega arith)
 
 module _ (g : Guid) (ws : List Writer) (i : ℕ) (r : risingBy writerKey ws ≡ true) where
   pub missing-lacks : (d : Writer) → foundIn (map writerKey ws) (num g) ≡ Missing i → Lacks g ws
@@ -195,31 +186,31 @@ module _ (c : TrackerCall) (s : Sheet) (f : Writer → Option Writer) (head : He
   pub single-missing : Lacks (s .guid) ws → (r : Called) → r ≡ calledBy head (head .«writer_count») (stillTally head) → (pens lost : List ℕ) →
       Settles (head .places) (trackerCall c s (heldBy head pens w lost)) r w
   single-missing l r e pens lost =
-      let t = still-tallied head ws ws (departed (s .guid)) (good .alive) (good .notAlive) refl refl in
+      let t = still-tallied head ws ws (departed (s .guid)) (good .ready .alive) (good .ready .notAlive) refl refl in
       turn-settles c s head pens w lost ws [] (stillTally head) (head .«writer_count») (after ∙ sift-lacks (s .guid) f ws l)
       (who ∙ ap (map guidIn) (pick-lacks (s .guid) f ws l)) (t .counts) (t .moved) (t .newest) (sym (good .size)) (plain pens lost) r w e laid
 
   module _ (i : ℕ) (found : foundIn (map writerKey ws) (num (s .guid)) ≡ At i) (x : Writer) (read : x ≡ getD ws i x) where
     inside : i < length ws
-    inside = below (s .guid) ws i (good .rises) x found
+    inside = below (s .guid) ws i (good .ready .rises) x found
 
     split : ws ≡ take i ws ++ x ∷ drop (suc i) ws
     split = split-at ws i x inside ∙ ap (λ (z : Writer). take i ws ++ z ∷ drop (suc i) ws) (sym read)
 
     has : hasGuid (s .guid) x ≡ true
-    has = rw read (here (s .guid) ws i (good .rises) x found)
+    has = rw read (here (s .guid) ws i (good .ready .rises) x found)
 
     left : writersAfter c s ws ≡ take i ws ++ kept (f x) (drop (suc i) ws)
     left =
         after ∙ ap (sift (only (s .guid) f)) split
-        ∙ single-sift (s .guid) f (take i ws) (drop (suc i) ws) x (lacks-before (s .guid) ws i (good .rises) x found) (lacks-behind (s .guid) ws i (good .rises) x found) has
+        ∙ single-sift (s .guid) f (take i ws) (drop (suc i) ws) x (lacks-before (s .guid) ws i (good .ready .rises) x found) (lacks-behind (s .guid) ws i (good .ready .rises) x found) has
 
     gone : movers c s ws ≡ cond (moves f x) (x .guid ∷ []) []
     gone =
         who
         ∙ ap (λ (l : List Writer). map guidIn (pick (moves (only (s .guid) f)) l)) split
         ∙ ap (map guidIn)
-        (single-pick (s .guid) f (take i ws) (drop (suc i) ws) x (lacks-before (s .guid) ws i (good .rises) x found) (lacks-behind (s .guid) ws i (good .rises) x found) has)
+        (single-pick (s .guid) f (take i ws) (drop (suc i) ws) x (lacks-before (s .guid) ws i (good .ready .rises) x found) (lacks-behind (s .guid) ws i (good .ready .rises) x found) has)
         ∙ map-guid (moves f x) x
 
     pub out-alive : aliveCount ws ≡ bit (countsAlive x) + aliveCount (take i ws ++ drop (suc i) ws)
@@ -232,7 +223,7 @@ module _ (c : TrackerCall) (s : Sheet) (f : Writer → Option Writer) (head : He
 
     pub single-stays : f x ≡ some x → (r : Called) → r ≡ calledBy head (head .«writer_count») (stillTally head) → (pens lost : List ℕ) → Settles (head .places) (trackerCall c s (heldBy head pens w lost)) r w
     single-stays e r q pens lost =
-        let t = still-tallied head ws ws x (good .alive) (good .notAlive) refl refl in
+        let t = still-tallied head ws ws x (good .ready .alive) (good .ready .notAlive) refl refl in
         let u : movers c s ws ≡ [] = gone ∙ rw (e, same-self (classOf (x .liveliness .state))) in
         turn-settles c s head pens w lost ws [] (stillTally head) (head .«writer_count») (left ∙ rw e (sym split)) u (t .counts) (t .moved) (t .newest)
         (sym (good .size)) (plain pens lost) r w q laid
@@ -241,7 +232,7 @@ module _ (c : TrackerCall) (s : Sheet) (f : Writer → Option Writer) (head : He
         w′ ≡ closed 40 i (head .«writer_count») w → (pens lost : List ℕ) → Settles (head .places) (trackerCall c s (heldBy head pens w lost)) r w′
     single-gone e r w′ q v pens lost =
         let rest : List Writer = take i ws ++ drop (suc i) ws in
-        let t = gone-tallied head ws rest x (good .alive) (good .notAlive) out-alive out-not-alive in
+        let t = gone-tallied head ws rest x (good .ready .alive) (good .ready .notAlive) out-alive out-not-alive in
         let u : movers c s ws ≡ cond (not (sameClass (classOf (x .liveliness .state)) neither)) (x .guid ∷ []) [] = gone ∙ rw e in
         let n : head .«writer_count» - 1 ≡ length rest =
         omega (arith, length-append (take i ws) (drop (suc i) ws), length-take-le i ws (omega (arith, inside)), length-drop (suc i) ws, good .size, inside) in
@@ -259,7 +250,7 @@ module _ (c : TrackerCall) (s : Sheet) (f : Writer → Option Writer) (head : He
         let y : Writer = departed (x .guid) in
         let rest : List Writer = take i ws ++ drop (suc i) ws in
         let t =
-        departs-tallied head ws (set ws i y) x (good .alive) (good .notAlive) (aliveCount rest) (notAliveCount rest) h out-alive out-not-alive
+        departs-tallied head ws (set ws i y) x (good .ready .alive) (good .ready .notAlive) (aliveCount rest) (notAliveCount rest) h out-alive out-not-alive
         (count-set countsAlive ws i x inside y) (count-set countsNotAlive ws i x inside y) in
         let u : movers c s ws ≡ cond (not (sameClass (classOf (x .liveliness .state)) notAlive)) (x .guid ∷ []) [] = gone ∙ rw e in
         let z : writersAfter c s ws ≡ set ws i y = left ∙ rw e (sym (set-split ws i y inside)) in

@@ -24,12 +24,13 @@ use Rattle.model.specs.declared.Writer.{Writer}
 use Rattle.model.specs.Answers.{saying}
 use Rattle.model.specs.Guids.{guidOf, guidsIn}
 use Rattle.model.specs.InstanceRecord.{instanceOf}
-use Rattle.model.specs.State.{State, Class, alive, notAlive, neither, classOf, aliveCount, notAliveCount, stateOf, headOf, writersIn, writersOf, writerKey}
+use Rattle.model.specs.State.{State, classOf, aliveCount, notAliveCount, stateOf, headOf, writersIn, writersOf, writerKey}
 use Rattle.model.specs.Tables.{pick, sift, find, put}
-use Rattle.model.specs.Writers.{assertion, asserted, sameClass, moves, moved, movers, guidIn, lastAfter, hasGuid, matchedWriter, matchAsserts, writersAfter, writerActs, lostAfter, acknowledgedAfter, trackerLate, trackerTold, trackerState, trackerTurn, trackerCall}
+use Rattle.model.specs.Writers.{assertion, asserted, moves, moved, movers, guidIn, lastAfter, hasGuid, matchedWriter, matchAsserts, writersAfter, writerActs, lostAfter, acknowledgedAfter, trackerLate, trackerTold, trackerState, trackerTurn, trackerCall}
 use Rattle.model.proofs.RowLaws.{length-read}
 use Rattle.writer_pass.specs.declared.Tally.{Tally}
 use Rattle.writer_pass.specs.Passes.{countsOf, shiftsBy}
+use Rattle.writer_pass.proofs.Picks.{same-self}
 use Rattle.writer_turns.specs.Turns.{settledHead, calledBy}
 use Rattle.writer_turns.specs.WriterCalls.{heldBy, Settles}
 
@@ -48,11 +49,6 @@ pub sift-same : (ws : List Writer) → sift (λ (w : Writer). some w) ws ≡ ws
 unfolding sift
 sift-same [] = refl
 sift-same (w ∷ ws) = ap (λ (l : List Writer). w ∷ l) (sift-same ws)
-
-pub same-self : (c : Class) → sameClass c c ≡ true
-same-self alive = refl
-same-self notAlive = refl
-same-self neither = refl
 
 pub pick-same : (ws : List Writer) → pick (moves (λ (w : Writer). some w)) ws ≡ []
 unfolding pick

@@ -1,5 +1,5 @@
 -- The tracker calls on head and buffers: what a call may rely on, and what it leaves.
-use Prim.Native.Nat.{ℕ, _≤_}
+use Prim.Native.Nat.{ℕ}
 use mathlib.Core.Bool.{Bool, true, cond}
 use mathlib.Core.Path.{_≡_}
 use mathlib.Core.List.{List, [], map}
@@ -12,7 +12,8 @@ use Rattle.model.specs.declared.Sheet.{Sheet}
 use Rattle.model.specs.declared.TrackerCall.{TrackerCall}
 use Rattle.model.specs.declared.TrackerCall.the-variants.{Unmatched, LostWithParticipant}
 use Rattle.model.specs.InstanceCalls.{Turned}
-use Rattle.model.specs.State.{State, stateOf, headOf, writersIn, writersOf}
+use Rattle.model.specs.State.{State, aliveCount, notAliveCount, stateOf, headOf, writerKey, writersIn, writersOf}
+use Rattle.model.specs.Tables.{rising}
 use Rattle.model.specs.WellFormed.{within, headOk, writerTableOk, countsOk}
 use Rattle.model.specs.Writers.{asserted, trackerCall, isAutomatic}
 use Rattle.model.specs.WriterRecord.{writerBytes, livelinessNumbered}
@@ -52,11 +53,13 @@ leaving lost = cond lost LostWithParticipant Unmatched
 abbrev pub assertionOn : Bool → Bool → Sheet → Assertion
 assertionOn named manual s = record { guid = s .guid; named = named; manual = manual; clock = s .a }
 
--- a table that a pass may run over, and a head whose acknowledged amounts are within their bound
+-- a table that an assertion may run over: it rises, the head counts its classes, and the head's acknowledged amounts are
+-- within their bound
 pub record Passable (head : Head) (count : ℕ) (writers : List ℕ) : Type 0 where
   pub sound : Sound count writers
-  pub alive : head .alive ≤ 128
-  pub notAlive : head .«not_alive» ≤ 128
+  pub rises : rising writerKey (writersIn count writers) ≡ true
+  pub alive : head .alive ≡ aliveCount (writersIn count writers)
+  pub notAlive : head .«not_alive» ≡ notAliveCount (writersIn count writers)
   pub ackAlive : within (pos (head .alive) -ℤ head .«alive_change») ≡ true
   pub ackNotAlive : within (pos (head .«not_alive») -ℤ head .«not_alive_change») ≡ true
 

@@ -3,7 +3,7 @@ use mathlib.Core.List.{[]}
 use mathlib.Core.Path.{refl}
 use Rattle.model.specs.declared.TrackerCall.the-variants.{Matched, Unmatched, LostWithParticipant, WriterAsserted, ParticipantAsserted, TakeStatus, Acknowledge}
 use Rattle.writer_turns.specs.WriterCalls.{heldBy}
-use Rattle.writer_turns.proofs.Holding.{good}
+use Rattle.writer_turns.proofs.Holding.{good, few-alive, few-not-alive}
 use Rattle.writer_calls.proofs.Sheets.{clocks-fine, acknowledges-fine}
 use Rattle.writer_calls.proofs.Leaving.{turns-judged, expires-judged, takes-judged, keeps-judged, status-same, acknowledge-same}
 use borrow.Author.Needs.{needs}
@@ -68,8 +68,8 @@ acknowledge-requires c κs =
     let x = c .before .before .before .before .before in
     let g = good (x .args .head) (x .args .writers .now) (λ j. (c .before .before .before .before .slice-known .given) j .fits) (x .pre .0) in (
       x .pre .0 .headFormed,
-      g .ready .alive,
-      g .ready .notAlive,
+      few-alive (x .args .head) (x .args .head .«writer_count») (x .args .writers .now) (g .ready),
+      few-not-alive (x .args .head) (x .args .head .«writer_count») (x .args .writers .now) (g .ready),
       λ pens writers lost. acknowledges-fine (x .args .c) Acknowledge (c .enum-told9 .given .1) (x .args .s)
           (heldBy (x .args .head) pens writers lost) (x .pre .4 pens writers lost),
     )

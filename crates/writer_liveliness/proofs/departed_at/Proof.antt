@@ -5,7 +5,7 @@ use native.Mathlib.Omega.{arith}
 use borrow.Author.Needs.{needs}
 use Rattle.writer_turns.specs.Turns.{calledBy, departsTally}
 use Rattle.writer_turns.proofs.Calling.{alive-there, room-departs, both-few}
-use Rattle.writer_turns.proofs.Holding.{good}
+use Rattle.writer_turns.proofs.Holding.{good, few-not-alive}
 use Rattle.octets.specs.Patch.{patch}
 use Rattle.model.specs.WriterRecord.{writerBytes}
 use Rattle.model.specs.Writers.{departed}
@@ -37,7 +37,8 @@ departs-requires c κs =
       alive-there (a .args .head) (a .args .writers .now)
           (good (a .args .head) (a .args .writers .now) (λ j. (l .slice-known .given) j .fits) (a .pre .0)) (a .args .i) (k .writer-at .result)
           (a .pre .1) (k .writer-at .ensures),
-      (good (a .args .head) (a .args .writers .now) (λ j. (l .slice-known .given) j .fits) (a .pre .0)) .ready .notAlive,
+      few-not-alive (a .args .head) (a .args .head .«writer_count») (a .args .writers .now)
+          ((good (a .args .head) (a .args .writers .now) (λ j. (l .slice-known .given) j .fits) (a .pre .0)) .ready),
     )
 
 called-requires : tie.Need-called-requires

@@ -1,0 +1,127 @@
+-- `writer_pass::assert_writers` meets its contract. Assumes nothing.
+use Prim.Native.Nat.{_-_}
+use mathlib.Core.Path.{sym, ap, _∙_}
+use native.Mathlib.Omega.{arith}
+use borrow.Author.Needs.{needs}
+use borrow.Author.Tests.{not-true}
+use Rattle.model.specs.State.{writersIn, writerKey}
+use Rattle.tables.specs.Keys.{rising}
+use Rattle.tables.proofs.RecordLaws.{rising-records}
+use Rattle.writer_pass.proofs.Prefixes.{keys-are}
+use Rattle.writer_pass.proofs.Asserting.{Asserting, starts, asserting-start, asserting-there, asserting-turn, asserting-left, asserting-end}
+use Rattle.writer_pass.proofs.assert_writers.Statement.{statement}
+use Rattle.writer_pass.proofs.assert_writers.Tie as tie
+
+abbrev Inv-loop : tie.InvT-loop
+Inv-loop t₀ count a named tally₀ i₀ t tally i = Asserting a (tally₀ .last) t₀ count i₀ t tally i
+
+abbrev μ-loop : tie.MeasureT-loop
+μ-loop t₀ count a named tally₀ i₀ t tally i = count - i
+
+first-of-requires : tie.Need-first-of-requires Inv-loop μ-loop
+first-of-requires c κs = search needs
+
+lower-bound-requires : tie.Need-lower-bound-requires Inv-loop μ-loop
+lower-bound-requires c κs =
+    let a = c .before .before .before .before in (
+      omega arith,
+      a .pre .0 .few,
+      a .pre .0 .room,
+      ap rising (keys-are (a .args .count) (a .args .t .now)) ∙ rising-records writerKey (writersIn (a .args .count) (a .args .t .now)) ∙ a .pre .1,
+    )
+
+loop-holds : tie.Need-loop-holds Inv-loop μ-loop
+loop-holds c =
+    let k = c .before .before .before .before in
+    let a = k .before in
+    asserting-start (a .args .a) (a .args .last) (a .args .t .now) (a .args .count) (c .lower-bound .result) (λ j. (k .slice-known .given) j .fits) (a .pre .0) (a .pre .1)
+    (starts (a .args .t .now) (a .args .count) (c .lower-bound .result) (a .args .a .guid) (c .before .first-of .result) (c .lower-bound .ensures) (c .before .first-of .ensures))
+    (a .args .counts) (a .pre .2)
+
+writer-at-requires : tie.Need-writer-at-requires Inv-loop μ-loop
+writer-at-requires c κs =
+    let l = c .before .before in
+    let a = l .before .before .before .before .before .before in
+    omega (arith, (a .pre .0), (l .loop .inv .amid))
+
+same-prefix-requires : tie.Need-same-prefix-requires Inv-loop μ-loop
+same-prefix-requires c κs = search needs
+
+same-length : tie.Need-same-length Inv-loop μ-loop
+same-length c = omega (arith, (c .before .before .before .before .before .before .loop .inv .amid))
+
+returns : tie.Need-returns Inv-loop μ-loop
+returns c =
+    let m = c .before .before .before in
+    let l = m .before .before .before .before in
+    let k = l .before .before .before .before in
+    let a = k .before in
+    let n = m .before .before .before .loop in
+    asserting-left (a .args .a) (a .args .last) (a .args .t .now) (a .args .count) (l .lower-bound .result) (λ j. (k .slice-known .given) j .fits) (a .pre .0) (a .pre .1) (n .t)
+    (n .tally) (n .i) (n .inv) (omega arith) (m .writer-at .result) (m .writer-at .ensures) (sym (c .before .same-prefix .ensures) ∙ not-true _ (c .if1 .taken))
+
+assert-at-requires : tie.Need-assert-at-requires Inv-loop μ-loop
+assert-at-requires c κs =
+    let m = c .before .before .before .before in
+    let l = m .before .before .before .before in
+    let k = l .before .before .before .before in
+    let a = k .before in
+    let n = m .before .before .before .loop in (
+      omega (arith, (a .pre .0), (n .inv .amid)),
+      n .inv .few,
+      n .inv .moved,
+      asserting-there (a .args .a) (a .args .last) (a .args .t .now) (a .args .count) (l .lower-bound .result) (λ j. (k .slice-known .given) j .fits) (a .pre .0) (a .pre .1) (n .t)
+          (n .tally) (n .i) (n .inv) (omega arith) (m .writer-at .result) (m .writer-at .ensures),
+    )
+
+add-i : tie.Need-add-i Inv-loop μ-loop
+add-i c =
+    let n = c .before .before .before .before .before .before .before .before .before .before in
+    omega (arith, (n .before .before .before .before .before .before .pre .0))
+
+loop-less : tie.Need-loop-less Inv-loop μ-loop
+loop-less c = omega arith
+
+loop-again : tie.Need-loop-again Inv-loop μ-loop
+loop-again c =
+    let d = c .before .before in
+    let m = d .before .before .before .before .before in
+    let l = m .before .before .before .before in
+    let k = l .before .before .before .before in
+    let a = k .before in
+    let n = m .before .before .before .loop in
+    asserting-turn (a .args .a) (a .args .last) (a .args .t .now) (a .args .count) (l .lower-bound .result) (λ j. (k .slice-known .given) j .fits) (a .pre .0) (a .pre .1) (n .t)
+    (n .tally) (n .i) (n .inv) (omega arith) (m .writer-at .result) (m .writer-at .ensures) (d .assert-at .last .0) (d .assert-at .result)
+    (d .assert-at .ensures .0) (d .assert-at .ensures .1)
+
+same-length-2 : tie.Need-same-length-2 Inv-loop μ-loop
+same-length-2 c = omega (arith, (c .before .loop .inv .amid))
+
+returns-2 : tie.Need-returns-2 Inv-loop μ-loop
+returns-2 c =
+    let l = c .before .before in
+    let k = l .before .before .before .before in
+    let a = k .before in
+    let n = c .before .loop in
+    asserting-end (a .args .a) (a .args .last) (a .args .t .now) (a .args .count) (l .lower-bound .result) (λ j. (k .slice-known .given) j .fits) (a .pre .0) (a .pre .1) (n .t)
+    (n .tally) (n .i) (n .inv) (omega arith)
+
+pub assert-writers-spec : {M : Type 1} → statement M
+assert-writers-spec =
+    tie.close
+    (tie.spec
+    Inv-loop
+    μ-loop
+    first-of-requires
+    lower-bound-requires
+    loop-holds
+    writer-at-requires
+    same-prefix-requires
+    same-length
+    returns
+    assert-at-requires
+    add-i
+    loop-less
+    loop-again
+    same-length-2
+    returns-2)
