@@ -110,7 +110,7 @@ pub fn table_ok(t: &[u8], places: usize, count: usize, next: u64) -> bool
     if places < count {
         return false;
     }
-    if !octets::zero_from(t, count * 512) {
+    if !zeros::zero_from(t, count * 512) {
         return false;
     }
     if !records_ok(t, count) {

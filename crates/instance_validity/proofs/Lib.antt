@@ -2,4 +2,3 @@
 pub mod Nil
 pub mod Rise
 pub mod Valid
-pub mod Zeros

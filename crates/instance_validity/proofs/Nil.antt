@@ -1,45 +1,22 @@
 -- Zeros in bytes are zeros as numbers.
---     zero-sum      a number of two digits is 0 where both are
---     be-zero       a number is 0 where its bytes are
 --     guids-nil     GUIDs are nil where their bytes are zero
 --     set-tail      the unused places of the writer set are nil where the record's end is zero
 -- Assumes nothing.
-use Prim.Native.Nat.{ℕ, zero, suc, _+_, _-_, _*_, _^_, _≤_, _<_}
-use mathlib.Core.Bool.{_&&_, and-true}
+use Prim.Native.Nat.{ℕ, zero, suc, _+_, _-_, _*_, _^_, _≤_}
 use mathlib.Core.Path.{_≡_, refl, sym, ap, _∙_}
-use mathlib.Core.List.{List, [], _∷_}
-use native.Mathlib.Nat.{suc-mul}
+use mathlib.Core.List.{List}
 use native.Mathlib.Omega.{arith}
-use lib.Dec.{eqb, eqb·suc-zero}
-use lib.ListN.{length, take, drop, getD, length-drop}
-use lib.Seq.{take-suc, take-add, take-all, getD-drop, drop-drop, length-take-le}
-use borrow.Author.Tests.{ne-eqb}
+use lib.ListN.{length, take, drop, length-drop}
+use lib.Seq.{take-add, take-all, drop-drop, length-take-le}
 use Rattle.octets.specs.Octets.{be}
 use Rattle.octets.specs.Zeros.{allZero}
 use Rattle.octets.proofs.ZeroLaws.{allZero-append}
+use Rattle.zeros.proofs.Words.{zero-sum, be-zero}
 use Rattle.model.specs.Guids.{num, same, nil, guidOf, guidsIn}
 use Rattle.model.specs.Layout.{readRows}
 use Rattle.model.specs.Tables.{all}
 use Rattle.model.specs.WellFormed.{isNil}
 use Rattle.model.proofs.RowLaws.{drop-read}
-
-pub zero-sum : (m a b : ℕ) → 0 < m → eqb (a * m + b) 0 ≡ (eqb a 0 && eqb b 0)
-zero-sum m zero b h = let e : zero * m + b ≡ b = omega arith in ap (λ (n : ℕ). eqb n 0) e
-zero-sum m (suc a) b h = ne-eqb (suc a * m + b) 0 (λ e. omega (arith, suc-mul a m)) ∙ rw (eqb·suc-zero a)
-
-pub be-zero : (k : ℕ) (s : List ℕ) (at : ℕ) → at + k ≤ length s → eqb (be k s at) 0 ≡ allZero (take k (drop at s))
-unfolding be allZero
-be-zero zero s at h = refl
-be-zero (suc k) s at h =
-    let b : ℕ = getD s (at + k) 0 in
-    zero-sum 256 (be k s at) b (omega arith)
-    ∙ rw (
-      be-zero k s at (omega arith),
-      take-suc (drop at s) k 0 (rw (length-drop at s) (omega arith)),
-      getD-drop at s k 0,
-      allZero-append (take k (drop at s)) (b ∷ []),
-      and-true (eqb b 0),
-    )
 
 nil-zero : (s : List ℕ) → length s ≡ 16 → same (guidOf s) nil ≡ allZero s
 unfolding num

@@ -6,10 +6,9 @@
 // instance as bytes of a fixed layout.
 ghost use mathlib.Core.Path.{_≡_};
 ghost use mathlib.Core.Bool.{_&&_};
-ghost use Prim.Native.Nat.{_+_, _-_, _*_, _≤_};
+ghost use Prim.Native.Nat.{_+_, _*_, _≤_};
 ghost use lib.Dec.{ltb};
-ghost use lib.ListN.{length, take, drop};
-ghost use Rattle.octets.specs.Zeros.{allZero};
+ghost use lib.ListN.{length, drop};
 ghost use Rattle.model.specs.Guids.{num, less, guidAt, guidsIn};
 ghost use Rattle.model.specs.InstanceRecord.{timeAt, lifeOf, timesOf, ownerOf, holderOf, writerSetOf};
 ghost use Rattle.model.specs.Tables.{rising};
@@ -76,41 +75,6 @@ fn owner_ok(s: &[u8], f: u16) -> bool
     absent & (n == 0)
 }
 
-// Whether the 32 bytes from at are zero.
-fn zero_32(s: &[u8], at: usize) -> bool
-    requires { ⌜ at + 32 ≤ length (now s) ⌝ }
-    ensures { λ r. ⌜ r ≡ allZero (take 32 (drop at (now (s .entry)))) ⌝ }
-{
-    let a = octets::get_u64(s, at);
-    let b = octets::get_u64(s, at + 8);
-    let c = octets::get_u64(s, at + 16);
-    let d = octets::get_u64(s, at + 24);
-    (a == 0) & ((b == 0) & ((c == 0) & (d == 0)))
-}
-
-// Whether each byte from `from` up to, not including, `end` is 0, 32 bytes a turn. The last 32 are looked at first, and
-// may overlap with those of the last turn, so that no turn has fewer.
-fn zero_tail(s: &[u8], from: usize, end: usize) -> bool
-    requires { ⌜ (from ≤ end) × (32 ≤ end) × (end ≤ length (now s)) ⌝ }
-    ensures { λ r. ⌜ r ≡ allZero (take (end - from) (drop from (now (s .entry)))) ⌝ }
-{
-    let last = end - 32;
-    if last < from {
-        return octets::zero_between(s, from, end);
-    }
-    if !zero_32(s, last) {
-        return false;
-    }
-    let mut at = from;
-    while at < last {
-        if !zero_32(s, at) {
-            return false;
-        }
-        at += 32;
-    }
-    true
-}
-
 // A holder has at most 144 bytes, and zeros behind them; an absent one is zero.
 fn holder_ok(s: &[u8], f: u16) -> bool
     requires { ⌜ length (now s) ≡ 512 ⌝ }
@@ -121,12 +85,12 @@ fn holder_ok(s: &[u8], f: u16) -> bool
         if 144 < n {
             return false;
         }
-        return zero_tail(s, 112 + n, 256);
+        return zeros::zero_tail(s, 112 + n, 256);
     }
     if n != 0 {
         return false;
     }
-    zero_tail(s, 112, 256)
+    zeros::zero_tail(s, 112, 256)
 }
 
 // Whether the GUID of the 16 bytes from at stands before that of the next 16.
@@ -208,7 +172,7 @@ fn set_ok(s: &[u8], f: u16) -> bool
     if !set_rises(s, n) {
         return false;
     }
-    octets::zero_from(s, 256 + n * 16)
+    zeros::zero_from(s, 256 + n * 16)
 }
 
 // Whether the record is well formed.

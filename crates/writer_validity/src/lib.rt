@@ -130,7 +130,7 @@ pub fn writers_ok(h: Head, writers: &[u8], count: usize) -> bool
     if 128 < count {
         return false;
     }
-    if !octets::zero_from(writers, count * 40) {
+    if !zeros::zero_from(writers, count * 40) {
         return false;
     }
     records_ok(writers, count, h.alive, h.not_alive)
@@ -144,7 +144,7 @@ pub fn lost_ok(lost: &[u8], count: usize) -> bool
     if 256 < count {
         return false;
     }
-    octets::zero_from(lost, count * 16)
+    zeros::zero_from(lost, count * 16)
 }
 
 // ---- the head

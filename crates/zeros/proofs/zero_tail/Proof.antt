@@ -1,13 +1,13 @@
--- `zero_tail` meets its contract: what is left of the scan is the whole of it. The measure is how far the last 32 bytes
--- are. Assumes nothing.
+-- `zero_tail` meets its contract: what is left of the scan is the whole of it. The measure is how many bytes are left.
+-- Assumes nothing.
 use Prim.Native.Nat.{_-_, _≤_}
-use mathlib.Core.Path.{_≡_, refl, sym, _∙_}
 use mathlib.Core.Bool.{true}
+use mathlib.Core.Path.{_≡_, refl, sym, _∙_}
 use native.Mathlib.Omega.{arith}
 use borrow.Author.Tests.{not-true, not-false}
-use Rattle.instance_validity.proofs.Zeros.{zeros, tail-turn, tail-stop, tail-end, tail-short}
-use Rattle.instance_validity.proofs.zero_tail.Statement.{statement}
-use Rattle.instance_validity.proofs.zero_tail.Tie as tie
+use Rattle.zeros.proofs.Words.{zeros, tail-turn, tail-stop, tail-end, tail-short}
+use Rattle.zeros.proofs.zero_tail.Statement.{statement}
+use Rattle.zeros.proofs.zero_tail.Tie as tie
 
 abbrev Inv-loop : tie.InvT-loop
 Inv-loop s from end last at₀ at = (from ≤ at) × (at ≤ end) × (zeros s 32 (end - 32) ≡ true) × (zeros s (end - from) from ≡ zeros s (end - at) at)
@@ -15,8 +15,8 @@ Inv-loop s from end last at₀ at = (from ≤ at) × (at ≤ end) × (zeros s 32
 abbrev μ-loop : tie.MeasureT-loop
 μ-loop s from end last at₀ at = end - at
 
-sub-last : tie.Need-sub-last Inv-loop μ-loop
-sub-last c = omega arith
+sub-if1 : tie.Need-sub-if1 Inv-loop μ-loop
+sub-if1 c = omega arith
 
 zero-between-requires : tie.Need-zero-between-requires Inv-loop μ-loop
 zero-between-requires c κs = omega arith
@@ -24,13 +24,16 @@ zero-between-requires c κs = omega arith
 returns : tie.Need-returns Inv-loop μ-loop
 returns c = c .zero-between .ensures
 
+sub-last : tie.Need-sub-last Inv-loop μ-loop
+sub-last c = omega arith
+
 zero-32-requires : tie.Need-zero-32-requires Inv-loop μ-loop
 zero-32-requires c κs = omega arith
 
 returns-2 : tie.Need-returns-2 Inv-loop μ-loop
 returns-2 c =
     let a = c .before .before .before .before .args in
-    sym (tail-short (a .s .now) (a .end) (a .from) (omega arith) (omega arith) (sym (c .before .zero-32 .ensures) ∙ not-true _ (c .if2 .taken)))
+    sym (tail-short (a .s .now) 32 (a .end) (a .from) (omega arith) (omega arith) (sym (c .before .zero-32 .ensures) ∙ not-true _ (c .if2 .taken)))
 
 loop-holds : tie.Need-loop-holds Inv-loop μ-loop
 loop-holds c = (omega arith, omega arith, sym (c .before .zero-32 .ensures) ∙ not-false _ (c .if2 .left), refl)
@@ -42,7 +45,7 @@ returns-3 : tie.Need-returns-3 Inv-loop μ-loop
 returns-3 c =
     let a = c .before .before .before .before .before .before .before .before .args in
     let l = c .before .before .before .loop in
-    sym (l .inv .3 ∙ tail-stop (a .s .now) (a .end) (l .at) (omega arith) (sym (c .before .zero-322 .ensures) ∙ not-true _ (c .if3 .taken)))
+    sym (l .inv .3 ∙ tail-stop (a .s .now) 32 (a .end) (l .at) (omega arith) (sym (c .before .zero-322 .ensures) ∙ not-true _ (c .if3 .taken)))
 
 add-at : tie.Need-add-at Inv-loop μ-loop
 add-at c = omega arith
@@ -57,14 +60,14 @@ loop-again c =
       omega arith,
       omega arith,
       l .inv .2,
-      l .inv .3 ∙ tail-turn (a .s .now) (a .end) (l .at) (omega arith) (sym (c .before .zero-322 .ensures) ∙ not-false _ (c .if3 .left)),
+      l .inv .3 ∙ tail-turn (a .s .now) 32 (a .end) (l .at) (omega arith) (sym (c .before .zero-322 .ensures) ∙ not-false _ (c .if3 .left)),
     )
 
 returns-4 : tie.Need-returns-4 Inv-loop μ-loop
 returns-4 c =
     let a = c .before .before .before .before .before .before .args in
     let l = c .before .loop in
-    sym (l .inv .3 ∙ tail-end (a .s .now) (a .end) (l .at) (omega arith) (omega arith) (omega arith) (l .inv .2))
+    sym (l .inv .3 ∙ tail-end (a .s .now) 32 (a .end) (l .at) (omega arith) (omega arith) (omega arith) (l .inv .2))
 
 pub zero-tail-spec : {M : Type 1} → statement M
 zero-tail-spec =
@@ -72,9 +75,10 @@ zero-tail-spec =
     (tie.spec
     Inv-loop
     μ-loop
-    sub-last
+    sub-if1
     zero-between-requires
     returns
+    sub-last
     zero-32-requires
     returns-2
     loop-holds

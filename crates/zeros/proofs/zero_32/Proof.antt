@@ -1,8 +1,8 @@
 -- `zero_32` meets its contract: four words are zero where their bytes are. Assumes nothing.
-use Rattle.instance_validity.proofs.Zeros.{zeros-words}
+use Rattle.zeros.proofs.Words.{zeros-words}
 use borrow.Author.Needs.{needs}
-use Rattle.instance_validity.proofs.zero_32.Statement.{statement}
-use Rattle.instance_validity.proofs.zero_32.Tie as tie
+use Rattle.zeros.proofs.zero_32.Statement.{statement}
+use Rattle.zeros.proofs.zero_32.Tie as tie
 
 get-u64-requires : tie.Need-get-u64-requires
 get-u64-requires c κs = search needs

@@ -1,0 +1,2 @@
+-- Laws of zeros in bytes.
+pub mod Words

@@ -1,0 +1,90 @@
+-- `zero_long` meets its contract: what is left of the scan is the whole of it. The measure is how many bytes are left.
+-- Assumes nothing.
+use Prim.Native.Nat.{_-_, _≤_}
+use mathlib.Core.Bool.{true}
+use mathlib.Core.Path.{_≡_, refl, sym, _∙_}
+use native.Mathlib.Omega.{arith}
+use borrow.Author.Tests.{not-true, not-false}
+use Rattle.zeros.proofs.Words.{zeros, tail-turn, tail-stop, tail-end, tail-short}
+use Rattle.zeros.proofs.zero_long.Statement.{statement}
+use Rattle.zeros.proofs.zero_long.Tie as tie
+
+abbrev Inv-loop : tie.InvT-loop
+Inv-loop s from end last at₀ at = (from ≤ at) × (at ≤ end) × (zeros s 64 (end - 64) ≡ true) × (zeros s (end - from) from ≡ zeros s (end - at) at)
+
+abbrev μ-loop : tie.MeasureT-loop
+μ-loop s from end last at₀ at = end - at
+
+sub-if1 : tie.Need-sub-if1 Inv-loop μ-loop
+sub-if1 c = omega arith
+
+zero-between-requires : tie.Need-zero-between-requires Inv-loop μ-loop
+zero-between-requires c κs = omega arith
+
+returns : tie.Need-returns Inv-loop μ-loop
+returns c = c .zero-between .ensures
+
+sub-last : tie.Need-sub-last Inv-loop μ-loop
+sub-last c = omega arith
+
+zero-64-requires : tie.Need-zero-64-requires Inv-loop μ-loop
+zero-64-requires c κs = omega arith
+
+returns-2 : tie.Need-returns-2 Inv-loop μ-loop
+returns-2 c =
+    let a = c .before .before .before .before .args in
+    sym (tail-short (a .s .now) 64 (a .end) (a .from) (omega arith) (omega arith) (sym (c .before .zero-64 .ensures) ∙ not-true _ (c .if2 .taken)))
+
+loop-holds : tie.Need-loop-holds Inv-loop μ-loop
+loop-holds c = (omega arith, omega arith, sym (c .before .zero-64 .ensures) ∙ not-false _ (c .if2 .left), refl)
+
+zero-64-requires-2 : tie.Need-zero-64-requires-2 Inv-loop μ-loop
+zero-64-requires-2 c κs = omega arith
+
+returns-3 : tie.Need-returns-3 Inv-loop μ-loop
+returns-3 c =
+    let a = c .before .before .before .before .before .before .before .before .args in
+    let l = c .before .before .before .loop in
+    sym (l .inv .3 ∙ tail-stop (a .s .now) 64 (a .end) (l .at) (omega arith) (sym (c .before .zero-642 .ensures) ∙ not-true _ (c .if3 .taken)))
+
+add-at : tie.Need-add-at Inv-loop μ-loop
+add-at c = omega arith
+
+loop-less : tie.Need-loop-less Inv-loop μ-loop
+loop-less c = omega arith
+
+loop-again : tie.Need-loop-again Inv-loop μ-loop
+loop-again c =
+    let a = c .before .before .before .before .before .before .before .before .args in
+    let l = c .before .before .before .loop in (
+      omega arith,
+      omega arith,
+      l .inv .2,
+      l .inv .3 ∙ tail-turn (a .s .now) 64 (a .end) (l .at) (omega arith) (sym (c .before .zero-642 .ensures) ∙ not-false _ (c .if3 .left)),
+    )
+
+returns-4 : tie.Need-returns-4 Inv-loop μ-loop
+returns-4 c =
+    let a = c .before .before .before .before .before .before .args in
+    let l = c .before .loop in
+    sym (l .inv .3 ∙ tail-end (a .s .now) 64 (a .end) (l .at) (omega arith) (omega arith) (omega arith) (l .inv .2))
+
+pub zero-long-spec : {M : Type 1} → statement M
+zero-long-spec =
+    tie.close
+    (tie.spec
+    Inv-loop
+    μ-loop
+    sub-if1
+    zero-between-requires
+    returns
+    sub-last
+    zero-64-requires
+    returns-2
+    loop-holds
+    zero-64-requires-2
+    returns-3
+    add-at
+    loop-less
+    loop-again
+    returns-4)
