@@ -20,6 +20,7 @@ use Rattle.model.specs.declared.Guid.{Guid}
 use Rattle.model.specs.declared.Instance.{Instance}
 use Rattle.model.specs.declared.InstanceCall.{InstanceCall}
 use Rattle.model.specs.declared.InstanceHandle.{InstanceHandle}
+use Rattle.model.specs.declared.MaybeTime.{MaybeTime}
 use Rattle.model.specs.declared.Sheet.{Sheet}
 use Rattle.model.specs.Answers.{counting}
 use Rattle.model.specs.Call.{listIn}
@@ -32,7 +33,6 @@ use Rattle.model.specs.Joined.{afterLoss, clearings, clearingsIn}
 use Rattle.model.specs.Layout.{readRows}
 use Rattle.model.specs.State.{instancesIn}
 use Rattle.model.specs.Tables.{pick, sift, all}
-use Rattle.model.specs.Times.{ifPresent}
 use Rattle.model.specs.WellFormed.{instanceOk}
 use Rattle.model.proofs.Keeps.{every-cases}
 use Rattle.model.proofs.RowLaws.{length-read}
@@ -41,9 +41,10 @@ use Rattle.model.proofs.Tests.{split}
 use Rattle.model.proofs.TableLaws.{length-sift}
 use Rattle.instance_fields.proofs.UsableLaws.{usable}
 use Rattle.instance_table.proofs.LaidOut.{table-formed, table-laid}
-use Rattle.instance_pass.specs.declared.Passing.{Passing}
-use Rattle.instance_pass.specs.declared.Passing.the-variants.{Call, Loss}
+use Rattle.instance_pass.specs.declared.Passing.the-variants.{Call}
 use Rattle.instance_pass.specs.declared.Tally.{Tally}
+use Rattle.instance_pass.specs.Acts.{Act, Bounded}
+use Rattle.instance_pass.specs.Steps.{callAct, lossAct}
 use Rattle.instance_pass.specs.Passes.{remaining, listing, amount, total, UsableIn, Passed}
 use Rattle.instance_table.specs.TableCalls.{TableFormed, stateWith}
 use Rattle.instance_pass.specs.EveryCalls.{answerAs, LeavesTableAndOut}
@@ -91,27 +92,26 @@ pub record Few (r : Tally) (n : ℕ) : Type 0 where
   pub listed : r .listed ≤ n
   pub counted : r .counted ≤ n * 256
 
-pub passed-few : (p : Passing) (s : Sheet) (gone : List Guid) (xs : List Instance) (t out t′ out′ : List ℕ) (r : Tally) →
-    ((x : Instance) → amount p s gone x ≤ 256) → Passed p s gone xs t out t′ out′ r → Few r (length xs)
-passed-few p s gone xs t out t′ out′ r h d =
+pub passed-few : (a : Act) (xs : List Instance) (t out t′ out′ : List ℕ) (r : Tally) → Bounded a → Passed a xs t out t′ out′ r → Few r (length xs)
+passed-few a xs t out t′ out′ r h d =
     record {
-      kept = omega (arith, d .kept, length-sift (remaining p s gone) xs);
-      listed = omega (arith, d .listed, length-pick (listing p s gone) xs);
-      counted = omega (arith, d .counted, total-le (amount p s gone) h xs);
+      kept = omega (arith, d .kept, length-sift (remaining a) xs);
+      listed = omega (arith, d .listed, length-pick (listing a) xs);
+      counted = omega (arith, d .counted, total-le (amount a) (λ x. h (x .state)) xs);
     }
 
 -- ---- model's call
 
-pub record Every (places : ℕ) (s : Sheet) (gone : List Guid) (xs : List Instance) (next : ℕ) (c : InstanceCall) : Type 0 where
-  pub answer : answerAs (rule c .reports) (length (pick (listing (Call c) s gone) xs)) (total (amount (Call c) s gone) xs) ≡ instanceCall places c s (stateWith xs next) .answer
-  pub instances : sift (remaining (Call c) s gone) xs ≡ instanceCall places c s (stateWith xs next) .state .instances
+pub record Every (places : ℕ) (s : Sheet) (xs : List Instance) (next : ℕ) (c : InstanceCall) : Type 0 where
+  pub answer : answerAs (rule c .reports) (length (pick (listing (callAct c s)) xs)) (total (amount (callAct c s)) xs) ≡ instanceCall places c s (stateWith xs next) .answer
+  pub instances : sift (remaining (callAct c s)) xs ≡ instanceCall places c s (stateWith xs next) .state .instances
   pub same : next ≡ instanceCall places c s (stateWith xs next) .state .nextHandle
-  pub list : handleBytes (pick (listing (Call c) s gone) xs) ≡ instanceCall places c s (stateWith xs next) .list
+  pub list : handleBytes (pick (listing (callAct c s)) xs) ≡ instanceCall places c s (stateWith xs next) .list
 
-pub every-turn : (places : ℕ) (c : InstanceCall) (s : Sheet) (gone : List Guid) (xs : List Instance) (next : ℕ) → onEvery c ≡ true → Every places s gone xs next c
+pub every-turn : (places : ℕ) (c : InstanceCall) (s : Sheet) (xs : List Instance) (next : ℕ) → onEvery c ≡ true → Every places s xs next c
 unfolding instanceCall lateRefusal instanceTurn begun nextAfter instancesAfter
-every-turn places c s gone xs next e =
-    every-cases (Every places s gone xs next) c e
+every-turn places c s xs next e =
+    every-cases (Every places s xs next) c e
     record { answer = refl; instances = refl; same = refl; list = refl }
     record { answer = refl; instances = refl; same = refl; list = refl }
     record { answer = ap counting (total-pick (ownedBy s) xs); instances = refl; same = refl; list = refl }
@@ -119,22 +119,22 @@ every-turn places c s gone xs next e =
     record { answer = ap counting (total-pick (isPurged s) xs); instances = refl; same = refl; list = refl }
 
 -- the bounds of its tally
-pub every-few : (places count next : ℕ) (c : InstanceCall) (s : Sheet) (gone : List Guid) (t out t′ out′ : List ℕ) (r : Tally) → TableFormed places count next t →
-    Passed (Call c) s gone (instancesIn count t) t out t′ out′ r → Few r 128
-every-few places count next c s gone t out t′ out′ r d p =
+pub every-few : (places count next : ℕ) (c : InstanceCall) (s : Sheet) (t out t′ out′ : List ℕ) (r : Tally) → TableFormed places count next t →
+    Passed (callAct c s) (instancesIn count t) t out t′ out′ r → Few r 128
+every-few places count next c s t out t′ out′ r d p =
     let h = ready-held places count next t d in
     let n : length (instancesIn count t) ≡ count = length-read instanceOf 512 count t in
-    let w = passed-few (Call c) s gone (instancesIn count t) t out t′ out′ r (λ x. counted-le (Call c) s [] (x .state) (omega arith)) p in
+    let w = passed-few (callAct c s) (instancesIn count t) t out t′ out′ r (λ x. counted-le (Call c) s [] x (omega arith)) p in
     record { kept = omega (arith, w .kept, h .few); listed = omega (arith, w .listed, h .few); counted = omega (arith, w .counted, h .few) }
 
 -- the call from its pass
-pub every-left : (places count : ℕ) (c : InstanceCall) (s : Sheet) (gone : List Guid) (next : InstanceHandle) (t out t′ out′ : List ℕ) (r : Tally) (a : Answer) → onEvery c ≡ true →
+pub every-left : (places count : ℕ) (c : InstanceCall) (s : Sheet) (next : InstanceHandle) (t out t′ out′ : List ℕ) (r : Tally) (a : Answer) → onEvery c ≡ true →
     Bytes t → TableFormed places count (next .0) t →
-    Passed (Call c) s gone (instancesIn count t) t out t′ out′ r →
+    Passed (callAct c s) (instancesIn count t) t out t′ out′ r →
     a ≡ answerAs (rule c .reports) (r .listed) (r .counted) →
     LeavesTableAndOut places (instanceCall places c s (stateWith (instancesIn count t) (next .0))) out record { answer = a; count = r .kept; «next_handle» = next } t′ out′
-every-left places count c s gone next t out t′ out′ r a e b d p q =
-    let v = every-turn places c s gone (instancesIn count t) (next .0) e in
+every-left places count c s next t out t′ out′ r a e b d p q =
+    let v = every-turn places c s (instancesIn count t) (next .0) e in
     record {
       answer = q ∙ rw (p .listed, p .counted) (v .answer);
       count = p .kept ∙ ap length (v .instances);
@@ -145,16 +145,16 @@ every-left places count c s gone next t out t′ out′ r a e b d p q =
 
 -- ---- the loss of writers after a tracker call
 
-pub record Lost (s : Sheet) (gone : List Guid) (T : calls.Turned) : Type 0 where
-  pub instances : sift (remaining Loss s gone) (T .state .instances) ≡ afterLoss gone (ifPresent (s .«time_1»)) T .state .instances
-  pub list : handleBytes (pick (listing Loss s gone) (T .state .instances)) ≡ afterLoss gone (ifPresent (s .«time_1»)) T .list
-  pub counted : total (amount Loss s gone) (T .state .instances) ≡ clearingsIn gone (ifPresent (s .«time_1»)) (T .state .instances)
+pub record Lost (gone : List Guid) (at : MaybeTime) (T : calls.Turned) : Type 0 where
+  pub instances : sift (remaining (lossAct gone at)) (T .state .instances) ≡ afterLoss gone at T .state .instances
+  pub list : handleBytes (pick (listing (lossAct gone at)) (T .state .instances)) ≡ afterLoss gone at T .list
+  pub counted : total (amount (lossAct gone at)) (T .state .instances) ≡ clearingsIn gone at (T .state .instances)
 
-loss-total : (s : Sheet) (gone : List Guid) (xs : List Instance) → total (amount Loss s gone) xs ≡ clearingsIn gone (ifPresent (s .«time_1»)) xs
+loss-total : (gone : List Guid) (at : MaybeTime) (xs : List Instance) → total (amount (lossAct gone at)) xs ≡ clearingsIn gone at xs
 unfolding total clearingsIn
-loss-total s gone [] = refl
-loss-total s gone (x ∷ xs) = ap (λ (n : ℕ). clearings gone (ifPresent (s .«time_1»)) (x .state) + n) (loss-total s gone xs)
+loss-total gone at [] = refl
+loss-total gone at (x ∷ xs) = ap (λ (n : ℕ). clearings gone at (x .state) + n) (loss-total gone at xs)
 
-pub lost : (s : Sheet) (gone : List Guid) (T : calls.Turned) → Lost s gone T
+pub lost : (gone : List Guid) (at : MaybeTime) (T : calls.Turned) → Lost gone at T
 unfolding afterLoss
-lost s gone T = record { instances = refl; list = refl; counted = loss-total s gone (T .state .instances) }
+lost gone at T = record { instances = refl; list = refl; counted = loss-total gone at (T .state .instances) }

@@ -26,7 +26,7 @@ use Rattle.instance_fields.proofs.UsableLaws.{sound-loss}
 use Rattle.octets.proofs.Laws.{be-part}
 use Rattle.model.proofs.RowLaws.{read-cons}
 use Rattle.instance_pass.specs.declared.Step.{Step}
-use Rattle.instance_pass.specs.Steps.{Stepped, lostOne}
+use Rattle.instance_pass.specs.Steps.{lossAct, Stepped, lostOne}
 use Rattle.instance_pass.proofs.StepLaws.{bit-le}
 
 -- of the GUIDs, those from i on are still to come
@@ -73,7 +73,7 @@ module _ (b : List ℕ) (at : MaybeTime) (x : InstanceState) (n : ℕ) where
               ∙ sym (add-assoc (r .counted) (bit (owns g (writerDropped g at (r .state) .owner))) (clearings (ahead n b (i + 1)) at (leftWithout g at (r .state))));
         }
 
-    pub losing-end : n ≤ i → Stepped (some (leftWithoutAll (guidsIn n b) at x)) (leftByOne (guidsIn n b) at x) (clearings (guidsIn n b) at x) r
+    pub losing-end : n ≤ i → Stepped (lossAct (guidsIn n b) at) x r
     unfolding leftWithoutAll leftByOne clearings readRows
     losing-end h =
         let e : n - i ≡ 0 = omega arith in

@@ -22,10 +22,8 @@ use Rattle.octets.proofs.LayLaws.{all-get, lay-read}
 use Rattle.octets.specs.Octets.{put}
 use Rattle.octets.specs.Patch.{patch}
 use Rattle.octets.proofs.PatchLaws.{drop-patch}
-use Rattle.model.specs.declared.Guid.{Guid}
 use Rattle.model.specs.declared.Instance.{Instance}
 use Rattle.model.specs.declared.InstanceState.{InstanceState}
-use Rattle.model.specs.declared.Sheet.{Sheet}
 use Rattle.model.specs.Call.{listIn}
 use Rattle.model.specs.InstanceCalls.{kept, handleBytes}
 use Rattle.model.specs.InstanceRecord.{bit, instanceOf, instanceBytes}
@@ -43,11 +41,12 @@ use Rattle.instance_record.specs.Parts.{recordAt}
 use Rattle.instance_pass.specs.declared.Passing.{Passing}
 use Rattle.instance_pass.specs.declared.Step.{Step}
 use Rattle.instance_pass.specs.declared.Tally.{Tally}
-use Rattle.instance_pass.specs.Steps.{Passable, leftIn, listedIn, countedIn, remains, Stepped}
+use Rattle.instance_pass.specs.Acts.{Act, Bounded}
+use Rattle.instance_pass.specs.Steps.{Passable, remains, Stepped}
 use Rattle.instance_pass.specs.Passes.{remaining, listing, amount, total, UsableIn, keptAt, withStep, Ahead, TookOne, Spared, Passed}
 use Rattle.instance_pass.proofs.ListLaws.{total-take, drop-same}
 use Rattle.model.proofs.HandleLists.{list-start, list-more}
-use Rattle.instance_pass.proofs.StepLaws.{bit-le, counted-le}
+use Rattle.instance_pass.proofs.StepLaws.{bit-le}
 
 -- ---- one record from its parts
 
@@ -59,11 +58,11 @@ is-kept : (b : Bool) (x : Instance) (y : InstanceState) → b ≡ isSome (kept x
 is-kept true x y = refl
 is-kept false x y = refl
 
-pub turned : (p : Passing) (s : Sheet) (gone : List Guid) (x y : Instance) (r : Step) (t out t′ out′ : List ℕ) (c c′ : Tally) → x ≡ y →
-    Stepped (leftIn p s gone (x .state)) (listedIn p s gone (x .state)) (countedIn p s gone (x .state)) r →
+pub turned : (act : Act) (x y : Instance) (r : Step) (t out t′ out′ : List ℕ) (c c′ : Tally) → x ≡ y →
+    Stepped act (x .state) r →
     t′ ≡ keptAt t (c .kept) (kept x (remains r)) → out′ ≡ cond (r .listed) (put 8 out (c .listed * 8) (x .handle .0)) out → c′ ≡ withStep c r →
-    TookOne p s gone y t out c t′ out′ c′
-turned p s gone x y r t out t′ out′ c c′ e h a b d =
+    TookOne act y t out c t′ out′ c′
+turned act x y r t out t′ out′ c c′ e h a b d =
     rw (← e, d)
     record {
       table = a ∙ ap (λ (o : Option InstanceState). keptAt t (c .kept) (kept x o)) (h .stays);
@@ -96,15 +95,15 @@ as-bit : (n : ℕ) (b : Bool) → n + cond b 1 0 ≡ n + bit b
 as-bit n true = refl
 as-bit n false = refl
 
-module _ (p : Passing) (s : Sheet) (gone : List Guid) (count : ℕ) (t₀ out₀ : List ℕ) where
+module _ (act : Act) (count : ℕ) (t₀ out₀ : List ℕ) where
   abbrev f : Instance → Option Instance
-  f = remaining p s gone
+  f = remaining act
 
   abbrev q : Instance → Bool
-  q = listing p s gone
+  q = listing act
 
   abbrev a : Instance → ℕ
-  a = amount p s gone
+  a = amount act
 
   abbrev xs : List Instance
   xs = instancesIn count t₀
@@ -150,9 +149,9 @@ module _ (p : Passing) (s : Sheet) (gone : List Guid) (count : ℕ) (t₀ out₀
     during-read h =
         ap (λ (z : List ℕ). instanceOf (take 512 z)) (d .ahead) ∙ sym (get-read instanceOf 512 count t₀ i (instanceOf (recordAt t i)) h)
 
-    pub during-ahead : (b : List ℕ) → Passable p → length b ≤ 4096 → count ≤ 128 → count * 512 ≤ length t₀ → 1024 ≤ length out₀ →
+    pub during-ahead : (p : Passing) (b : List ℕ) → Passable p → length b ≤ 4096 → count ≤ 128 → count * 512 ≤ length t₀ → 1024 ≤ length out₀ →
         All UsableIn xs → i < count → Ahead p b t out i c (instanceOf (recordAt t i))
-    during-ahead b e g n m w u h =
+    during-ahead p b e g n m w u h =
         record {
           passable = e;
           few = g;
@@ -165,7 +164,7 @@ module _ (p : Passing) (s : Sheet) (gone : List Guid) (count : ℕ) (t₀ out₀
           usable = rw (during-read h) (all-get UsableIn xs i (instanceOf (recordAt t i)) (omega (arith, size)) u);
         }
 
-    module _ (most : count ≤ 128) (held : count * 512 ≤ length t₀) (broad : 1024 ≤ length out₀) (h : i < count) (list : length gone ≤ 256) where
+    module _ (most : count ≤ 128) (held : count * 512 ≤ length t₀) (broad : 1024 ≤ length out₀) (h : i < count) (bounded : Bounded act) where
       inside : i < length xs
       inside = omega (arith, size)
 
@@ -239,17 +238,17 @@ module _ (p : Passing) (s : Sheet) (gone : List Guid) (count : ℕ) (t₀ out₀
                 ∙ sym (total-take a xs i x inside ∙ ap (λ (y : Instance). total a (take i xs) + a y) (sym e));
             fewKept = omega (arith, w .kept, b .few);
             fewListed = omega (arith, w .listed, d .fewListed, bit-le (q x));
-            fewCounted = omega (arith, w .counted, d .fewCounted, counted-le p s gone (x .state) list);
+            fewCounted = omega (arith, w .counted, d .fewCounted, bounded (x .state));
             ahead = b .ahead;
             list = noting x e (q x) refl out′ (w .noted);
             laid = b .laid;
           }
 
       during-turn : (t′ out′ : List ℕ) (c′ : Tally) → length t′ ≡ length t → length out′ ≡ length out →
-          TookOne p s gone (instanceOf (recordAt t i)) t out c t′ out′ c′ → During (i + 1) t′ out′ c′
+          TookOne act (instanceOf (recordAt t i)) t out c t′ out′ c′ → During (i + 1) t′ out′ c′
       during-turn t′ out′ c′ n m w = go (instanceOf (recordAt t i)) (during-read h) w
         where
-          go : (x : Instance) → x ≡ getD xs i x → TookOne p s gone x t out c t′ out′ c′ → During (i + 1) t′ out′ c′
+          go : (x : Instance) → x ≡ getD xs i x → TookOne act x t out c t′ out′ c′ → During (i + 1) t′ out′ c′
           go x e w =
               told x e t′ out′ c′ n m (behind x e (f x) refl t′ (w .table) n)
               record { noted = w .list; kept = w .kept; listed = w .listed; counted = w .counted }
@@ -277,10 +276,10 @@ module _ (p : Passing) (s : Sheet) (gone : List Guid) (count : ℕ) (t₀ out₀
           }
 
       during-spared : (t′ out′ : List ℕ) (c′ : Tally) → length t′ ≡ length t → length out′ ≡ length out →
-          Spared p s gone (instanceOf (recordAt t i)) i t out c t′ out′ c′ → During (i + 1) t′ out′ c′
+          Spared act (instanceOf (recordAt t i)) i t out c t′ out′ c′ → During (i + 1) t′ out′ c′
       during-spared t′ out′ c′ n m w = go (instanceOf (recordAt t i)) (during-read h) w
         where
-          go : (x : Instance) → x ≡ getD xs i x → Spared p s gone x i t out c t′ out′ c′ → During (i + 1) t′ out′ c′
+          go : (x : Instance) → x ≡ getD xs i x → Spared act x i t out c t′ out′ c′ → During (i + 1) t′ out′ c′
           go x e w =
               let g : f x ≡ some x = ap (λ (o : Option InstanceState). kept x o) (w .untouched .left) in
               told x e t′ out′ c′ n m (unmoved x e g t′ (w .table) n)
@@ -292,13 +291,13 @@ module _ (p : Passing) (s : Sheet) (gone : List Guid) (count : ℕ) (t₀ out₀
               }
 
       pub during-went : (t′ out′ : List ℕ) (c′ : Tally) → length t′ ≡ length t → length out′ ≡ length out →
-          TookOne p s gone (instanceOf (recordAt t i)) t out c t′ out′ c′ ⊎ Spared p s gone (instanceOf (recordAt t i)) i t out c t′ out′ c′ →
+          TookOne act (instanceOf (recordAt t i)) t out c t′ out′ c′ ⊎ Spared act (instanceOf (recordAt t i)) i t out c t′ out′ c′ →
           During (i + 1) t′ out′ c′
       during-went t′ out′ c′ n m w = ⊎-elim (λ a. during-turn t′ out′ c′ n m a) (λ b. during-spared t′ out′ c′ n m b) w
 
     -- all are passed; t′ is the table with the places behind those kept cleared
     pub during-end : count ≤ i → (t′ : List ℕ) →
-        ((places : ℕ) (ys : List Instance) → Laid places ys t → length ys ≡ count → Laid places (take (c .kept) ys) t′) → Passed p s gone xs t₀ out₀ t′ out c
+        ((places : ℕ) (ys : List Instance) → Laid places ys t → length ys ≡ count → Laid places (take (c .kept) ys) t′) → Passed act xs t₀ out₀ t′ out c
     during-end h t′ g =
         let e : i ≡ count = omega (arith, d .below) in
         let j : i ≡ length xs = e ∙ sym size in

@@ -38,7 +38,7 @@ use Rattle.instance_pass.specs.declared.Passing.{Passing}
 use Rattle.instance_pass.specs.declared.Passing.the-variants.{Call, Loss}
 use Rattle.model.specs.declared.Report.{Report}
 use Rattle.instance_pass.specs.Spares.{within, watchAs, Watches}
-use Rattle.instance_pass.specs.Steps.{Passable}
+use Rattle.instance_pass.specs.Steps.{Passable, callAct, lossAct, actOf}
 use Rattle.instance_pass.proofs.SpanLaws.{differs, no-member, all-first}
 use lib.ListN.{drop}
 
@@ -129,17 +129,17 @@ module _ (w : Span) (at : MaybeTime) (x : InstanceState) (a : Apart w x) where
 
 -- ---- a pass
 
-pub watches-loss : (s : Sheet) (gone : List Guid) (w : Span) → All (within w) gone → Watches Loss s gone (Writers w)
+pub watches-loss : (s : Sheet) (gone : List Guid) (w : Span) → All (within w) gone → Watches (lossAct gone (ifPresent (s .«time_1»))) (Writers w)
 watches-loss s gone w h r e =
     let x = instanceOf r .state in
     let at = ifPresent (s .«time_1») in
     let a = apart w r e in
     record { left = ap some (all-left w at x a gone h); unlisted = none-listed w at x a gone h; uncounted = none-cleared w at x a gone h }
 
-module _ (s : Sheet) (gone : List Guid) where
+module _ (s : Sheet) where
   -- what is looked for in the call c
   abbrev Watched : InstanceCall → Type 0
-  Watched c = Watches (Call c) s gone (watchAs (rule c .reports) (s .guid))
+  Watched c = Watches (callAct c s) (watchAs (rule c .reports) (s .guid))
 
   drop-watched : Watched DropWriter
   drop-watched r e =
@@ -168,8 +168,8 @@ module _ (s : Sheet) (gone : List Guid) where
       (λ r e. record { left = stays (purged s (instanceOf r .state)) (instanceOf r .state) (alive-stays s (instanceOf r .state) (kind-alive r e)); unlisted = refl; uncounted = ap bit (alive-stays s (instanceOf r .state) (kind-alive r e)) })
 
 pub watch-call : (p : Passing) (c : InstanceCall) (k : Report) (w : Watch) (g : Guid) (gone : List Guid) → p ≡ Call c → Passable p → k ≡ rule c .reports → w ≡ watchAs k g →
-    (s : Sheet) → s .guid ≡ g → Watches p s gone w
-watch-call p c k w g gone e h a b s q = rw (e, b, a, ← q) (watches-call s gone c (rw e at h))
+    (s : Sheet) → s .guid ≡ g → Watches (actOf p s gone) w
+watch-call p c k w g gone e h a b s q = rw (e, b, a, ← q) (watches-call s c (rw e at h))
 
-pub watch-loss : (p : Passing) (v : Span) (g : Guid) (gone : List Guid) → p ≡ Loss → All (within v) gone → (s : Sheet) → s .guid ≡ g → Watches p s gone (Writers v)
+pub watch-loss : (p : Passing) (v : Span) (g : Guid) (gone : List Guid) → p ≡ Loss → All (within v) gone → (s : Sheet) → s .guid ≡ g → Watches (actOf p s gone) (Writers v)
 watch-loss p v g gone e h s q = rw e (watches-loss s gone v h)

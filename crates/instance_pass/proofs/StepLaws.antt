@@ -7,7 +7,7 @@ use Prim.Native.Nat.{ℕ, _/_, _≤_}
 use mathlib.Core.Bool.{Bool, true, false, _&&_}
 use mathlib.Core.List.{List, [], _∷_}
 use mathlib.Core.Option.{Option, none, some}
-use mathlib.Core.Path.{_≡_, refl, ap, subst, _∙_}
+use mathlib.Core.Path.{_≡_, ap, subst, _∙_}
 use native.Mathlib.Omega.{arith}
 use lib.ListN.{length}
 use Rattle.model.specs.declared.Guid.{Guid}
@@ -31,7 +31,7 @@ use Rattle.instance_fields.proofs.UsableLaws.{sound-after, sound-losses}
 use Rattle.instance_pass.specs.declared.Passing.{Passing}
 use Rattle.instance_pass.specs.declared.Passing.the-variants.{Call, Loss}
 use Rattle.model.specs.declared.Report.{Report}
-use Rattle.instance_pass.specs.Steps.{Passable, gonesIn, countedAs, listedAs, counts, leftIn, countedIn, Stepped}
+use Rattle.instance_pass.specs.Steps.{Passable, gonesIn, countedAs, listedAs, counts, callAct, actOf, Stepped}
 
 -- ---- the step of a call
 
@@ -40,7 +40,7 @@ listed-as c s x e = rw e
 
 pub call-step : (c : InstanceCall) (s : Sheet) (x : InstanceState) (f : Effect) (k : Report) (l b : Bool) (n : ℕ) → onEvery c ≡ true →
     leftOf f ≡ effect c s x → k ≡ rule c .reports → l ≡ listedAs k s x → b ≡ countedAs k s x → n ≡ bit b →
-    Stepped (effect c s x) (lists c && leftBy (s .guid) x) (bit (counts c s x)) record { keep = f .keep; listed = l; counted = n; state = f .state }
+    Stepped (callAct c s) x record { keep = f .keep; listed = l; counted = n; state = f .state }
 call-step c s x f k l b n e a r p q m =
     record {
       stays = a;
@@ -56,7 +56,7 @@ SoundLeft none = Unit
 SoundLeft (some y) = Sound (y .writers)
 
 pub left-sound : (p : Passing) (s : Sheet) (gone : List Guid) (x : InstanceState) → Passable p → Sound (x .writers) →
-    (y : InstanceState) → leftIn p s gone x ≡ some y → Sound (y .writers)
+    (y : InstanceState) → actOf p s gone .left x ≡ some y → Sound (y .writers)
 left-sound (Call c) s gone x e h y q = sound-after c s x (λ a. clash (rule c .«adds_writer») a (none-added c e)) h y q
 left-sound Loss s gone x e h y q = subst SoundLeft q (sound-losses gone (ifPresent (s .«time_1»)) x h)
 
@@ -75,6 +75,6 @@ clearings-le (g ∷ gs) at x = omega (arith, bit-le (owns g (writerDropped g at 
 pub gones-few : (gone : List ℕ) → length gone ≤ 4096 → length (gonesIn gone) ≤ 256
 gones-few gone h = omega (arith, length-read guidOf 16 (length gone / 16) gone)
 
-pub counted-le : (p : Passing) (s : Sheet) (gone : List Guid) (x : InstanceState) → length gone ≤ 256 → countedIn p s gone x ≤ 256
+pub counted-le : (p : Passing) (s : Sheet) (gone : List Guid) (x : InstanceState) → length gone ≤ 256 → actOf p s gone .counted x ≤ 256
 counted-le (Call c) s gone x h = omega (arith, bit-le (counts c s x))
 counted-le Loss s gone x h = omega (arith, clearings-le gone (ifPresent (s .«time_1»)) x)

@@ -1,5 +1,5 @@
 -- What a pass leaves of the table, puts into Out and gives by value.
---     remaining, listing, amount    what a step leaves, lists and counts, of an instance with its key and handle
+--     remaining, listing, amount    what an act leaves, lists and counts, of an instance with its key and handle
 --     total                         the sum of the amounts
 --     UsableIn                      an instance that the steps can take
 --     keptAt, withStep              a table where what is left of an instance is written; a tally with one step more
@@ -13,9 +13,7 @@ use mathlib.Core.Path.{_≡_}
 use lib.ListN.{length}
 use Rattle.octets.specs.Octets.{put}
 use Rattle.octets.specs.Patch.{patch}
-use Rattle.model.specs.declared.Guid.{Guid}
 use Rattle.model.specs.declared.Instance.{Instance}
-use Rattle.model.specs.declared.Sheet.{Sheet}
 use Rattle.model.specs.Call.{listIn}
 use Rattle.model.specs.InstanceCalls.{kept, handleBytes}
 use Rattle.model.specs.InstanceRecord.{bit, instanceBytes, instanceSize}
@@ -26,20 +24,21 @@ use Rattle.instance_table.specs.Laid.{Laid}
 use Rattle.instance_pass.specs.declared.Passing.{Passing}
 use Rattle.instance_pass.specs.declared.Step.{Step}
 use Rattle.instance_pass.specs.declared.Tally.{Tally}
+use Rattle.instance_pass.specs.Acts.{Act}
 use Rattle.instance_pass.specs.Spares.{Untouched}
-use Rattle.instance_pass.specs.Steps.{Passable, leftIn, listedIn, countedIn}
+use Rattle.instance_pass.specs.Steps.{Passable}
 
 -- what is left, with its key and its handle
-abbrev pub remaining : Passing → Sheet → List Guid → Instance → Option Instance
-remaining p s gone x = kept x (leftIn p s gone (x .state))
+abbrev pub remaining : Act → Instance → Option Instance
+remaining a x = kept x (a .left (x .state))
 
 -- its handle goes to Out
-abbrev pub listing : Passing → Sheet → List Guid → Instance → Bool
-listing p s gone x = listedIn p s gone (x .state)
+abbrev pub listing : Act → Instance → Bool
+listing a x = a .listed (x .state)
 
 -- the owners cleared, or 1 for an instance purged
-abbrev pub amount : Passing → Sheet → List Guid → Instance → ℕ
-amount p s gone x = countedIn p s gone (x .state)
+abbrev pub amount : Act → Instance → ℕ
+amount a x = a .counted (x .state)
 
 -- the sum of the amounts
 unfoldable pub total : (Instance → ℕ) → List Instance → ℕ
@@ -75,25 +74,25 @@ pub record Ahead (p : Passing) (gone t out : List ℕ) (i : ℕ) (c : Tally) (x 
   pub usable : UsableIn x
 
 -- from the table t, Out and the tally so far to those behind the instance x
-pub record TookOne (p : Passing) (s : Sheet) (gone : List Guid) (x : Instance) (t out : List ℕ) (c : Tally) (t′ out′ : List ℕ) (c′ : Tally) : Type 0 where
-  pub table : t′ ≡ keptAt t (c .kept) (remaining p s gone x)
-  pub list : out′ ≡ cond (listing p s gone x) (put 8 out (c .listed * 8) (x .handle .0)) out
-  pub kept : c′ .kept ≡ c .kept + bit (isSome (remaining p s gone x))
-  pub listed : c′ .listed ≡ c .listed + bit (listing p s gone x)
-  pub counted : c′ .counted ≡ c .counted + amount p s gone x
+pub record TookOne (a : Act) (x : Instance) (t out : List ℕ) (c : Tally) (t′ out′ : List ℕ) (c′ : Tally) : Type 0 where
+  pub table : t′ ≡ keptAt t (c .kept) (remaining a x)
+  pub list : out′ ≡ cond (listing a x) (put 8 out (c .listed * 8) (x .handle .0)) out
+  pub kept : c′ .kept ≡ c .kept + bit (isSome (remaining a x))
+  pub listed : c′ .listed ≡ c .listed + bit (listing a x)
+  pub counted : c′ .counted ≡ c .counted + amount a x
 
 -- the pass leaves the instance x of record i as it is: its bytes go to its place
-pub record Spared (p : Passing) (s : Sheet) (gone : List Guid) (x : Instance) (i : ℕ) (t out : List ℕ) (c : Tally) (t′ out′ : List ℕ) (c′ : Tally) : Type 0 where
-  pub untouched : Untouched p s gone (x .state)
+pub record Spared (a : Act) (x : Instance) (i : ℕ) (t out : List ℕ) (c : Tally) (t′ out′ : List ℕ) (c′ : Tally) : Type 0 where
+  pub untouched : Untouched a (x .state)
   pub table : t′ ≡ patch t (c .kept * instanceSize) instanceSize (recordAt t i)
   pub list : out′ ≡ out
   pub tally : c′ ≡ record { kept = c .kept + 1; listed = c .listed; counted = c .counted }
 
 -- ---- the whole pass, of the instances xs
 
-pub record Passed (p : Passing) (s : Sheet) (gone : List Guid) (xs : List Instance) (t out t′ out′ : List ℕ) (r : Tally) : Type 0 where
-  pub laid : (places : ℕ) → Laid places xs t → Laid places (sift (remaining p s gone) xs) t′
-  pub list : out′ ≡ listIn (handleBytes (pick (listing p s gone) xs)) out
-  pub kept : r .kept ≡ length (sift (remaining p s gone) xs)
-  pub listed : r .listed ≡ length (pick (listing p s gone) xs)
-  pub counted : r .counted ≡ total (amount p s gone) xs
+pub record Passed (a : Act) (xs : List Instance) (t out t′ out′ : List ℕ) (r : Tally) : Type 0 where
+  pub laid : (places : ℕ) → Laid places xs t → Laid places (sift (remaining a) xs) t′
+  pub list : out′ ≡ listIn (handleBytes (pick (listing a) xs)) out
+  pub kept : r .kept ≡ length (sift (remaining a) xs)
+  pub listed : r .listed ≡ length (pick (listing a) xs)
+  pub counted : r .counted ≡ total (amount a) xs

@@ -2,8 +2,8 @@
 --     Passable                      the call is one on every instance
 --     gonesIn                       the writers of a list
 --     countedAs, listedAs, counts   whether a call counts an instance, or lists it, by what it reports
---     leftIn, listedIn, countedIn   what is left of an instance, whether it is listed, how much it counts
---     remains, Stepped              what a step says of the three
+--     callAct, lossAct, actOf       what a call, the loss of writers, or either makes of an instance
+--     remains, Stepped              a step leaves, lists and counts what an act says
 --     lostOne                       a step after one writer more is lost
 use Prim.Native.Nat.{ℕ, _+_, _/_}
 use mathlib.Core.Bool.{Bool, true, false, _&&_, _||_, cond}
@@ -27,6 +27,7 @@ use Rattle.instance_pass.specs.declared.Passing.the-variants.{Call, Loss
 use Rattle.model.specs.declared.Report.{Report}
 use Rattle.model.specs.declared.Report.the-variants.{Nothing, Left, Owner, Prefix, Purge}
 use Rattle.instance_pass.specs.declared.Step.{Step}
+use Rattle.instance_pass.specs.Acts.{Act}
 
 -- a call that passes is one on every instance
 abbrev pub Passable : Passing → Type 0
@@ -55,22 +56,30 @@ listedAs k s x = listsLeft k && leftBy (s .guid) x
 abbrev pub counts : InstanceCall → Sheet → InstanceState → Bool
 counts c s x = countedAs (rule c .reports) s x
 
--- ---- a call, or the loss of the writers gone, at time 1 if it is present
+-- ---- a call, or the loss of the writers gone
 
--- what is left of an instance, none where it is purged
-abbrev pub leftIn : Passing → Sheet → List Guid → InstanceState → Option InstanceState
-leftIn (Call c) s gone x = effect c s x
-leftIn Loss s gone x = some (leftWithoutAll gone (ifPresent (s .«time_1»)) x)
+-- a call on every instance
+abbrev pub callAct : InstanceCall → Sheet → Act
+callAct c s =
+    record {
+      left = λ (x : InstanceState). effect c s x;
+      listed = λ (x : InstanceState). lists c && leftBy (s .guid) x;
+      counted = λ (x : InstanceState). bit (counts c s x);
+    }
 
--- it is listed in Out
-abbrev pub listedIn : Passing → Sheet → List Guid → InstanceState → Bool
-listedIn (Call c) s gone x = lists c && leftBy (s .guid) x
-listedIn Loss s gone x = leftByOne gone (ifPresent (s .«time_1»)) x
+-- codes 7 and 18 for the writers gone, one after the other
+abbrev pub lossAct : List Guid → MaybeTime → Act
+lossAct gone at =
+    record {
+      left = λ (x : InstanceState). some (leftWithoutAll gone at x);
+      listed = λ (x : InstanceState). leftByOne gone at x;
+      counted = λ (x : InstanceState). clearings gone at x;
+    }
 
--- how much it counts
-abbrev pub countedIn : Passing → Sheet → List Guid → InstanceState → ℕ
-countedIn (Call c) s gone x = bit (counts c s x)
-countedIn Loss s gone x = clearings gone (ifPresent (s .«time_1»)) x
+-- the writers are lost at time 1 if it is present
+abbrev pub actOf : Passing → Sheet → List Guid → Act
+actOf (Call c) s gone = callAct c s
+actOf Loss s gone = lossAct gone (ifPresent (s .«time_1»))
 
 -- ---- a step
 
@@ -78,11 +87,11 @@ countedIn Loss s gone x = clearings gone (ifPresent (s .«time_1»)) x
 abbrev pub remains : Step → Option InstanceState
 remains r = cond (r .keep) (some (r .state)) none
 
--- the step r leaves, lists and counts so
-pub record Stepped (left : Option InstanceState) (listed : Bool) (counted : ℕ) (r : Step) : Type 0 where
-  pub stays : remains r ≡ left
-  pub lists : r .listed ≡ listed
-  pub counts : r .counted ≡ counted
+-- of the state x, the step r leaves, lists and counts what the act does
+pub record Stepped (a : Act) (x : InstanceState) (r : Step) : Type 0 where
+  pub stays : remains r ≡ a .left x
+  pub lists : r .listed ≡ a .listed x
+  pub counts : r .counted ≡ a .counted x
 
 -- codes 7 and 18 for one writer more
 abbrev pub lostOne : Guid → MaybeTime → Step → Step

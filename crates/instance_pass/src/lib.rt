@@ -17,19 +17,17 @@ use model::InstanceState;
 use model::MaybeTime;
 use model::Report;
 use model::Sheet;
-ghost use mathlib.Core.Bool.{true, cond, _&&_, _||_};
+ghost use mathlib.Core.Bool.{true, cond, _||_};
 ghost use mathlib.Core.Logic.{_⊎_};
-ghost use mathlib.Core.Option.{some};
 ghost use mathlib.Core.Path.{_≡_};
 ghost use Prim.Native.Nat.{_+_, _*_, _≤_, _<_};
 ghost use lib.ListN.{length};
 ghost use Rattle.octets.specs.Lay.{All};
 ghost use Rattle.octets.specs.Octets.{put};
 ghost use Rattle.octets.specs.Patch.{patch};
-ghost use Rattle.model.specs.InstanceCalls.{kept, lists, instanceCall};
+ghost use Rattle.model.specs.InstanceCalls.{kept, instanceCall};
 ghost use Rattle.model.specs.InstanceRecord.{bit, instanceOf};
-ghost use Rattle.model.specs.Instances.{rule, onEvery, effect, leftBy};
-ghost use Rattle.model.specs.Joined.{leftWithoutAll, leftByOne, clearings};
+ghost use Rattle.model.specs.Instances.{rule, onEvery};
 ghost use Rattle.model.specs.State.{instancesIn};
 ghost use Rattle.instance_writers.specs.Places.{Sound};
 ghost use Rattle.instance_record.specs.Parts.{recordAt};
@@ -38,7 +36,7 @@ ghost use Rattle.instance_table.specs.TableCalls.{TableFormed, stateWith};
 ghost use Rattle.instance_pass.specs.EveryCalls.{answerAs, LeavesTableAndOut};
 ghost use Rattle.instance_pass.specs.Passes.{UsableIn, keptAt, withStep, Ahead, TookOne, Spared, Passed};
 ghost use Rattle.instance_pass.specs.Spares.{within, widened, watchAs, Watches};
-ghost use Rattle.instance_pass.specs.Steps.{Passable, gonesIn, countedAs, listedAs, counts, leftIn, listedIn, countedIn, remains, Stepped, lostOne};
+ghost use Rattle.instance_pass.specs.Steps.{Passable, gonesIn, countedAs, listedAs, callAct, lossAct, actOf, remains, Stepped, lostOne};
 
 // What passes over the instances: a call on every one, or the loss of the writers of a list.
 pub enum Passing {
@@ -112,7 +110,7 @@ fn is_counted(k: Report, s: Sheet, x: InstanceState) -> bool
 // What a call on every instance makes of one.
 pub fn call_step(c: InstanceCall, s: Sheet, x: InstanceState) -> Step
     requires { ⌜ (onEvery c ≡ true) × Usable x ⌝ }
-    ensures { λ r. ⌜ Stepped (effect c s x) (lists c && leftBy (s .guid) x) (bit (counts c s x)) r ⌝ }
+    ensures { λ r. ⌜ Stepped (callAct c s) x r ⌝ }
 {
     let e = instance_effects::take_effect(c, s, x);
     let k = report_of(c);
@@ -162,7 +160,7 @@ fn lose_one(g: Guid, at: MaybeTime, r: Step) -> Step
 // The writers of a list are lost to an instance, one after the other.
 pub fn loss_step(gone: &[u8], at: MaybeTime, x: InstanceState) -> Step
     requires { ⌜ (length (now gone) ≤ 4096) × Sound (x .writers) ⌝ }
-    ensures { λ r. ⌜ Stepped (some (leftWithoutAll (gonesIn (now (gone .entry))) at x)) (leftByOne (gonesIn (now (gone .entry))) at x) (clearings (gonesIn (now (gone .entry))) at x) r ⌝ }
+    ensures { λ r. ⌜ Stepped (lossAct (gonesIn (now (gone .entry))) at) x r ⌝ }
 {
     let n = gone.len() / 16;
     let mut r = Step {
@@ -185,7 +183,7 @@ pub fn loss_step(gone: &[u8], at: MaybeTime, x: InstanceState) -> Step
 // What a pass makes of one instance.
 pub fn take_step(p: Passing, s: Sheet, gone: &[u8], x: InstanceState) -> Step
     requires { ⌜ Passable p × (length (now gone) ≤ 4096) × Usable x ⌝ }
-    ensures { λ r. ⌜ Stepped (leftIn p s (gonesIn (now (gone .entry))) x) (listedIn p s (gonesIn (now (gone .entry))) x) (countedIn p s (gonesIn (now (gone .entry))) x) r ⌝ }
+    ensures { λ r. ⌜ Stepped (actOf p s (gonesIn (now (gone .entry)))) x r ⌝ }
 {
     let t = s.time_1;
     match p {
@@ -254,7 +252,7 @@ fn call_watch(k: Report, g: Guid) -> Watch
 // What a pass looks for.
 fn watch_of(p: Passing, g: Guid, gone: &[u8]) -> Watch
     requires { ⌜ Passable p × (length (now gone) ≤ 4096) ⌝ }
-    ensures { λ r. ⌜ ((s : Sheet) → s .guid ≡ g → Watches p s (gonesIn (now (gone .entry))) r) ⌝ }
+    ensures { λ r. ⌜ ((s : Sheet) → s .guid ≡ g → Watches (actOf p s (gonesIn (now (gone .entry)))) r) ⌝ }
 {
     match p {
         Passing::Call(c) => call_watch(report_of(c), g),
@@ -318,7 +316,7 @@ fn pass_at(
     gone: &[u8],
 ) -> Tally
     requires { ⌜ Ahead p (now gone) (now pens) (now out) i tally (instanceOf (recordAt (now pens) i)) ⌝ }
-    ensures { λ r. ⌜ TookOne p s (gonesIn (now (gone .entry))) (instanceOf (recordAt (now (pens .entry)) i)) (now (pens .entry)) (now (out .entry)) tally (now (pens .exit)) (now (out .exit)) r ⌝ }
+    ensures { λ r. ⌜ TookOne (actOf p s (gonesIn (now (gone .entry)))) (instanceOf (recordAt (now (pens .entry)) i)) (now (pens .entry)) (now (out .entry)) tally (now (pens .exit)) (now (out .exit)) r ⌝ }
 {
     let x = instance_record::instance_at(pens, i);
     let state = x.state;
@@ -350,9 +348,9 @@ fn turn(
     gone: &[u8],
     w: Watch,
 ) -> Tally
-    requires { ⌜ Ahead p (now gone) (now pens) (now out) i tally (instanceOf (recordAt (now pens) i)) × Watches p s (gonesIn (now gone)) w ⌝ }
-    ensures { λ r. ⌜ TookOne p s (gonesIn (now (gone .entry))) (instanceOf (recordAt (now (pens .entry)) i)) (now (pens .entry)) (now (out .entry)) tally (now (pens .exit)) (now (out .exit)) r
-        ⊎ Spared p s (gonesIn (now (gone .entry))) (instanceOf (recordAt (now (pens .entry)) i)) i (now (pens .entry)) (now (out .entry)) tally (now (pens .exit)) (now (out .exit)) r ⌝ }
+    requires { ⌜ Ahead p (now gone) (now pens) (now out) i tally (instanceOf (recordAt (now pens) i)) × Watches (actOf p s (gonesIn (now gone))) w ⌝ }
+    ensures { λ r. ⌜ TookOne (actOf p s (gonesIn (now (gone .entry)))) (instanceOf (recordAt (now (pens .entry)) i)) (now (pens .entry)) (now (out .entry)) tally (now (pens .exit)) (now (out .exit)) r
+        ⊎ Spared (actOf p s (gonesIn (now (gone .entry)))) (instanceOf (recordAt (now (pens .entry)) i)) i (now (pens .entry)) (now (out .entry)) tally (now (pens .exit)) (now (out .exit)) r ⌝ }
 {
     if instance_watch::is_clear(pens, i, w) {
         close_up(pens, tally.kept, i);
@@ -376,7 +374,7 @@ pub fn pass(
     gone: &[u8],
 ) -> Tally
     requires { ⌜ Passable p × (length (now gone) ≤ 4096) × (count ≤ 128) × (count * 512 ≤ length (now pens)) × (1024 ≤ length (now out)) × All UsableIn (instancesIn count (now pens)) ⌝ }
-    ensures { λ r. ⌜ Passed p s (gonesIn (now (gone .entry))) (instancesIn count (now (pens .entry))) (now (pens .entry)) (now (out .entry)) (now (pens .exit)) (now (out .exit)) r ⌝ }
+    ensures { λ r. ⌜ Passed (actOf p s (gonesIn (now (gone .entry)))) (instancesIn count (now (pens .entry))) (now (pens .entry)) (now (out .entry)) (now (pens .exit)) (now (out .exit)) r ⌝ }
 {
     let mut tally = Tally {
         kept: 0,

@@ -42,7 +42,7 @@ use Rattle.instance_table.proofs.LaidOut.{table-formed, table-laid}
 use Rattle.instance_pass.specs.declared.Passing.the-variants.{Loss}
 use Rattle.instance_pass.specs.declared.Tally.{Tally}
 use Rattle.instance_pass.specs.Passes.{Passed}
-use Rattle.instance_pass.specs.Steps.{gonesIn}
+use Rattle.instance_pass.specs.Steps.{gonesIn, lossAct}
 use Rattle.instance_pass.proofs.CallLaws.{Few, passed-few, lost}
 use Rattle.instance_pass.proofs.StepLaws.{gones-few, counted-le}
 use Rattle.writer_turns.specs.WriterCalls.{heldBy, Settles, Turns, leaving}
@@ -56,20 +56,20 @@ use Rattle.joined_calls.proofs.Entering.{entered-parts}
 
 -- ---- the pass
 
-module _ (s : Sheet) (gone : List ℕ) (count : ℕ) (pens out pens′ out′ : List ℕ) (r : Tally) (p : Passed Loss s (gonesIn gone) (instancesIn count pens) pens out pens′ out′ r) where
+module _ (s : Sheet) (gone : List ℕ) (count : ℕ) (pens out pens′ out′ : List ℕ) (r : Tally) (p : Passed (lossAct (gonesIn gone) (lossTime s)) (instancesIn count pens) pens out pens′ out′ r) where
   abbrev xs : List Instance
   xs = instancesIn count pens
 
   pub loss-few : length gone ≤ 4096 → Losable count pens out → Few r 128
   loss-few h d =
       let n : length xs ≡ count = length-read instanceOf 512 count pens in
-      let w = passed-few Loss s (gonesIn gone) xs pens out pens′ out′ r (λ x. counted-le Loss s (gonesIn gone) (x .state) (gones-few gone h)) p in
+      let w = passed-few (lossAct (gonesIn gone) (lossTime s)) xs pens out pens′ out′ r (λ x. counted-le Loss s (gonesIn gone) x (gones-few gone h)) p in
       record { kept = omega (arith, w .kept, n, d .few); listed = omega (arith, w .listed, n, d .few); counted = omega (arith, w .counted, n, d .few) }
 
   pub loss-passed : (called : Called) (a : Answer) → a ≡ withList (called .answer) (r .counted) (r .listed) →
       Loses s (gonesIn gone) xs called pens out record { answer = a; head = called .head } pens′ out′
   loss-passed called a e =
-      let cleared : r .counted ≡ clearingsIn (gonesIn gone) (lossTime s) xs = p .counted ∙ lost s (gonesIn gone) (unchanged silent (withInstances xs 1 freshState)) .counted in
+      let cleared : r .counted ≡ clearingsIn (gonesIn gone) (lossTime s) xs = p .counted ∙ lost (gonesIn gone) (lossTime s) (unchanged silent (withInstances xs 1 freshState)) .counted in
       record {
         answer = e ∙ rw (cleared, p .listed);
         head = refl;

@@ -26,7 +26,7 @@ answered-requires c κs =
     let s = c .before .before .before .before .before .before .before .before .before .before .before in
     let a = s .args in
     let r = c .before .before .before .before .before .pass in
-    let w = every-few (a .places) (a .count) (a .next .0) (a .c) (a .s) _ (a .pens .now) (a .out .now) (r .last .0) (r .last .1 .0) (r .result) (s .pre .0) (r .ensures) in
+    let w = every-few (a .places) (a .count) (a .next .0) (a .c) (a .s) (a .pens .now) (a .out .now) (r .last .0) (r .last .1 .0) (r .result) (s .pre .0) (r .ensures) in
     (w .listed, omega (arith, w .counted))
 
 cast-t20 : tie.Need-cast-t20
@@ -34,7 +34,7 @@ cast-t20 c =
     let s = c .before .before .before .before .before .before .before .before .before .before .before .before .before in
     let a = s .args in
     let r = c .before .before .before .before .before .before .before .pass in
-    let w = every-few (a .places) (a .count) (a .next .0) (a .c) (a .s) _ (a .pens .now) (a .out .now) (r .last .0) (r .last .1 .0) (r .result) (s .pre .0) (r .ensures) in
+    let w = every-few (a .places) (a .count) (a .next .0) (a .c) (a .s) (a .pens .now) (a .out .now) (r .last .0) (r .last .1 .0) (r .result) (s .pre .0) (r .ensures) in
     omega (arith, w .kept)
 
 same-length : tie.Need-same-length
@@ -48,7 +48,7 @@ returns c =
     let s = c .before .before .before .before .before .before .before .before .before .before .before .before .before in
     let a = s .args in
     let r = c .before .before .before .before .before .before .before .pass in
-    every-left (a .places) (a .count) (a .c) (a .s) _ (a .next) (a .pens .now) (a .out .now) (r .last .0) (r .last .1 .0) (r .result) (c .before .answered .result) (s .pre .2)
+    every-left (a .places) (a .count) (a .c) (a .s) (a .next) (a .pens .now) (a .out .now) (r .last .0) (r .last .1 .0) (r .result) (c .before .answered .result) (s .pre .2)
     (λ j. c .before .before .before .before .before .before .before .before .before .before .before .before .slice-known .given j .fits) (s .pre .0) (r .ensures) (c .before .answered .ensures ∙ ap (λ (k : Report). answerAs k (r .result .listed) (r .result .counted)) (c .before .before .report-of .ensures))
 
 pub every-call-spec : {M : Type 1} → statement M

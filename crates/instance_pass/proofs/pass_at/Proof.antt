@@ -3,7 +3,7 @@ use native.Mathlib.Omega.{arith}
 use Rattle.model.specs.InstanceRecord.{instanceOf}
 use Rattle.instance_writers.specs.Places.{Sound}
 use Rattle.instance_record.specs.Parts.{recordAt}
-use Rattle.instance_pass.specs.Steps.{gonesIn}
+use Rattle.instance_pass.specs.Steps.{gonesIn, actOf}
 use Rattle.instance_pass.proofs.StepLaws.{left-sound, gones-few, counted-le}
 use Rattle.instance_pass.proofs.PassLaws.{step-few, turned}
 use borrow.Author.Needs.{needs}
@@ -52,7 +52,7 @@ returns c =
     let a = s .args in
     let x = c .before .before .before .before .before .before .before .before .before .before .before .before .instance-at in
     let r = c .before .before .before .before .before .before .before .before .before .take-step in
-    turned (a .p) (a .s) (gonesIn (a .gone .now)) (x .result) (instanceOf (recordAt (a .pens .now) (a .i))) (r .result) (a .pens .now) (a .out .now)
+    turned (actOf (a .p) (a .s) (gonesIn (a .gone .now))) (x .result) (instanceOf (recordAt (a .pens .now) (a .i))) (r .result) (a .pens .now) (a .out .now)
     (c .before .before .before .before .before .before .before .keep .last .0) (c .before .before .before .note .last .0) (a .tally) (c .tallied .result) (x .ensures) (r .ensures) (c .before .before .before .before .before .before .before .keep .ensures) (c .before .before .before .note .ensures) (c .tallied .ensures)
 
 pub pass-at-spec : {M : Type 1} → statement M
