@@ -4,5 +4,7 @@ pub mod LossLaws
 pub mod SpanLaws
 pub mod SpareLaws
 pub mod ListLaws
+pub mod ActLaws
 pub mod PassLaws
+pub mod PurgeLaws
 pub mod CallLaws

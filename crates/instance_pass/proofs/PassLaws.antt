@@ -6,6 +6,7 @@
 --     during-turn, during-spared      one instance more, stepped or left alone
 --     during-went                     either
 --     during-end                      all are passed, and the places behind those kept are cleared
+--     during-stays, during-over       of an act that purges nothing: each at its place; all are passed
 -- Assumes nothing.
 use Prim.Native.Nat.{ℕ, _+_, _*_, _≤_, _<_}
 use mathlib.Core.Bool.{Bool, true, false, cond}
@@ -16,7 +17,7 @@ use mathlib.Core.Path.{_≡_, refl, sym, ap, _∙_}
 use native.Mathlib.Nat.{mul-le-mul-right}
 use native.Mathlib.Omega.{arith}
 use lib.ListN.{length, getD, take, drop, take-append-drop}
-use lib.Seq.{take-all, drop-drop, paste}
+use lib.Seq.{take-all, length-take-le, drop-drop, paste}
 use Rattle.octets.specs.Lay.{All}
 use Rattle.octets.proofs.LayLaws.{all-get, lay-read}
 use Rattle.octets.specs.Octets.{put}
@@ -41,9 +42,10 @@ use Rattle.instance_record.specs.Parts.{recordAt}
 use Rattle.instance_pass.specs.declared.Passing.{Passing}
 use Rattle.instance_pass.specs.declared.Step.{Step}
 use Rattle.instance_pass.specs.declared.Tally.{Tally}
-use Rattle.instance_pass.specs.Acts.{Act, Bounded}
+use Rattle.instance_pass.specs.Acts.{Act, Bounded, Keeps}
 use Rattle.instance_pass.specs.Steps.{Passable, remains, Stepped}
 use Rattle.instance_pass.specs.Passes.{remaining, listing, amount, total, UsableIn, keptAt, withStep, Ahead, TookOne, Spared, Passed}
+use Rattle.instance_pass.proofs.ActLaws.{all-kept}
 use Rattle.instance_pass.proofs.ListLaws.{total-take, drop-same}
 use Rattle.model.proofs.HandleLists.{list-start, list-more}
 use Rattle.instance_pass.proofs.StepLaws.{bit-le}
@@ -253,25 +255,25 @@ module _ (act : Act) (count : ℕ) (t₀ out₀ : List ℕ) where
               told x e t′ out′ c′ n m (behind x e (f x) refl t′ (w .table) n)
               record { noted = w .list; kept = w .kept; listed = w .listed; counted = w .counted }
 
-      -- x goes to its place with its bytes
-      unmoved : (x : Instance) → x ≡ getD xs i x → f x ≡ some x → (t′ : List ℕ) → t′ ≡ patch t (c .kept * 512) 512 (recordAt t i) → length t′ ≡ length t →
-          Behind (f x) t′
-      unmoved x e g t′ v n =
-          let u : f (getD xs i x) ≡ some x = sym (ap f e) ∙ g in
-          let w : length (recordAt t i) ≡ 512 = patch-width t (c .kept * 512) 512 (recordAt t i) fits (sym (ap length v) ∙ n) in
-          let z : drop (c .kept * 512 + 512) t′ ≡ drop (c .kept * 512 + 512) t =
-          ap (drop (c .kept * 512 + 512)) v ∙ drop-patch t (c .kept * 512) 512 (recordAt t i) (omega (arith, fits)) w in
+      -- what is left of x goes to its place as the bytes r, which are its layout where those of x were
+      edited : (x z : Instance) → x ≡ getD xs i x → f x ≡ some z → (r t′ : List ℕ) → t′ ≡ patch t (c .kept * 512) 512 r → length t′ ≡ length t →
+          (recordAt t i ≡ instanceBytes x → r ≡ instanceBytes z) → Behind (f x) t′
+      edited x z e g r t′ v n q =
+          let u : f (getD xs i x) ≡ some z = sym (ap f e) ∙ g in
+          let w : length r ≡ 512 = patch-width t (c .kept * 512) 512 r fits (sym (ap length v) ∙ n) in
+          let k : drop (c .kept * 512 + 512) t′ ≡ drop (c .kept * 512 + 512) t =
+          ap (drop (c .kept * 512 + 512)) v ∙ drop-patch t (c .kept * 512) 512 r (omega (arith, fits)) w in
           rw g
           record {
-            kept = omega (arith, d .kept, survivors-keep f xs i x inside x u);
+            kept = omega (arith, d .kept, survivors-keep f xs i x inside z u);
             few = omega (arith, d .fewKept);
-            ahead = drop-same (c .kept * 512 + 512) ((i + 1) * 512) t′ t (omega (arith, d .fewKept)) z ∙ onward;
+            ahead = drop-same (c .kept * 512 + 512) ((i + 1) * 512) t′ t (omega (arith, d .fewKept)) k ∙ onward;
             laid = λ places l.
                 let m : i < length (midway f xs i) = omega (arith, length-midway f xs i (omega (arith, size)), size) in
                 let b : recordAt t i ≡ instanceBytes x =
                 bytes-of places (midway f xs i) t (d .laid places l) i x m ∙ ap instanceBytes (midway-get f xs i x (omega (arith, size)) ∙ sym e) in
-                rw (← midway-keep f xs i x inside x u, ← d .kept)
-                (replaced t t′ (c .kept) x (v ∙ ap (λ (r : List ℕ). patch t (c .kept * 512) 512 r) b) n fits places (midway f xs i) (d .laid places l)
+                rw (← midway-keep f xs i x inside z u, ← d .kept)
+                (replaced t t′ (c .kept) z (v ∙ ap (λ (h : List ℕ). patch t (c .kept * 512) 512 h) (q b)) n fits places (midway f xs i) (d .laid places l)
                 (omega (arith, d .fewKept, length-midway f xs i (omega (arith, size)), size)));
           }
 
@@ -282,7 +284,7 @@ module _ (act : Act) (count : ℕ) (t₀ out₀ : List ℕ) where
           go : (x : Instance) → x ≡ getD xs i x → Spared act x i t out c t′ out′ c′ → During (i + 1) t′ out′ c′
           go x e w =
               let g : f x ≡ some x = ap (λ (o : Option InstanceState). kept x o) (w .untouched .left) in
-              told x e t′ out′ c′ n m (unmoved x e g t′ (w .table) n)
+              told x e t′ out′ c′ n m (edited x x e g (recordAt t i) t′ (w .table) n (λ b. b))
               record {
                 noted = rw (w .untouched .unlisted) (w .list);
                 kept = rw (g, w .tally);
@@ -312,3 +314,14 @@ module _ (act : Act) (count : ℕ) (t₀ out₀ : List ℕ) where
           listed = rw w at (d .listed);
           counted = rw w at (d .counted);
         }
+
+    -- ---- an act that purges nothing
+
+    -- each stays at its place
+    pub during-stays : Keeps act → c .kept ≡ i
+    during-stays k = d .kept ∙ all-kept act k (take i xs) ∙ length-take-le i xs (omega (arith, size, d .below))
+
+    -- all are passed, and there is nothing to clear
+    pub during-over : Keeps act → count ≤ i → Passed act xs t₀ out₀ t out c
+    during-over k h =
+        during-end h t (λ places ys l e. rw (take-all (c .kept) ys (omega (arith, e, during-stays k))) l)

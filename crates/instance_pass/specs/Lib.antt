@@ -3,4 +3,5 @@ pub mod Acts
 pub mod Steps
 pub mod Spares
 pub mod Passes
+pub mod Purges
 pub mod EveryCalls

@@ -19,15 +19,17 @@ use model::Report;
 use model::Sheet;
 ghost use mathlib.Core.Bool.{true, cond, _||_};
 ghost use mathlib.Core.Logic.{_⊎_};
+ghost use mathlib.Core.List.{List};
 ghost use mathlib.Core.Path.{_≡_};
-ghost use Prim.Native.Nat.{_+_, _*_, _≤_, _<_};
+ghost use Prim.Native.Nat.{ℕ, _+_, _*_, _≤_, _<_};
 ghost use lib.ListN.{length};
 ghost use Rattle.octets.specs.Lay.{All};
 ghost use Rattle.octets.specs.Octets.{put};
 ghost use Rattle.octets.specs.Patch.{patch};
+ghost use Rattle.model.specs.declared.InstanceCall.the-variants.{Autopurge};
 ghost use Rattle.model.specs.InstanceCalls.{kept, instanceCall};
-ghost use Rattle.model.specs.InstanceRecord.{bit, instanceOf};
-ghost use Rattle.model.specs.Instances.{rule, onEvery};
+ghost use Rattle.model.specs.InstanceRecord.{bit, instanceOf, timeAt};
+ghost use Rattle.model.specs.Instances.{rule, onEvery, purged};
 ghost use Rattle.model.specs.State.{instancesIn};
 ghost use Rattle.instance_writers.specs.Places.{Sound};
 ghost use Rattle.instance_record.specs.Parts.{recordAt};
@@ -35,6 +37,7 @@ ghost use Rattle.instance_fields.specs.Usable.{Usable};
 ghost use Rattle.instance_table.specs.TableCalls.{TableFormed, stateWith};
 ghost use Rattle.instance_pass.specs.EveryCalls.{answerAs, LeavesTableAndOut};
 ghost use Rattle.instance_pass.specs.Passes.{UsableIn, keptAt, withStep, Ahead, TookOne, Spared, Passed};
+ghost use Rattle.instance_pass.specs.Purges.{Delays, PurgedOne, purges};
 ghost use Rattle.instance_pass.specs.Spares.{within, widened, watchAs, Watches};
 ghost use Rattle.instance_pass.specs.Steps.{Passable, gonesIn, countedAs, listedAs, callAct, lossAct, actOf, remains, Stepped, lostOne};
 
@@ -392,7 +395,99 @@ pub fn pass(
     tally
 }
 
+// ---- code 21
+
+// The time of the 8 bytes from at, present or not.
+fn time_in(s: &[u8], at: usize, present: bool) -> MaybeTime
+    requires { ⌜ at + 8 ≤ length (now s) ⌝ }
+    ensures { λ r. ⌜ r ≡ timeAt (now (s .entry)) at present ⌝ }
+{
+    let sec = octets::get_u32(s, at);
+    let nanosec = octets::get_u32(s, at + 4);
+    MaybeTime {
+        present: present,
+        sec: sec,
+        nanosec: nanosec,
+    }
+}
+
+// Whether the instance of a record is purged: its kind, in the two highest bits of the flags, says since when and which delay.
+fn purged_in(r: &[u8], at: MaybeTime, a: u64, b: u64) -> bool
+    requires { ⌜ length (now r) ≡ 512 ⌝ }
+    ensures { λ yes. ⌜ ((s : Sheet) → Delays s at a b → yes ≡ purged s (instanceOf (now (r .entry)) .state)) ⌝ }
+{
+    let f = octets::get_u16(r, 24);
+    if f < 16384 {
+        return false;
+    }
+    if f < 32768 {
+        return sample_time::purge_due(time_in(r, 68, f / 512 % 2 == 1), at, a);
+    }
+    sample_time::purge_due(time_in(r, 76, f / 256 % 2 == 1), at, b)
+}
+
+// Record i goes behind the k kept, unless it is purged. How many are kept then.
+fn purge_at(pens: &mut [u8], i: usize, k: usize, at: MaybeTime, a: u64, b: u64) -> usize
+    requires { ⌜ (k ≤ i) × (i < 128) × (i * 512 + 512 ≤ length (now pens)) ⌝ }
+    ensures { λ r. ⌜ ((s : Sheet) → Delays s at a b → PurgedOne (purged s (instanceOf (recordAt (now (pens .entry)) i) .state)) i k (now (pens .entry)) (now (pens .exit)) r) ⌝ }
+{
+    let from = i * 512;
+    let end = from + 512;
+    if purged_in(&pens[from..end], at, a, b) {
+        return k;
+    }
+    close_up(pens, k, i);
+    k + 1
+}
+
+// The instances whose delay has run out are taken out of the table; Out has no part in it.
+fn purge(pens: &mut [u8], count: usize, s: Sheet) -> Tally
+    requires { ⌜ (count ≤ 128) × (count * 512 ≤ length (now pens)) ⌝ }
+    ensures { λ r. ⌜ ((out : List ℕ) → 1024 ≤ length out → Passed (callAct Autopurge s) (instancesIn count (now (pens .entry))) (now (pens .entry)) out (now (pens .exit)) out r) ⌝ }
+{
+    let at = s.time_2;
+    let a = s.a;
+    let b = s.b;
+    let mut k = 0;
+    let mut i = 0;
+    while i < count {
+        k = purge_at(pens, i, k, at, a, b);
+        i += 1;
+    }
+    instance_table::truncate(pens, k, count);
+    Tally {
+        kept: k,
+        listed: 0,
+        counted: count - k,
+    }
+}
+
 // ---- the calls on every instance
+
+// Whether the call purges.
+fn is_purge(k: Report) -> bool
+    ensures { λ r. ⌜ r ≡ purges k ⌝ }
+{
+    match k {
+        Report::Nothing => false,
+        Report::Left => false,
+        Report::Owner => false,
+        Report::Prefix => false,
+        Report::Purge => true,
+    }
+}
+
+// The pass of a call.
+fn call_pass(pens: &mut [u8], out: &mut [u8], count: usize, c: InstanceCall, s: Sheet) -> Tally
+    requires { ⌜ (onEvery c ≡ true) × (count ≤ 128) × (count * 512 ≤ length (now pens)) × (1024 ≤ length (now out)) × All UsableIn (instancesIn count (now pens)) ⌝ }
+    ensures { λ r. ⌜ Passed (callAct c s) (instancesIn count (now (pens .entry))) (now (pens .entry)) (now (out .entry)) (now (pens .exit)) (now (out .exit)) r ⌝ }
+{
+    if is_purge(report_of(c)) {
+        return purge(pens, count, s);
+    }
+    let nobody = [0u8; 16];
+    pass(pens, out, count, Passing::Call(c), s, &nobody)
+}
 
 // What a call answers, from the tally of its pass.
 fn answered(k: Report, t: Tally) -> Answer
@@ -423,8 +518,7 @@ pub fn every_call(
     requires { ⌜ TableFormed places count (next .0) (now pens) × (1024 ≤ length (now out)) × (onEvery c ≡ true) ⌝ }
     ensures { λ r. ⌜ LeavesTableAndOut places (instanceCall places c s (stateWith (instancesIn count (now (pens .entry))) (next .0))) (now (out .entry)) r (now (pens .exit)) (now (out .exit)) ⌝ }
 {
-    let nobody = [0u8; 16];
-    let tally = pass(pens, out, count as usize, Passing::Call(c), s, &nobody);
+    let tally = call_pass(pens, out, count as usize, c, s);
     let k = report_of(c);
     let a = answered(k, tally);
     TableCall {

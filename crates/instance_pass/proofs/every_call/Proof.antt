@@ -8,32 +8,29 @@ use borrow.Author.Needs.{needs}
 use Rattle.instance_pass.proofs.every_call.Statement.{statement}
 use Rattle.instance_pass.proofs.every_call.Tie as tie
 
-slice-aggregate-pass : tie.Need-slice-aggregate-pass
-slice-aggregate-pass c = search needs
-
-pass-requires : tie.Need-pass-requires
-pass-requires c κs =
-    let s = c .before .before .before .before .before in
+call-pass-requires : tie.Need-call-pass-requires
+call-pass-requires c κs =
+    let s = c .before .before .before .before in
     let a = s .args in
     let h = ready-held (a .places) (a .count) (a .next .0) (a .pens .now) (s .pre .0) in
-    (s .pre .2, omega arith, h .few, h .room, s .pre .1, h .usable)
+    (s .pre .2, h .few, h .room, s .pre .1, h .usable)
 
 report-of-requires : tie.Need-report-of-requires
 report-of-requires c κs = search needs
 
 answered-requires : tie.Need-answered-requires
 answered-requires c κs =
-    let s = c .before .before .before .before .before .before .before .before .before .before .before in
+    let s = c .before .before .before .before .before .before .before .before .before .before in
     let a = s .args in
-    let r = c .before .before .before .before .before .pass in
+    let r = c .before .before .before .before .before .call-pass in
     let w = every-few (a .places) (a .count) (a .next .0) (a .c) (a .s) (a .pens .now) (a .out .now) (r .last .0) (r .last .1 .0) (r .result) (s .pre .0) (r .ensures) in
     (w .listed, omega (arith, w .counted))
 
-cast-t20 : tie.Need-cast-t20
-cast-t20 c =
-    let s = c .before .before .before .before .before .before .before .before .before .before .before .before .before in
+cast-t16 : tie.Need-cast-t16
+cast-t16 c =
+    let s = c .before .before .before .before .before .before .before .before .before .before .before .before in
     let a = s .args in
-    let r = c .before .before .before .before .before .before .before .pass in
+    let r = c .before .before .before .before .before .before .before .call-pass in
     let w = every-few (a .places) (a .count) (a .next .0) (a .c) (a .s) (a .pens .now) (a .out .now) (r .last .0) (r .last .1 .0) (r .result) (s .pre .0) (r .ensures) in
     omega (arith, w .kept)
 
@@ -45,21 +42,20 @@ same-length-2 c = search needs
 
 returns : tie.Need-returns
 returns c =
-    let s = c .before .before .before .before .before .before .before .before .before .before .before .before .before in
+    let s = c .before .before .before .before .before .before .before .before .before .before .before .before in
     let a = s .args in
-    let r = c .before .before .before .before .before .before .before .pass in
+    let r = c .before .before .before .before .before .before .before .call-pass in
     every-left (a .places) (a .count) (a .c) (a .s) (a .next) (a .pens .now) (a .out .now) (r .last .0) (r .last .1 .0) (r .result) (c .before .answered .result) (s .pre .2)
-    (λ j. c .before .before .before .before .before .before .before .before .before .before .before .before .slice-known .given j .fits) (s .pre .0) (r .ensures) (c .before .answered .ensures ∙ ap (λ (k : Report). answerAs k (r .result .listed) (r .result .counted)) (c .before .before .report-of .ensures))
+    (λ j. c .before .before .before .before .before .before .before .before .before .before .before .slice-known .given j .fits) (s .pre .0) (r .ensures) (c .before .answered .ensures ∙ ap (λ (k : Report). answerAs k (r .result .listed) (r .result .counted)) (c .before .before .report-of .ensures))
 
 pub every-call-spec : {M : Type 1} → statement M
 every-call-spec =
     tie.close
     (tie.spec
-    slice-aggregate-pass
-    pass-requires
+    call-pass-requires
     report-of-requires
     answered-requires
-    cast-t20
+    cast-t16
     same-length
     same-length-2
     returns)
