@@ -1,5 +1,5 @@
 -- A pass while it runs, over plain variables.
---     counts-turn, counts-small       the classes of one writer more
+--     counts-small                    no class has more than there are
 --     midway, mid-split, mid-next, mid-rest, mid-length     the writers, the first i of them turned by f
 --     Amid                            the table with the first i of its writers turned; amid-from, amid-read, amid-bounded,
 --                                     amid-forth, amid-put, amid-kept, amid-rest and amid-end are its laws
@@ -22,9 +22,11 @@ use Rattle.model.specs.WriterRecord.{writerOf, writerBytes}
 use Rattle.model.proofs.RowLaws.{length-read}
 use Rattle.model.proofs.WriterLaws.{length-writer, writer-back}
 use Rattle.model.proofs.Fits.{FitsWriter}
-use Rattle.writer_pass.specs.declared.Counts.{Counts}
-use Rattle.writer_pass.specs.Passes.{writerIn, Bounded, Sound, countOne, countsOf}
-use Rattle.writer_pass.proofs.Picks.{take-more, pick-le, count-snoc, all-at, writers-fit, bounded}
+use Rattle.writer_pass.specs.Passes.{writerIn, Bounded, Sound, countsOf}
+use Rattle.writer_pass.proofs.Picks.{take-more, pick-le, all-at, writers-fit, bounded}
+
+abbrev pub midway : (Writer → Writer) → ℕ → List Writer → List Writer
+midway g i ws = map g (take i ws) ++ drop i ws
 
 -- every writer's record is 40 bytes
 abbrev pub Any : Writer → Type 0
@@ -42,26 +44,13 @@ pub read-laid : (n : ℕ) (ws : List Writer) (i : ℕ) (d : Writer) → i < leng
     writerOf (take 40 (drop (i * 40) (lay writerBytes 40 n ws))) ≡ getD ws i d
 read-laid n ws i d h f = ap writerOf (lay-read writerBytes 40 Any wide n ws i d h (any-all ws)) ∙ writer-back (getD ws i d) f
 
--- ---- the classes of one writer more
-
-pub counts-snoc : (ws : List Writer) (w : Writer) → countsOf (ws ++ w ∷ []) ≡ countOne (countsOf ws) (w .liveliness .state)
-unfolding aliveCount notAliveCount
-counts-snoc ws w = rw (count-snoc countsAlive ws w, count-snoc countsNotAlive ws w)
-
-pub counts-turn : (ws : List Writer) (i : ℕ) (w : Writer) (c : Counts) → i < length ws → w ≡ getD ws i w → c ≡ countsOf (take i ws) →
-    countOne c (w .liveliness .state) ≡ countsOf (take (i + 1) ws)
-counts-turn ws i w c h e k =
-    ap (λ (z : Counts). countOne z (w .liveliness .state)) k ∙ sym (counts-snoc (take i ws) w)
-    ∙ ap (λ (z : Writer). countsOf (take i ws ++ z ∷ [])) e ∙ ap countsOf (sym (take-more ws i w h))
+-- ---- the classes
 
 pub counts-small : (ws : List Writer) → (countsOf ws .alive ≤ length ws) × (countsOf ws .«not_alive» ≤ length ws)
 unfolding aliveCount notAliveCount
 counts-small ws = (pick-le countsAlive ws, pick-le countsNotAlive ws)
 
 -- ---- the table midway
-
-abbrev pub midway : (Writer → Writer) → ℕ → List Writer → List Writer
-midway g i ws = map g (take i ws) ++ drop i ws
 
 module _ (g : Writer → Writer) (ws : List Writer) (i : ℕ) (d : Writer) (h : i < length ws) where
   pub mid-split : midway g i ws ≡ map g (take i ws) ++ getD ws i d ∷ drop (suc i) ws

@@ -1,7 +1,6 @@
 -- Loops that read the writer table, over plain variables.
 --     reads                                   the record read at place i is writer i
 --     bounded-in                              its clock and lease are bounded
---     counts-at, counts-room, counts-end      the classes, one writer further
 --     dues-start, dues-turn, dues-room        the dues, one writer further to the front
 -- Assumes nothing.
 use Prim.Native.Nat.{ℕ, suc, _+_, _*_, _≤_, _<_}
@@ -21,10 +20,8 @@ use Rattle.model.specs.WellFormed.{writerOk}
 use Rattle.model.specs.Writers.{leased, dueAt, expires, expired, nextDue}
 use Rattle.model.specs.WriterRecord.{writerOf}
 use Rattle.model.proofs.RowLaws.{length-read}
-use Rattle.writer_pass.specs.declared.Counts.{Counts}
 use Rattle.writer_pass.specs.declared.Dues.{Dues}
-use Rattle.writer_pass.specs.Passes.{writerIn, Bounded, Sound, countOne, countsOf, soonest, duesWith, duesOf}
-use Rattle.writer_pass.proofs.Passing.{counts-turn, counts-small}
+use Rattle.writer_pass.specs.Passes.{writerIn, Bounded, Sound, soonest, duesWith, duesOf}
 use Rattle.writer_pass.proofs.Picks.{pick-le, all-at, read-at, bounded}
 
 -- ---- the dues of a writer more in front
@@ -62,20 +59,6 @@ module _ (t : List ℕ) (count : ℕ) where
 
   whole : (i : ℕ) → count ≤ i → take i ws ≡ ws
   whole i h = take-all i ws (omega (arith, size))
-
-  -- ---- the classes
-
-  pub counts-at : (i : ℕ) (w : Writer) (c : Counts) → i < count → w ≡ writerOf (take 40 (drop (i * 40) t)) → c ≡ countsOf (take i ws) →
-      countOne c (w .liveliness .state) ≡ countsOf (take (i + 1) ws)
-  counts-at i w c h e k = counts-turn ws i w c (omega (arith, size)) (reads i w h e) k
-
-  pub counts-room : (i : ℕ) (c : Counts) → i < count → count ≤ 128 → c ≡ countsOf (take i ws) → (c .alive < 128) × (c .«not_alive» < 128)
-  counts-room i c h l k =
-      let s = counts-small (take i ws) in
-      rw k (omega (arith, s .0, taken i (omega arith)), omega (arith, s .1, taken i (omega arith)))
-
-  pub counts-end : (i : ℕ) (c : Counts) → count ≤ i → c ≡ countsOf (take i ws) → c ≡ countsOf ws
-  counts-end i c h k = k ∙ ap countsOf (whole i h)
 
   -- ---- the dues
 

@@ -11,7 +11,7 @@ use Rattle.model.specs.declared.LastWriter.the-variants.{Is}
 use Rattle.model.specs.declared.MaybeDue.{MaybeDue}
 use Rattle.model.specs.declared.Writer.{Writer}
 use Rattle.model.specs.declared.WriterState.{WriterState}
-use Rattle.model.specs.State.{classOf, isAliveClass, isNotAliveClass, countsAlive, countsNotAlive, aliveCount, notAliveCount, writersIn}
+use Rattle.model.specs.State.{classOf, countsAlive, countsNotAlive, aliveCount, notAliveCount, writersIn}
 use Rattle.model.specs.Tables.{pick, all}
 use Rattle.model.specs.WellFormed.{writerOk}
 use Rattle.model.specs.Writers.{covers, renews, expires, expired, sameClass, lastAfter, guidIn, nextDue}
@@ -21,6 +21,9 @@ use Rattle.writer_effects.specs.Acts.{assertionOf}
 use Rattle.writer_pass.specs.declared.Counts.{Counts}
 use Rattle.writer_pass.specs.declared.Dues.{Dues}
 use Rattle.writer_pass.specs.declared.Tally.{Tally}
+
+abbrev pub countsOf : List Writer → Counts
+countsOf ws = record { alive = aliveCount ws; «not_alive» = notAliveCount ws }
 
 -- the writer of record i
 abbrev pub writerIn : List ℕ → ℕ → Writer
@@ -52,16 +55,6 @@ abbrev pub shiftsBy : (Writer → Writer) → Writer → Bool
 shiftsBy f w = differs (w .liveliness .state) (f w .liveliness .state)
 
 -- ---- what is told of all
-
-abbrev pub countOne : Counts → WriterState → Counts
-countOne c s =
-    record {
-      alive = cond (isAliveClass (classOf s)) (c .alive + 1) (c .alive);
-      «not_alive» = cond (isNotAliveClass (classOf s)) (c .«not_alive» + 1) (c .«not_alive»);
-    }
-
-abbrev pub countsOf : List Writer → Counts
-countsOf ws = record { alive = aliveCount ws; «not_alive» = notAliveCount ws }
 
 -- the tally once w is alive: where it was not, it moves to the alive ones from the class that it was of
 abbrev pub raised : Tally → Writer → Tally

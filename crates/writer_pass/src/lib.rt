@@ -26,7 +26,7 @@ ghost use Rattle.model.specs.Writers.{asserted, withState, isAliveState, expire
 ghost use Rattle.model.specs.WriterRecord.{writerBytes};
 ghost use Rattle.writer_record.specs.Records.{lapsed};
 ghost use Rattle.writer_effects.specs.Acts.{assertionOf};
-ghost use Rattle.writer_pass.specs.Passes.{writerIn, Bounded, Sound, acts, countOne, countsOf, raised, tallyOf, soonest, duesWith, duesOf};
+ghost use Rattle.writer_pass.specs.Passes.{writerIn, Bounded, Sound, acts, countsOf, raised, tallyOf, soonest, duesWith, duesOf};
 
 // How many writers are of each class that is counted.
 pub struct Counts {
@@ -53,19 +53,6 @@ fn one_more(yes: bool, n: u32) -> u32
     ensures { λ r. ⌜ r ≡ cond yes (n + 1) n ⌝ }
 {
     if yes { n + 1 } else { n }
-}
-
-// The counts with a writer of state s more.
-fn count_one(c: Counts, s: WriterState) -> Counts
-    requires { ⌜ (c .alive < 128) × (c .«not_alive» < 128) ⌝ }
-    ensures { λ r. ⌜ r ≡ countOne c s ⌝ }
-{
-    let alive = one_more(writer_effects::counts_alive(s), c.alive);
-    let not_alive = one_more(writer_effects::counts_not_alive(s), c.not_alive);
-    Counts {
-        alive: alive,
-        not_alive: not_alive,
-    }
 }
 
 // Whether an assertion covers the writer and acts on it.
@@ -165,24 +152,6 @@ pub fn assert_writers(
         i += 1;
     }
     tally
-}
-
-// How many of the first count writers are of each class.
-pub fn count_classes(t: &[u8], count: usize) -> Counts
-    requires { ⌜ (count ≤ 128) × (count * 40 ≤ length (now t)) ⌝ }
-    ensures { λ r. ⌜ r ≡ countsOf (writersIn count (now (t .entry))) ⌝ }
-{
-    let mut counts = Counts {
-        alive: 0,
-        not_alive: 0,
-    };
-    let mut i = 0;
-    while i < count {
-        let s = writer_record::state_at(t, i);
-        counts = count_one(counts, s);
-        i += 1;
-    }
-    counts
 }
 
 // The earlier of a lease that runs out at `due` and one that is due.

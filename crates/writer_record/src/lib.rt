@@ -134,25 +134,6 @@ pub fn writer_at(t: &[u8], i: usize) -> Writer
     read_writer(&t[from..end])
 }
 
-// The state alone of a record's bytes.
-fn read_state(r: &[u8]) -> WriterState
-    requires { ⌜ length (now r) ≡ 40 ⌝ }
-    ensures { λ s. ⌜ s ≡ writerOf (now (r .entry)) .liveliness .state ⌝ }
-{
-    let flags = octets::get_u8(r, 16);
-    state_numbered(flags / 16 % 4)
-}
-
-// The state of the writer of record i of a table.
-pub fn state_at(t: &[u8], i: usize) -> WriterState
-    requires { ⌜ i * 40 + 40 ≤ length (now t) ⌝ }
-    ensures { λ s. ⌜ s ≡ writerOf (take 40 (drop (i * 40) (now (t .entry)))) .liveliness .state ⌝ }
-{
-    let from = i * 40;
-    let end = from + 40;
-    read_state(&t[from..end])
-}
-
 // Whether the writer of record i is alive and has a lease, which its byte of flags tells.
 pub fn leased_at(t: &[u8], i: usize) -> bool
     requires { ⌜ i * 40 + 40 ≤ length (now t) ⌝ }
