@@ -1,6 +1,5 @@
 -- GUIDs end to end that rise from one to the next rise.
 --     high-decides                      of two numbers of two digits, where the high ones differ
---     rise-two                          keys rise where the first is below the second and those from the second on rise
 --     next                              the GUID at a place is below the one behind it
 --     rise-few, rise-next, rise-six     none or one, two and six of them
 --     rise-stop, rise-turn              the first ones do not rise, or do: then the rest decides
@@ -37,7 +36,7 @@ module _ {A : Type 0} (key : A → ℕ) where
       let p = both (ltb m (key x)) (above key m xs) h in
       rw (lt-ltb n (key x) (omega (arith, ltb-true m (key x) (p .0))), above-lower m n xs l (p .1))
 
-  pub rise-two : (x y : A) (xs : List A) → rising key (x ∷ y ∷ xs) ≡ (ltb (key x) (key y) && rising key (y ∷ xs))
+  rise-two : (x y : A) (xs : List A) → rising key (x ∷ y ∷ xs) ≡ (ltb (key x) (key y) && rising key (y ∷ xs))
   unfolding above rising
   rise-two x y xs = each (ltb (key x) (key y)) (above key (key y) xs) refl refl
     where

@@ -47,14 +47,6 @@ pub struct Dues {
     pub next: MaybeDue,
 }
 
-// One more, where it is so.
-fn one_more(yes: bool, n: u32) -> u32
-    requires { ⌜ n < 128 ⌝ }
-    ensures { λ r. ⌜ r ≡ cond yes (n + 1) n ⌝ }
-{
-    if yes { n + 1 } else { n }
-}
-
 // Whether an assertion covers the writer and acts on it.
 fn asserts(a: Assertion, w: Writer) -> bool
     ensures { λ r. ⌜ r ≡ acts a w ⌝ }

@@ -1,0 +1,39 @@
+-- `owner_is` meets its contract. Assumes nothing.
+use Prim.Native.Nat.{ℕ, _/_, _%_}
+use mathlib.Core.Path.{sym, ap, _∙_}
+use native.Mathlib.Omega.{arith}
+use lib.Dec.{eqb}
+use Rattle.instance_edits.proofs.RecordReads.{owner-high, owner-low, owner-same}
+use borrow.Author.Needs.{needs}
+use Rattle.instance_edits.proofs.owner_is.Statement.{statement}
+use Rattle.instance_edits.proofs.owner_is.Tie as tie
+
+returns : tie.Need-returns
+returns c =
+    let k = c .before .before .before .before in
+    owner-low (k .args .s .now) (k .args .g) (λ j. (c .before .before .before .shared-slice-known .given) j .fits) (search needs) (λ e. c .if1 .taken (c .before .before .get-u64 .ensures ∙ e))
+
+returns-2 : tie.Need-returns-2
+returns-2 c =
+    let k = c .before .before .before .before .before .before .before in
+    owner-high (k .args .s .now) (k .args .g) (λ j. (c .before .before .before .before .before .before .shared-slice-known .given) j .fits) (search needs) (λ e. c .if2 .taken (c .before .before .get-u642 .ensures ∙ e))
+
+returns-3 : tie.Need-returns-3
+returns-3 c =
+    let k = c .before .before .before .before .before .before .before .before in
+    ap (λ (f : ℕ). eqb (f / 128 % 2) 1) (c .get-u16 .ensures)
+    ∙ owner-same (k .args .s .now) (k .args .g) (sym (c .before .before .before .get-u642 .ensures) ∙ omega arith) (sym (c .before .before .before .before .before .before .get-u64 .ensures) ∙ omega arith)
+
+get-u64-requires : tie.Need-get-u64-requires
+get-u64-requires c κs = search needs
+
+get-u64-requires-2 : tie.Need-get-u64-requires-2
+get-u64-requires-2 c κs = search needs
+
+get-u16-requires : tie.Need-get-u16-requires
+get-u16-requires c κs = search needs
+
+pub owner-is-spec : {M : Type 1} → statement M
+owner-is-spec =
+    tie.close
+    (tie.spec get-u64-requires returns get-u64-requires-2 returns-2 get-u16-requires returns-3)

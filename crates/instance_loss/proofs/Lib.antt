@@ -1,0 +1,4 @@
+-- Laws of a record that loses writers.
+
+pub mod Dropping
+pub mod Losing

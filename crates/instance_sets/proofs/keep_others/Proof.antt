@@ -1,0 +1,65 @@
+-- A list of one, or a walk from the place of the first of the set on. Assumes nothing.
+use native.Mathlib.Omega.{arith}
+use Rattle.instance_sets.proofs.Starts.{one-listed, keys-rise, start-few, start-after}
+use Rattle.instance_sets.proofs.WalkLaws.{filled-long}
+use borrow.Author.Needs.{needs}
+use Rattle.instance_sets.proofs.keep_others.Statement.{statement}
+use Rattle.instance_sets.proofs.keep_others.Tie as tie
+
+guid-at-requires : tie.Need-guid-at-requires
+guid-at-requires c κs = search needs
+
+keep-all-but-requires : tie.Need-keep-all-but-requires
+keep-all-but-requires c κs = search needs
+
+same-length : tie.Need-same-length
+same-length c = search needs
+
+returns : tie.Need-returns
+returns c =
+    let s = c .before .before .before .before .before .before .before .before in
+    let g = c .before .before .before .before .guid-at in
+    let r = c .before .before .keep-all-but in
+    rw (one-listed (s .args .gone .now) (omega arith), ← g .ensures) (r .ensures)
+
+guid-at-requires-2 : tie.Need-guid-at-requires-2
+guid-at-requires-2 c κs =
+    let s = c .before .before .before .before in
+    omega (arith, filled-long (s .args .n) (s .args .set .now) (s .pre .0))
+
+lower-bound-requires : tie.Need-lower-bound-requires
+lower-bound-requires c κs =
+    let s = c .before .before .before .before .before in
+    (omega arith, omega (arith, s .pre .1 .few), omega arith, keys-rise (s .args .gone .now) (s .pre .1))
+
+walk-through-requires : tie.Need-walk-through-requires
+walk-through-requires c κs =
+    let s = c .before .before .before .before .before .before .before in
+    let a = s .args in
+    let g = c .before .before .guid-at2 in
+    let r = c .before .lower-bound in (
+      s .pre .0,
+      s .pre .1,
+      start-few (a .gone .now) (a .set .now) (a .n) (g .result) (r .result) (g .ensures) (r .ensures),
+      start-after (a .gone .now) (a .set .now) (a .n) (g .result) (r .result) (g .ensures) (r .ensures) (s .pre .0),
+    )
+
+same-length-2 : tie.Need-same-length-2
+same-length-2 c = search needs
+
+returns-2 : tie.Need-returns-2
+returns-2 c = search needs
+
+pub keep-others-spec : {M : Type 1} → statement M
+keep-others-spec =
+    tie.close
+    (tie.spec
+    guid-at-requires
+    keep-all-but-requires
+    same-length
+    returns
+    guid-at-requires-2
+    lower-bound-requires
+    walk-through-requires
+    same-length-2
+    returns-2)

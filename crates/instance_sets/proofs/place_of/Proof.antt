@@ -1,0 +1,59 @@
+-- None that was passed is g. Assumes nothing.
+use Prim.Native.Nat.{ℕ, _-_, _*_, _≤_, _<_}
+use mathlib.Core.Bool.{false}
+use mathlib.Core.Path.{_≡_, sym, _∙_}
+use native.Mathlib.Omega.{arith}
+use borrow.Author.Count.{below-more}
+use Rattle.model.specs.Guids.{same, guidAt}
+use Rattle.instance_sets.proofs.OneOut.{guid-place}
+use Rattle.instance_sets.proofs.place_of.Statement.{statement}
+use Rattle.instance_sets.proofs.place_of.Tie as tie
+
+abbrev Inv-loop : tie.InvT-loop
+Inv-loop set n g i₀ i = (i ≤ n) × ((j : ℕ) → j < i → same (guidAt set (j * 16)) g ≡ false)
+
+abbrev μ-loop : tie.MeasureT-loop
+μ-loop set n g i₀ i = n - i
+
+loop-holds : tie.Need-loop-holds Inv-loop μ-loop
+loop-holds c = (omega arith, (λ j l. absurd (omega arith)))
+
+is-at-requires : tie.Need-is-at-requires Inv-loop μ-loop
+is-at-requires c κs = (omega arith, omega arith)
+
+returns : tie.Need-returns Inv-loop μ-loop
+returns c =
+    let a = c .before .before .before .before .before .args in
+    let l = c .before .before .before .loop in
+    guid-place (a .n) (a .set .now) (a .g) (l .i) (l .inv .0) (l .inv .1) (λ m. sym (c .before .is-at .ensures) ∙ c .if1 .taken)
+
+add-i : tie.Need-add-i Inv-loop μ-loop
+add-i c = omega arith
+
+loop-less : tie.Need-loop-less Inv-loop μ-loop
+loop-less c = omega arith
+
+loop-again : tie.Need-loop-again Inv-loop μ-loop
+loop-again c =
+    let l = c .before .before .before .loop in
+    (omega arith, below-more _ _ (l .inv .1) (sym (c .before .is-at .ensures) ∙ c .if1 .left))
+
+returns-2 : tie.Need-returns-2 Inv-loop μ-loop
+returns-2 c =
+    let a = c .before .before .before .args in
+    let l = c .before .loop in
+    guid-place (a .n) (a .set .now) (a .g) (l .i) (l .inv .0) (l .inv .1) (λ m. absurd (omega arith))
+
+pub place-of-spec : {M : Type 1} → statement M
+place-of-spec =
+    tie.close
+    (tie.spec
+    Inv-loop
+    μ-loop
+    loop-holds
+    is-at-requires
+    returns
+    add-i
+    loop-less
+    loop-again
+    returns-2)

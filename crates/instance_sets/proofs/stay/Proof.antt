@@ -1,0 +1,30 @@
+-- A GUID goes to its place, where it may stand already. Assumes nothing.
+use Prim.Native.Nat.{_*_}
+use mathlib.Core.Path.{_∙_}
+use native.Mathlib.Omega.{arith}
+use Rattle.instance_sets.proofs.WalkLaws.{stay-put, stay-stood}
+use borrow.Author.Needs.{needs}
+use Rattle.instance_sets.proofs.stay.Statement.{statement}
+use Rattle.instance_sets.proofs.stay.Tie as tie
+
+mul-put-guid : tie.Need-mul-put-guid
+mul-put-guid c = search needs
+
+put-guid-requires : tie.Need-put-guid-requires
+put-guid-requires c κs = search needs
+
+same-length : tie.Need-same-length
+same-length c = search needs
+
+returns : tie.Need-returns
+returns c =
+    let a = c .before .before .before .before .before .before .args in
+    c .before .before .put-guid .ensures ∙ stay-put (a .set .now) (a .k * 16) (a .g) (omega arith)
+
+returns-2 : tie.Need-returns-2
+returns-2 c =
+    let a = c .before .before .args in
+    stay-stood (a .set .now) (a .i) (a .k) (a .g) (λ j. c .before .slice-known .given j .fits) (omega arith) (c .before .before .pre .1) (c .before .before .pre .2)
+
+pub stay-spec : {M : Type 1} → statement M
+stay-spec = tie.close (tie.spec mul-put-guid put-guid-requires same-length returns returns-2)

@@ -1,0 +1,174 @@
+// The writer set of an instance in its 256 bytes: the writers of a list are taken out where they stand, in one walk over
+// both, which rise.
+// Derives from instance_tracker.rs of ZeroDDS.
+// Copyright 2026 ZeroDDS Contributors. SPDX-License-Identifier: Apache-2.0. Changed: written anew in Rattle, over records in
+// lent bytes.
+use model::Guid;
+ghost use mathlib.Core.List.{[], _∷_};
+ghost use mathlib.Core.Path.{_≡_};
+ghost use Prim.Native.Nat.{_+_, _*_, _/_, _≤_, _<_};
+ghost use lib.ListN.{length, drop};
+ghost use Rattle.octets.specs.Patch.{patch};
+ghost use Rattle.model.specs.Guids.{same, guidAt, guidsIn, guidBytes, guidsBytes};
+ghost use Rattle.tables.specs.Places.{placeOf};
+ghost use Rattle.instance_writers.specs.Places.{padded};
+ghost use Rattle.instance_sets.specs.Others.{others};
+ghost use Rattle.instance_sets.specs.Lists.{gonesIn, Listed};
+ghost use Rattle.instance_sets.specs.Walks.{Filled, besideAt, walked, stayed};
+
+// Where a GUID of a list stands beside one of a set.
+pub enum Beside {
+    Before,
+    Same,
+    Behind,
+}
+
+// A walk over a set and a list: the places in both, and how many of the set stay.
+pub struct Walk {
+    pub i: usize,
+    pub j: usize,
+    pub k: usize,
+}
+
+// ---- the writers of a list taken out of a set
+
+// Where the GUID of place j of the list stands beside g; behind it where the list has ended.
+fn stands(gone: &[u8], j: usize, g: Guid) -> Beside
+    requires { ⌜ j ≤ 128 ⌝ }
+    ensures { λ r. ⌜ r ≡ besideAt (now (gone .entry)) j g ⌝ }
+{
+    if gone.len() / 16 <= j {
+        return Beside::Behind;
+    }
+    let a = guid::guid_at(gone, j * 16);
+    if guid::is_same(a, g) {
+        return Beside::Same;
+    }
+    if guid::is_less(a, g) {
+        return Beside::Before;
+    }
+    Beside::Behind
+}
+
+// The GUID g of place i goes to place k, where it may stand already.
+fn stay(set: &mut [u8], i: usize, k: usize, g: Guid)
+    requires { ⌜ (k ≤ i) × (i * 16 + 16 ≤ length (now set)) × (g ≡ guidAt (now set) (i * 16)) ⌝ }
+    ensures { λ _. ⌜ now (set .exit) ≡ patch (now (set .entry)) (k * 16) 16 (guidBytes g) ⌝ }
+{
+    if k != i {
+        guid::put_guid(set, k * 16, g);
+    }
+}
+
+// One turn of the walk.
+fn walk_on(set: &mut [u8], gone: &[u8], w: Walk) -> Walk
+    requires { ⌜ (w .k ≤ w .i) × (w .i * 16 + 16 ≤ length (now set)) × (length (now set) ≤ 256) × (w .j ≤ 128) ⌝ }
+    ensures { λ r. ⌜ (r ≡ walked (besideAt (now (gone .entry)) (w .j) (guidAt (now (set .entry)) (w .i * 16))) w)
+        × (now (set .exit) ≡ stayed (besideAt (now (gone .entry)) (w .j) (guidAt (now (set .entry)) (w .i * 16))) w (now (set .entry))) ⌝ }
+{
+    let i = w.i;
+    let j = w.j;
+    let k = w.k;
+    let g = guid::guid_at(set, i * 16);
+    match stands(gone, j, g) {
+        Beside::Before => Walk {
+            i: i,
+            j: j + 1,
+            k: k,
+        },
+        Beside::Same => Walk {
+            i: i + 1,
+            j: j + 1,
+            k: k,
+        },
+        Beside::Behind => {
+            stay(set, i, k, g);
+            Walk {
+                i: i + 1,
+                j: j,
+                k: k + 1,
+            }
+        }
+    }
+}
+
+// Of the first n GUIDs of the set those of the list from place `from` on are taken out, and nil is put behind the others.
+// Both rise, so one walk over them tells.
+fn walk_through(set: &mut [u8], n: usize, gone: &[u8], from: usize) -> usize
+    requires { ⌜ Filled n (now set) × Listed (now gone) × (from ≤ length (now gone) / 16)
+        × (others (drop from (gonesIn (now gone))) (guidsIn n (now set)) ≡ others (gonesIn (now gone)) (guidsIn n (now set))) ⌝ }
+    ensures { λ r. ⌜ (r ≡ length (others (gonesIn (now (gone .entry))) (guidsIn n (now (set .entry)))))
+        × (now (set .exit) ≡ guidsBytes (padded (others (gonesIn (now (gone .entry))) (guidsIn n (now (set .entry)))))) ⌝ }
+{
+    let mut w = Walk {
+        i: 0,
+        j: from,
+        k: 0,
+    };
+    while w.i < n {
+        w = walk_on(set, gone, w);
+    }
+    let k = w.k;
+    octets::clear(set, k * 16, (n - k) * 16);
+    k
+}
+
+// ---- one writer taken out of a set
+
+// Whether the GUID of place i is g. The lower halves differ more often, so they are compared first.
+fn is_at(set: &[u8], i: usize, g: Guid) -> bool
+    requires { ⌜ (i < 128) × (i * 16 + 16 ≤ length (now set)) ⌝ }
+    ensures { λ r. ⌜ r ≡ same (guidAt (now (set .entry)) (i * 16)) g ⌝ }
+{
+    if octets::get_u64(set, i * 16 + 8) != g.lo {
+        return false;
+    }
+    octets::get_u64(set, i * 16) == g.hi
+}
+
+// The place of g among the first n GUIDs of the set, n where it is none of them.
+fn place_of(set: &[u8], n: usize, g: Guid) -> usize
+    requires { ⌜ (n ≤ 128) × (n * 16 ≤ length (now set)) ⌝ }
+    ensures { λ r. ⌜ r ≡ placeOf (λ (x : Guid). same x g) (guidsIn n (now (set .entry))) ⌝ }
+{
+    let mut i = 0;
+    while i < n {
+        if is_at(set, i, g) {
+            return i;
+        }
+        i += 1;
+    }
+    i
+}
+
+// Of the first n GUIDs of the set g is taken out, if it is there.
+fn keep_all_but(set: &mut [u8], n: usize, g: Guid) -> usize
+    requires { ⌜ Filled n (now set) ⌝ }
+    ensures { λ r. ⌜ (r ≡ length (others (g ∷ []) (guidsIn n (now (set .entry)))))
+        × (now (set .exit) ≡ guidsBytes (padded (others (g ∷ []) (guidsIn n (now (set .entry)))))) ⌝ }
+{
+    let p = place_of(set, n, g);
+    if p == n {
+        return n;
+    }
+    tables::close_gap(set, 16, p, n);
+    n - 1
+}
+
+// ---- either
+
+// Of the first n GUIDs of the set those of the list are taken out, and nil is put behind the others. Most lists have one.
+pub fn keep_others(set: &mut [u8], n: usize, gone: &[u8]) -> usize
+    requires { ⌜ Filled n (now set) × Listed (now gone) ⌝ }
+    ensures { λ r. ⌜ (r ≡ length (others (gonesIn (now (gone .entry))) (guidsIn n (now (set .entry)))))
+        × (now (set .exit) ≡ guidsBytes (padded (others (gonesIn (now (gone .entry))) (guidsIn n (now (set .entry)))))) ⌝ }
+{
+    let m = gone.len() / 16;
+    if m == 1 {
+        let g = guid::guid_at(gone, 0);
+        return keep_all_but(set, n, g);
+    }
+    let first = guid::guid_at(set, 0);
+    let from = tables::lower_bound(gone, 16, m, first);
+    walk_through(set, n, gone, from)
+}
