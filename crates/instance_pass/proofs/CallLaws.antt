@@ -1,79 +1,51 @@
 -- The calls on every instance, and the loss of writers: what they leave of the state, from what a pass leaves.
---     usable-all             the instances of a well-formed table are usable
---     TableFits, ready-held       what a pass asks of it
+--     by-report, by-owner, by-prefix
+--                            the pass of a call, by what it reports
 --     Few, passed-few        a tally is no more than the instances allow
 --     Every, every-turn      model's call, by the steps of a pass
 --     every-few, every-left  the bounds of its tally; the call from its pass
 --     Lost, lost             what model says of the loss of writers, by the steps of a pass
 -- Assumes nothing.
-use Prim.Native.Nat.{ℕ, zero, suc, _+_, _*_, _≤_}
-use mathlib.Core.Bool.{Bool, true}
+use Prim.Native.Nat.{ℕ, _+_, _*_, _≤_}
+use mathlib.Core.Bool.{Bool, true, false}
 use mathlib.Core.List.{List, [], _∷_}
-use mathlib.Core.Path.{_≡_, refl, ap, _∙_}
-use native.Mathlib.Nat.{mul-le-mul-right}
+use mathlib.Core.Path.{_≡_, refl, sym, ap, _∙_}
 use native.Mathlib.Omega.{arith}
-use lib.ListN.{length, take, drop}
+use lib.ListN.{length}
 use Rattle.octets.specs.Bounds.{Bytes}
-use Rattle.octets.specs.Lay.{All}
 use Rattle.model.specs.declared.Answer.{Answer}
 use Rattle.model.specs.declared.Guid.{Guid}
 use Rattle.model.specs.declared.Instance.{Instance}
 use Rattle.model.specs.declared.InstanceCall.{InstanceCall}
+use Rattle.model.specs.declared.InstanceCall.the-variants.{DropWriter, UpdateOwnerStrength, ClearOwnerForWriter, ClearOwnerForWriterPrefix, Autopurge}
 use Rattle.model.specs.declared.InstanceHandle.{InstanceHandle}
 use Rattle.model.specs.declared.MaybeTime.{MaybeTime}
+use Rattle.model.specs.declared.Report.{Report}
+use Rattle.model.specs.declared.Report.the-variants.{Nothing, Left, Owner, Prefix, Purge}
 use Rattle.model.specs.declared.Sheet.{Sheet}
 use Rattle.model.specs.Answers.{counting}
 use Rattle.model.specs.Call.{listIn}
-use Rattle.model.specs.Guids.{guidOf}
 use Rattle.model.specs.InstanceCalls as calls
 use Rattle.model.specs.InstanceCalls.{begun, nextAfter, instancesAfter, lateRefusal, instanceTurn, instanceCall, handleBytes, ownedBy, prefixOwned, isPurged}
 use Rattle.model.specs.InstanceRecord.{instanceOf}
-use Rattle.model.specs.Instances.{rule, onEvery}
+use Rattle.model.specs.Instances.{rule, onEvery, ownerCleared, prefixCleared}
 use Rattle.model.specs.Joined.{afterLoss, clearings, clearingsIn}
-use Rattle.model.specs.Layout.{readRows}
 use Rattle.model.specs.State.{instancesIn}
-use Rattle.model.specs.Tables.{pick, sift, all}
-use Rattle.model.specs.WellFormed.{instanceOk}
+use Rattle.model.specs.Tables.{pick, sift}
 use Rattle.model.proofs.Keeps.{every-cases}
 use Rattle.model.proofs.RowLaws.{length-read}
-use Rattle.model.proofs.Tests.{both}
 use Rattle.model.proofs.Tests.{split}
 use Rattle.model.proofs.TableLaws.{length-sift}
-use Rattle.instance_fields.proofs.UsableLaws.{usable}
 use Rattle.instance_table.proofs.LaidOut.{table-formed, table-laid}
-use Rattle.instance_pass.specs.declared.Passing.the-variants.{Call}
 use Rattle.instance_pass.specs.declared.Tally.{Tally}
 use Rattle.instance_pass.specs.Acts.{Act, Bounded}
-use Rattle.instance_pass.specs.Steps.{callAct, lossAct}
-use Rattle.instance_pass.specs.Passes.{remaining, listing, amount, total, UsableIn, Passed}
+use Rattle.instance_pass.specs.Steps.{callAct, lossAct, ownerAct}
+use Rattle.instance_pass.specs.Passes.{remaining, listing, amount, total, Passed}
 use Rattle.instance_table.specs.TableCalls.{TableFormed, stateWith}
 use Rattle.instance_pass.specs.EveryCalls.{answerAs, LeavesTableAndOut}
+use Rattle.instance_pass.proofs.EditLaws.{table-editable}
 use Rattle.instance_pass.proofs.ListLaws.{total-pick}
-use Rattle.instance_pass.proofs.StepLaws.{counted-le}
-
--- ---- a well-formed table
-
-pub usable-all : (n : ℕ) (t : List ℕ) → all instanceOk (instancesIn n t) ≡ true → All UsableIn (instancesIn n t)
-unfolding readRows all instanceOf
-usable-all zero t e = tt
-usable-all (suc n) t e =
-    let p = both (instanceOk (instanceOf (take 512 t))) (all instanceOk (instancesIn n (drop 512 t))) e in
-    (usable (instanceOf (take 512 t) .state) (length-read guidOf 16 16 (drop 256 (take 512 t))) (p .0), usable-all n (drop 512 t) (p .1))
-
--- what a pass asks of it
-pub record TableFits (count : ℕ) (t : List ℕ) : Type 0 where
-  pub few : count ≤ 128
-  pub room : count * 512 ≤ length t
-  pub usable : All UsableIn (instancesIn count t)
-
-pub ready-held : (places count next : ℕ) (t : List ℕ) → TableFormed places count next t → TableFits count t
-ready-held places count next t d =
-    let f = table-formed places count next t (d .formed) in
-    record {
-      few = omega (arith, f .few, d .few);
-      room = omega (arith, mul-le-mul-right 512 (f .few), d .size);
-      usable = usable-all count t (f .valid);
-    }
+use Rattle.instance_pass.proofs.StepLaws.{call-bounded}
 
 -- ---- a tally is bounded
 
@@ -100,6 +72,32 @@ passed-few a xs t out t′ out′ r h d =
       counted = omega (arith, d .counted, total-le (amount a) (λ x. h (x .state)) xs);
     }
 
+-- ---- the call, by what it reports
+
+abbrev reporting : Report → InstanceCall
+reporting Nothing = UpdateOwnerStrength
+reporting Left = DropWriter
+reporting Owner = ClearOwnerForWriter
+reporting Prefix = ClearOwnerForWriterPrefix
+reporting Purge = Autopurge
+
+reported : (c : InstanceCall) → onEvery c ≡ true → c ≡ reporting (rule c .reports)
+reported c h = every-cases (λ (d : InstanceCall). d ≡ reporting (rule d .reports)) c h refl refl refl refl refl
+
+module _ (c : InstanceCall) (s : Sheet) (k : Report) (h : onEvery c ≡ true) (e : k ≡ rule c .reports) (xs : List Instance) (t out t′ out′ : List ℕ) (r : Tally) where
+  pub by-report : (v : Report) → k ≡ v → Passed (callAct (reporting v) s) xs t out t′ out′ r → Passed (callAct c s) xs t out t′ out′ r
+  by-report v q p =
+      let d : c ≡ reporting v = reported c h ∙ ap reporting (sym e ∙ q) in
+      rw d p
+
+  pub by-owner : k ≡ Owner → Passed (ownerAct false (s .guid)) xs t out t′ out′ r → Passed (callAct c s) xs t out t′ out′ r
+  unfolding ownerCleared
+  by-owner q p = by-report Owner q p
+
+  pub by-prefix : k ≡ Prefix → Passed (ownerAct true (s .guid)) xs t out t′ out′ r → Passed (callAct c s) xs t out t′ out′ r
+  unfolding prefixCleared
+  by-prefix q p = by-report Prefix q p
+
 -- ---- model's call
 
 pub record Every (places : ℕ) (s : Sheet) (xs : List Instance) (next : ℕ) (c : InstanceCall) : Type 0 where
@@ -122,9 +120,9 @@ every-turn places c s xs next e =
 pub every-few : (places count next : ℕ) (c : InstanceCall) (s : Sheet) (t out t′ out′ : List ℕ) (r : Tally) → TableFormed places count next t →
     Passed (callAct c s) (instancesIn count t) t out t′ out′ r → Few r 128
 every-few places count next c s t out t′ out′ r d p =
-    let h = ready-held places count next t d in
+    let h = table-editable places count next t d in
     let n : length (instancesIn count t) ≡ count = length-read instanceOf 512 count t in
-    let w = passed-few (callAct c s) (instancesIn count t) t out t′ out′ r (λ x. counted-le (Call c) s [] x (omega arith)) p in
+    let w = passed-few (callAct c s) (instancesIn count t) t out t′ out′ r (call-bounded c s) p in
     record { kept = omega (arith, w .kept, h .few); listed = omega (arith, w .listed, h .few); counted = omega (arith, w .counted, h .few) }
 
 -- the call from its pass

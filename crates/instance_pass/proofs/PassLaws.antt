@@ -1,9 +1,9 @@
 -- A pass over the instances in place.
---     step-few, turned                what a step leaves can be written; one record of a pass from its parts
 --     stood, shifted                  a record's bytes at its place, where they stood or from behind
 --     During                          what holds when the first i instances are passed
 --     during-start, during-ahead      before the first; what the next asks
---     during-turn, during-spared      one instance more, stepped or left alone
+--     during-turn, during-edited, during-spared
+--                                     one instance more: stepped, changed in place, or left alone
 --     during-went                     either
 --     during-end                      all are passed, and the places behind those kept are cleared
 --     during-stays, during-over       of an act that purges nothing: each at its place; all are passed
@@ -18,8 +18,7 @@ use native.Mathlib.Nat.{mul-le-mul-right}
 use native.Mathlib.Omega.{arith}
 use lib.ListN.{length, getD, take, drop, take-append-drop}
 use lib.Seq.{take-all, length-take-le, drop-drop, paste}
-use Rattle.octets.specs.Lay.{All}
-use Rattle.octets.proofs.LayLaws.{all-get, lay-read}
+use Rattle.octets.proofs.LayLaws.{lay-read}
 use Rattle.octets.specs.Octets.{put}
 use Rattle.octets.specs.Patch.{patch}
 use Rattle.octets.proofs.PatchLaws.{drop-patch}
@@ -35,45 +34,17 @@ use Rattle.tables.proofs.Passes.{survivors}
 use Rattle.tables.proofs.Passes.{midway}
 use Rattle.tables.proofs.Finds.{pick-take, pick-more}
 use Rattle.tables.proofs.Passes.{survivors-keep, survivors-drop, midway-start, midway-end, length-midway, midway-keep, midway-drop, midway-get}
-use Rattle.instance_writers.specs.Places.{Sound}
 use Rattle.instance_table.specs.Laid.{Wide, Laid}
 use Rattle.instance_table.proofs.LaidOut.{patch-width, replaced}
 use Rattle.instance_record.specs.Parts.{recordAt}
-use Rattle.instance_pass.specs.declared.Passing.{Passing}
-use Rattle.instance_pass.specs.declared.Step.{Step}
+use Rattle.instance_edits.specs.Edits.{changed}
 use Rattle.instance_pass.specs.declared.Tally.{Tally}
 use Rattle.instance_pass.specs.Acts.{Act, Bounded, Keeps}
-use Rattle.instance_pass.specs.Steps.{Passable, remains, Stepped}
-use Rattle.instance_pass.specs.Passes.{remaining, listing, amount, total, UsableIn, keptAt, withStep, Ahead, TookOne, Spared, Passed}
+use Rattle.instance_pass.specs.Passes.{remaining, listing, amount, total, keptAt, Ahead, TookOne, Spared, EditedAt, Passed}
 use Rattle.instance_pass.proofs.ActLaws.{all-kept}
 use Rattle.instance_pass.proofs.ListLaws.{total-take, drop-same}
 use Rattle.model.proofs.HandleLists.{list-start, list-more}
 use Rattle.instance_pass.proofs.StepLaws.{bit-le}
-
--- ---- one record from its parts
-
-pub step-few : (r : Step) (left : Option InstanceState) → remains r ≡ left → ((y : InstanceState) → left ≡ some y → Sound (y .writers)) → r .keep ≡ true →
-    r .state .writers .len < 32
-step-few r left e h k = omega (arith, h (r .state) (sym e ∙ rw k refl) .few)
-
-is-kept : (b : Bool) (x : Instance) (y : InstanceState) → b ≡ isSome (kept x (cond b (some y) none))
-is-kept true x y = refl
-is-kept false x y = refl
-
-pub turned : (act : Act) (x y : Instance) (r : Step) (t out t′ out′ : List ℕ) (c c′ : Tally) → x ≡ y →
-    Stepped act (x .state) r →
-    t′ ≡ keptAt t (c .kept) (kept x (remains r)) → out′ ≡ cond (r .listed) (put 8 out (c .listed * 8) (x .handle .0)) out → c′ ≡ withStep c r →
-    TookOne act y t out c t′ out′ c′
-turned act x y r t out t′ out′ c c′ e h a b d =
-    rw (← e, d)
-    record {
-      table = a ∙ ap (λ (o : Option InstanceState). keptAt t (c .kept) (kept x o)) (h .stays);
-      list = b ∙ ap (λ (q : Bool). cond q (put 8 out (c .listed * 8) (x .handle .0)) out) (h .lists);
-      kept = ap (λ (n : ℕ). c .kept + n)
-          (ap bit (is-kept (r .keep) x (r .state)) ∙ ap (λ (o : Option InstanceState). bit (isSome (kept x o))) (h .stays));
-      listed = ap (λ (n : ℕ). c .listed + n) (ap bit (h .lists));
-      counted = ap (λ (n : ℕ). c .counted + n) (h .counts);
-    }
 
 -- ---- the bytes of a record
 
@@ -151,19 +122,19 @@ module _ (act : Act) (count : ℕ) (t₀ out₀ : List ℕ) where
     during-read h =
         ap (λ (z : List ℕ). instanceOf (take 512 z)) (d .ahead) ∙ sym (get-read instanceOf 512 count t₀ i (instanceOf (recordAt t i)) h)
 
-    pub during-ahead : (p : Passing) (b : List ℕ) → Passable p → length b ≤ 4096 → count ≤ 128 → count * 512 ≤ length t₀ → 1024 ≤ length out₀ →
-        All UsableIn xs → i < count → Ahead p b t out i c (instanceOf (recordAt t i))
-    during-ahead p b e g n m w u h =
+    -- an act that purges nothing leaves each at its place
+    pub during-stays : Keeps act → c .kept ≡ i
+    during-stays k = d .kept ∙ all-kept act k (take i xs) ∙ length-take-le i xs (omega (arith, size, d .below))
+
+    pub during-ahead : Keeps act → count ≤ 128 → count * 512 ≤ length t₀ → 1024 ≤ length out₀ → i < count → Ahead t out i c
+    during-ahead k n m w h =
         record {
-          passable = e;
-          few = g;
           below = omega arith;
           room = omega (arith, d .long, mul-le-mul-right 512 h);
           wide = omega (arith, d .wide);
-          kept = d .fewKept;
+          kept = during-stays k;
           listed = d .fewListed;
           counted = d .fewCounted;
-          usable = rw (during-read h) (all-get UsableIn xs i (instanceOf (recordAt t i)) (omega (arith, size)) u);
         }
 
     module _ (most : count ≤ 128) (held : count * 512 ≤ length t₀) (broad : 1024 ≤ length out₀) (h : i < count) (bounded : Bounded act) where
@@ -220,11 +191,11 @@ module _ (act : Act) (count : ℕ) (t₀ out₀ : List ℕ) where
           (list-more (pick q (take i xs)) x out₀ (omega (arith, d .listed, d .fewListed)))
 
       -- Out and the tally behind x
-      record Told (x : Instance) (out′ : List ℕ) (c′ : Tally) : Type 0 where
-        noted : out′ ≡ cond (q x) (put 8 out (c .listed * 8) (x .handle .0)) out
-        kept : c′ .kept ≡ c .kept + bit (isSome (f x))
-        listed : c′ .listed ≡ c .listed + bit (q x)
-        counted : c′ .counted ≡ c .counted + a x
+      pub record Told (x : Instance) (out′ : List ℕ) (c′ : Tally) : Type 0 where
+        pub noted : out′ ≡ cond (q x) (put 8 out (c .listed * 8) (x .handle .0)) out
+        pub kept : c′ .kept ≡ c .kept + bit (isSome (f x))
+        pub listed : c′ .listed ≡ c .listed + bit (q x)
+        pub counted : c′ .counted ≡ c .counted + a x
 
       told : (x : Instance) → x ≡ getD xs i x → (t′ out′ : List ℕ) (c′ : Tally) → length t′ ≡ length t → length out′ ≡ length out →
           Behind (f x) t′ → Told x out′ c′ → During (i + 1) t′ out′ c′
@@ -246,7 +217,7 @@ module _ (act : Act) (count : ℕ) (t₀ out₀ : List ℕ) where
             laid = b .laid;
           }
 
-      during-turn : (t′ out′ : List ℕ) (c′ : Tally) → length t′ ≡ length t → length out′ ≡ length out →
+      pub during-turn : (t′ out′ : List ℕ) (c′ : Tally) → length t′ ≡ length t → length out′ ≡ length out →
           TookOne act (instanceOf (recordAt t i)) t out c t′ out′ c′ → During (i + 1) t′ out′ c′
       during-turn t′ out′ c′ n m w = go (instanceOf (recordAt t i)) (during-read h) w
         where
@@ -276,6 +247,19 @@ module _ (act : Act) (count : ℕ) (t₀ out₀ : List ℕ) where
                 (replaced t t′ (c .kept) z (v ∙ ap (λ (h : List ℕ). patch t (c .kept * 512) 512 h) (q b)) n fits places (midway f xs i) (d .laid places l)
                 (omega (arith, d .fewKept, length-midway f xs i (omega (arith, size)), size)));
           }
+
+      -- x stays at its place, changed by g
+      pub during-edited : (g : InstanceState → InstanceState) (t′ out′ : List ℕ) (c′ : Tally) → length t′ ≡ length t → length out′ ≡ length out → c .kept ≡ i →
+          act .left (instanceOf (recordAt t i) .state) ≡ some (g (instanceOf (recordAt t i) .state)) → EditedAt g i t t′ →
+          Told (instanceOf (recordAt t i)) out′ c′ → During (i + 1) t′ out′ c′
+      during-edited g t′ out′ c′ n m k v w p = go (instanceOf (recordAt t i)) (during-read h) v (w .bytes) p
+        where
+          go : (x : Instance) → x ≡ getD xs i x → act .left (x .state) ≡ some (g (x .state)) → (recordAt t i ≡ instanceBytes x → recordAt t′ i ≡ instanceBytes (changed g x)) →
+              Told x out′ c′ → During (i + 1) t′ out′ c′
+          go x e v q p =
+              let u : f x ≡ some (changed g x) = ap (λ (o : Option InstanceState). kept x o) v in
+              let b : t′ ≡ patch t (c .kept * 512) 512 (recordAt t′ i) = w .table ∙ ap (λ (j : ℕ). patch t (j * 512) 512 (recordAt t′ i)) (sym k) in
+              told x e t′ out′ c′ n m (edited x (changed g x) e u (recordAt t′ i) t′ b n q) p
 
       during-spared : (t′ out′ : List ℕ) (c′ : Tally) → length t′ ≡ length t → length out′ ≡ length out →
           Spared act (instanceOf (recordAt t i)) i t out c t′ out′ c′ → During (i + 1) t′ out′ c′
@@ -315,13 +299,7 @@ module _ (act : Act) (count : ℕ) (t₀ out₀ : List ℕ) where
           counted = rw w at (d .counted);
         }
 
-    -- ---- an act that purges nothing
-
-    -- each stays at its place
-    pub during-stays : Keeps act → c .kept ≡ i
-    during-stays k = d .kept ∙ all-kept act k (take i xs) ∙ length-take-le i xs (omega (arith, size, d .below))
-
-    -- all are passed, and there is nothing to clear
+    -- all are passed; of an act that purges nothing there is nothing to clear
     pub during-over : Keeps act → count ≤ i → Passed act xs t₀ out₀ t out c
     during-over k h =
         during-end h t (λ places ys l e. rw (take-all (c .kept) ys (omega (arith, e, during-stays k))) l)

@@ -3,36 +3,30 @@
 --     purged-part, purge-one, keep-one, kept-le       a turn from its parts
 --     Purging, purging-start, purging-turn, purging-end
 --                                                     the pass while it goes on
---     purge-passed                                    the call that purges is code 21
 -- Assumes nothing.
 use Prim.Native.Nat.{ℕ, _+_, _-_, _*_, _/_, _≤_, _<_}
-use mathlib.Core.Bool.{Bool, true, false, cond}
+use mathlib.Core.Bool.{Bool, true, false}
 use mathlib.Core.List.{List}
 use mathlib.Core.Logic.{_⊎_, inl, inr}
-use mathlib.Core.Option.{none, some}
 use mathlib.Core.Path.{_≡_, refl, sym, ap, _∙_}
 use native.Mathlib.Omega.{arith}
 use lib.ListN.{length, take, drop}
 use Rattle.octets.specs.Patch.{patch}
 use Rattle.model.specs.declared.Instance.{Instance}
-use Rattle.model.specs.declared.InstanceCall.{InstanceCall}
 use Rattle.model.specs.declared.InstanceCall.the-variants.{Autopurge}
 use Rattle.model.specs.declared.MaybeTime.{MaybeTime}
-use Rattle.model.specs.declared.Report.{Report}
 use Rattle.model.specs.declared.Sheet.{Sheet}
-use Rattle.model.specs.InstanceRecord.{bit, flag, flagsAt, instanceOf, timeAt}
-use Rattle.model.specs.Instances.{rule, onEvery, purged}
+use Rattle.model.specs.InstanceRecord.{flag, flagsAt, instanceOf, timeAt}
+use Rattle.model.specs.Instances.{purged}
 use Rattle.model.specs.State.{instancesIn}
 use Rattle.model.specs.Times.{purgeDue}
-use Rattle.model.proofs.Keeps.{every-cases}
-use Rattle.model.proofs.Tests.{clash, split}
 use Rattle.instance_record.specs.Parts.{recordAt}
 use Rattle.instance_record.proofs.Rows.{kind-rest, lent-part}
 use Rattle.instance_table.specs.Laid.{Laid}
 use Rattle.instance_pass.specs.declared.Tally.{Tally}
 use Rattle.instance_pass.specs.Acts.{Act}
 use Rattle.instance_pass.specs.Passes.{TookOne, Spared, Passed}
-use Rattle.instance_pass.specs.Purges.{Delays, PurgedOne, purges}
+use Rattle.instance_pass.specs.Purges.{Delays, PurgedOne}
 use Rattle.instance_pass.specs.Steps.{callAct}
 use Rattle.instance_pass.proofs.PassLaws.{During, during-start, during-went, during-end}
 use Rattle.instance_pass.proofs.StepLaws.{bit-le}
@@ -122,16 +116,3 @@ module _ (s : Sheet) (count : ℕ) (t₀ : List ℕ) where
     purging-end h m d t′ g out broad =
         let e : i ≡ count = omega arith in
         rw e at (during-end act count t₀ out i t out (purgeTally i kept) (d out broad) h t′ g)
-
--- ---- the call
-
-abbrev AsPurge : InstanceCall → Type 0
-AsPurge c = purges (rule c .reports) ≡ true → c ≡ Autopurge
-
-purge-call : (c : InstanceCall) (k : Report) → onEvery c ≡ true → k ≡ rule c .reports → purges k ≡ true → c ≡ Autopurge
-purge-call c k h e p =
-    every-cases AsPurge c h (λ q. clash false q refl) (λ q. clash false q refl) (λ q. clash false q refl) (λ q. clash false q refl) (λ q. refl) (rw e at p)
-
-pub purge-passed : (c : InstanceCall) (k : Report) (s : Sheet) (count : ℕ) (t out t′ : List ℕ) (r : Tally) → onEvery c ≡ true → k ≡ rule c .reports → purges k ≡ true →
-    Passed (callAct Autopurge s) (instancesIn count t) t out t′ out r → Passed (callAct c s) (instancesIn count t) t out t′ out r
-purge-passed c k s count t out t′ r h e p w = rw (purge-call c k h e p) w

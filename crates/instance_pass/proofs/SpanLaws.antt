@@ -1,76 +1,59 @@
--- The span of a list's GUIDs.
---     span-start, span-turn     of none; of one GUID more
---     differs, no-member        what is outside a span is none of its GUIDs
+-- The span of a list that rises, from its first GUID to its last.
+--     span-none, span-all     a list with none; one with some
 -- Assumes nothing.
-use Prim.Native.Nat.{ℕ, zero, suc, _+_, _*_, _≤_}
-use mathlib.Core.Bool.{Bool, true, false, _||_}
+use Prim.Native.Nat.{ℕ, zero, suc, _-_, _*_, _/_, _≤_, _<_}
+use mathlib.Core.Bool.{true}
 use mathlib.Core.List.{List, [], _∷_}
-use mathlib.Core.Path.{_≡_, refl}
+use mathlib.Core.Path.{_≡_, sym, ap, _∙_}
 use native.Mathlib.Omega.{arith}
-use borrow.Author.Tests.{ltb-true, ltb-false, ne-eqb}
-use lib.ListN.{take}
+use lib.ListN.{length, getD}
 use Rattle.octets.specs.Lay.{All}
-use Rattle.octets.proofs.LayLaws.{all-append}
 use Rattle.model.specs.declared.Guid.{Guid}
-use Rattle.model.specs.Guids.{num, less, same, guidAt, guidOf, guidsIn}
+use Rattle.model.specs.Guids.{num, guidAt, guidOf, guidsIn}
 use Rattle.model.specs.Layout.{readRows}
-use Rattle.model.specs.Sets.{has}
-use Rattle.model.specs.Tables.{all}
-use Rattle.model.proofs.Tests.{both, split}
-use Rattle.model.proofs.RowLaws.{read-snoc}
+use Rattle.model.specs.Tables.{above, rising}
 use Rattle.model.proofs.GuidLaws.{guid-part}
-use Rattle.instance_watch.specs.declared.Span.{Span}
-use Rattle.instance_watch.specs.Watches.{outside}
-use Rattle.instance_pass.specs.Spares.{within, widened}
+use Rattle.model.proofs.RowLaws.{length-read, get-read}
+use Rattle.model.proofs.Tests.{both}
+use Rattle.tables.proofs.Puts.{above-at}
+use Rattle.instance_edits.specs.declared.Span.{Span}
+use Rattle.instance_loss.specs.Lost.{Within}
+use Rattle.instance_sets.specs.Lists.{gonesIn, Listed}
+use Rattle.instance_sets.proofs.SideBySide.{From, from-first}
 
--- ---- a span that grows
-
-low-falls : (w : Span) (g : Guid) → (num (widened w g .low) ≤ num (w .low)) × (num (widened w g .low) ≤ num g)
-low-falls w g =
-    split (less g (w .low))
-    (λ e. rw e (omega (arith, ltb-true (num g) (num (w .low)) e), omega arith))
-    (λ e. rw e (omega arith, omega (arith, ltb-false (num g) (num (w .low)) e)))
-
-high-rises : (w : Span) (g : Guid) → (num (w .high) ≤ num (widened w g .high)) × (num g ≤ num (widened w g .high))
-high-rises w g =
-    split (less (w .high) g)
-    (λ e. rw e (omega (arith, ltb-true (num (w .high)) (num g) e), omega arith))
-    (λ e. rw e (omega arith, omega (arith, ltb-false (num (w .high)) (num g) e)))
-
-all-within : (w : Span) (g : Guid) (xs : List Guid) → All (within w) xs → All (within (widened w g)) xs
-all-within w g [] h = tt
-all-within w g (x ∷ xs) h =
-    ((omega (arith, low-falls w g .0, h .0 .0), omega (arith, high-rises w g .0, h .0 .1)), all-within w g xs (h .1))
-
-pub span-start : (w : Span) (b : List ℕ) → All (within w) (guidsIn 0 b)
+pub span-none : (w : Span) (gone : List ℕ) → length gone / 16 ≡ 0 → All (Within w) (gonesIn gone)
 unfolding readRows
-span-start w b = tt
+span-none w gone e = rw e tt
 
-pub span-turn : (w v : Span) (g : Guid) (b : List ℕ) (i : ℕ) → All (within w) (guidsIn i b) → g ≡ guidAt b (i * 16) → v ≡ widened w g → All (within v) (guidsIn (i + 1) b)
-span-turn w v g b i h e f =
-    rw (f, read-snoc guidOf 16 i b, guid-part 16 (i * 16) b (omega arith), ← e)
-    (all-append (within (widened w g)) (guidsIn i b) (g ∷ []) (all-within w g (guidsIn i b) h) ((low-falls w g .1, high-rises w g .1), tt))
+-- the last of a list that rises is its greatest
+to-last : (gs : List Guid) (n : ℕ) (d : Guid) → rising num gs ≡ true → length gs ≡ suc n → All (λ (g : Guid). num g ≤ num (getD gs n d)) gs
+unfolding rising
+to-last [] n d r e = tt
+to-last (g ∷ []) zero d r e = (omega arith, tt)
+to-last (g ∷ []) (suc n) d r e = absurd (omega arith)
+to-last (g ∷ (h ∷ gs)) zero d r e = absurd (omega arith)
+to-last (g ∷ (h ∷ gs)) (suc n) d r e =
+    let p = both (above num (num g) (h ∷ gs)) (rising num (h ∷ gs)) r in
+    (omega (arith, above-at num (num g) (h ∷ gs) (p .0) n d (omega (arith, e))), to-last (h ∷ gs) n d (p .1) (omega (arith, e)))
 
--- ---- outside it
+both-ways : (a b : ℕ) (gs : List Guid) → All (λ (g : Guid). a ≤ num g) gs → All (λ (g : Guid). num g ≤ b) gs → All (λ (g : Guid). (a ≤ num g) × (num g ≤ b)) gs
+both-ways a b [] f h = tt
+both-ways a b (g ∷ gs) f h = ((f .0, h .0), both-ways a b gs (f .1) (h .1))
 
-pub differs : (w : Span) (m g : Guid) → outside w m ≡ true → within w g → same m g ≡ false
-unfolding outside
-differs w m g e h =
-    let o : (less m (w .low) || less (w .high) m) ≡ true = e in
-    ne-eqb (num m) (num g)
-    (λ q. split (less m (w .low))
-    (λ a. absurd (omega (arith, ltb-true (num m) (num (w .low)) a, h .0, q)))
-    (λ a. absurd (omega (arith, ltb-true (num (w .high)) (num m) (rw a at o), h .1, q))))
+from-head : (gs : List Guid) (d : Guid) → rising num gs ≡ true → From (num (getD gs 0 d)) gs
+from-head [] d r = tt
+from-head (g ∷ gs) d r = from-first g gs r
 
-pub no-member : (w : Span) (g : Guid) → within w g → (xs : List Guid) → all (outside w) xs ≡ true → has g xs ≡ false
-unfolding all has
-no-member w g h [] e = refl
-no-member w g h (x ∷ xs) e =
-    let b = both (outside w x) (all (outside w) xs) e in
-    rw (differs w x g (b .0) h, no-member w g h xs (b .1))
+guid-at : (n : ℕ) (gone : List ℕ) (i : ℕ) (d : Guid) → i < n → getD (guidsIn n gone) i d ≡ guidAt gone (i * 16)
+guid-at n gone i d h = get-read guidOf 16 n gone i d h ∙ guid-part 16 (i * 16) gone (omega arith)
 
-pub all-first : (p : Guid → Bool) (n : ℕ) (xs : List Guid) → all p xs ≡ true → all p (take n xs) ≡ true
-unfolding all
-all-first p zero xs e = refl
-all-first p (suc n) [] e = refl
-all-first p (suc n) (x ∷ xs) e = let b = both (p x) (all p xs) e in rw (b .0) (all-first p n xs (b .1))
+pub span-all : (gone : List ℕ) (low high : Guid) → (length gone / 16 ≡ 0 → ⊥) → Listed gone → low ≡ guidAt gone 0 → high ≡ guidAt gone (length gone / 16 * 16 - 16) →
+    All (Within record { low = low; high = high }) (gonesIn gone)
+span-all gone low high some l a b =
+    let n : ℕ = length gone / 16 in
+    let pos : 0 < n = omega (arith, some) in
+    let m : n * 16 - 16 ≡ (n - 1) * 16 = omega arith in
+    let first : getD (guidsIn n gone) 0 low ≡ low = guid-at n gone 0 low pos ∙ sym a in
+    let last : getD (guidsIn n gone) (n - 1) low ≡ high = guid-at n gone (n - 1) low (omega (arith, pos)) ∙ ap (guidAt gone) (sym m) ∙ sym b in
+    both-ways (num low) (num high) (gonesIn gone) (rw first at (from-head (guidsIn n gone) low (l .rises)))
+    (rw last at (to-last (guidsIn n gone) (n - 1) low (l .rises) (omega (arith, pos, length-read guidOf 16 n gone))))

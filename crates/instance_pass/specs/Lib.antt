@@ -1,7 +1,6 @@
 -- What the contracts of instance_pass cite beside model's definitions.
 pub mod Acts
 pub mod Steps
-pub mod Spares
 pub mod Passes
 pub mod Purges
 pub mod EveryCalls

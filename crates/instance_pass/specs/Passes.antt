@@ -1,32 +1,39 @@
 -- What a pass leaves of the table, puts into Out and gives by value.
 --     remaining, listing, amount    what an act leaves, lists and counts, of an instance with its key and handle
 --     total                         the sum of the amounts
---     UsableIn                      an instance that the steps can take
---     keptAt, withStep              a table where what is left of an instance is written; a tally with one step more
---     Ahead, TookOne, Spared         one record of a pass: what it asks, what it leaves, and that it was left alone
+--     UsableIn, RisesIn             an instance that the steps can take; its writers rise
+--     Editable                      a table over which a pass may run
+--     keptAt, withTold              a table where what is left of an instance is written; a tally with one instance more
+--     Ahead, TookOne                one record of a pass: what it asks, what it leaves
+--     Untouched, Spared             it was left alone
+--     EditedAt                      it was changed where it stands
 --     Passed                        the whole pass
 use Prim.Native.Nat.{ℕ, _+_, _*_, _≤_, _<_}
-use mathlib.Core.Bool.{Bool, cond}
+use mathlib.Core.Bool.{Bool, true, false, cond}
 use mathlib.Core.List.{List, [], _∷_}
 use mathlib.Core.Option.{Option, none, some}
 use mathlib.Core.Path.{_≡_}
 use lib.ListN.{length}
+use Rattle.octets.specs.Lay.{All}
 use Rattle.octets.specs.Octets.{put}
 use Rattle.octets.specs.Patch.{patch}
 use Rattle.model.specs.declared.Instance.{Instance}
+use Rattle.model.specs.declared.InstanceState.{InstanceState}
 use Rattle.model.specs.Call.{listIn}
+use Rattle.model.specs.Guids.{num}
 use Rattle.model.specs.InstanceCalls.{kept, handleBytes}
-use Rattle.model.specs.InstanceRecord.{bit, instanceBytes, instanceSize}
-use Rattle.model.specs.Tables.{isSome, pick, sift}
+use Rattle.model.specs.InstanceRecord.{bit, instanceOf, instanceBytes, instanceSize}
+use Rattle.model.specs.Instances.{writersIn}
+use Rattle.model.specs.State.{instancesIn}
+use Rattle.model.specs.Tables.{isSome, pick, rising, sift}
+use Rattle.model.specs.WellFormed.{kindsOk}
 use Rattle.instance_record.specs.Parts.{recordAt}
 use Rattle.instance_fields.specs.Usable.{Usable}
+use Rattle.instance_edits.specs.Edits.{changed}
+use Rattle.instance_loss.specs.declared.Told.{Told}
 use Rattle.instance_table.specs.Laid.{Laid}
-use Rattle.instance_pass.specs.declared.Passing.{Passing}
-use Rattle.instance_pass.specs.declared.Step.{Step}
 use Rattle.instance_pass.specs.declared.Tally.{Tally}
 use Rattle.instance_pass.specs.Acts.{Act}
-use Rattle.instance_pass.specs.Spares.{Untouched}
-use Rattle.instance_pass.specs.Steps.{Passable}
 
 -- what is left, with its key and its handle
 abbrev pub remaining : Act → Instance → Option Instance
@@ -49,6 +56,18 @@ total f (x ∷ xs) = f x + total f xs
 abbrev pub UsableIn : Instance → Type 0
 UsableIn x = Usable (x .state)
 
+-- its writers rise
+abbrev pub RisesIn : Instance → Type 0
+RisesIn x = rising num (writersIn (x .state)) ≡ true
+
+-- the first count records can be passed over, and changed where they stand
+pub record Editable (count : ℕ) (t : List ℕ) : Type 0 where
+  pub few : count ≤ 128
+  pub room : count * 512 ≤ length t
+  pub kinds : kindsOk count t ≡ true
+  pub usable : All UsableIn (instancesIn count t)
+  pub rises : All RisesIn (instancesIn count t)
+
 -- ---- one record
 
 -- what is left is written at place k
@@ -56,22 +75,18 @@ abbrev pub keptAt : List ℕ → ℕ → Option Instance → List ℕ
 keptAt t k none = t
 keptAt t k (some y) = patch t (k * instanceSize) instanceSize (instanceBytes y)
 
--- the tally with one step more
-abbrev pub withStep : Tally → Step → Tally
-withStep c r =
-    record { kept = c .kept + bit (r .keep); listed = c .listed + bit (r .listed); counted = c .counted + r .counted }
+-- the tally with one instance more, of which r is told
+abbrev pub withTold : Tally → Told → Tally
+withTold c r = record { kept = c .kept + 1; listed = c .listed + bit (r .left); counted = c .counted + bit (r .cleared) }
 
--- record i is to come: the instances before it are passed, and it is the instance x
-pub record Ahead (p : Passing) (gone t out : List ℕ) (i : ℕ) (c : Tally) (x : Instance) : Type 0 where
-  pub passable : Passable p
-  pub few : length gone ≤ 4096
+-- record i is to come: the instances before it are passed, and none was purged
+pub record Ahead (t out : List ℕ) (i : ℕ) (c : Tally) : Type 0 where
   pub below : i < 128
   pub room : i * 512 + 512 ≤ length t
   pub wide : 1024 ≤ length out
-  pub kept : c .kept ≤ i
+  pub kept : c .kept ≡ i
   pub listed : c .listed ≤ i
   pub counted : c .counted ≤ i * 256
-  pub usable : UsableIn x
 
 -- from the table t, Out and the tally so far to those behind the instance x
 pub record TookOne (a : Act) (x : Instance) (t out : List ℕ) (c : Tally) (t′ out′ : List ℕ) (c′ : Tally) : Type 0 where
@@ -81,12 +96,23 @@ pub record TookOne (a : Act) (x : Instance) (t out : List ℕ) (c : Tally) (t′
   pub listed : c′ .listed ≡ c .listed + bit (listing a x)
   pub counted : c′ .counted ≡ c .counted + amount a x
 
+-- nothing comes of the act
+pub record Untouched (a : Act) (x : InstanceState) : Type 0 where
+  pub left : a .left x ≡ some x
+  pub unlisted : a .listed x ≡ false
+  pub uncounted : a .counted x ≡ 0
+
 -- the pass leaves the instance x of record i as it is: its bytes go to its place
 pub record Spared (a : Act) (x : Instance) (i : ℕ) (t out : List ℕ) (c : Tally) (t′ out′ : List ℕ) (c′ : Tally) : Type 0 where
   pub untouched : Untouched a (x .state)
   pub table : t′ ≡ patch t (c .kept * instanceSize) instanceSize (recordAt t i)
   pub list : out′ ≡ out
   pub tally : c′ ≡ record { kept = c .kept + 1; listed = c .listed; counted = c .counted }
+
+-- record i is changed where it stands: its bytes, if they are the layout of their instance, become that of what f makes of it
+pub record EditedAt (f : InstanceState → InstanceState) (i : ℕ) (t t′ : List ℕ) : Type 0 where
+  pub table : t′ ≡ patch t (i * instanceSize) instanceSize (recordAt t′ i)
+  pub bytes : recordAt t i ≡ instanceBytes (instanceOf (recordAt t i)) → recordAt t′ i ≡ instanceBytes (changed f (instanceOf (recordAt t i)))
 
 -- ---- the whole pass, of the instances xs
 

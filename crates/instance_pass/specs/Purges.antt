@@ -1,15 +1,12 @@
 -- Code 21 over the records of a table.
 --     Delays        what a sheet says of it: when it is now, and the two delays
 --     PurgedOne     what a turn leaves of the table, and how many are kept
---     purges        the call is code 21, by what it reports
 use Prim.Native.Nat.{ℕ, _+_, _*_}
-use mathlib.Core.Bool.{Bool, true, false, cond}
+use mathlib.Core.Bool.{Bool, cond}
 use mathlib.Core.List.{List}
 use mathlib.Core.Path.{_≡_}
 use Rattle.octets.specs.Patch.{patch}
 use Rattle.model.specs.declared.MaybeTime.{MaybeTime}
-use Rattle.model.specs.declared.Report.{Report}
-use Rattle.model.specs.declared.Report.the-variants.{Nothing, Left, Owner, Prefix, Purge}
 use Rattle.model.specs.declared.Sheet.{Sheet}
 use Rattle.model.specs.InstanceRecord.{instanceSize}
 use Rattle.instance_record.specs.Parts.{recordAt}
@@ -24,11 +21,3 @@ pub record Delays (s : Sheet) (at : MaybeTime) (a b : ℕ) : Type 0 where
 pub record PurgedOne (gone : Bool) (i k : ℕ) (t t′ : List ℕ) (k′ : ℕ) : Type 0 where
   pub table : t′ ≡ cond gone t (patch t (k * instanceSize) instanceSize (recordAt t i))
   pub kept : k′ ≡ cond gone k (k + 1)
-
--- only code 21 counts what it purges
-abbrev pub purges : Report → Bool
-purges Nothing = false
-purges Left = false
-purges Owner = false
-purges Prefix = false
-purges Purge = true

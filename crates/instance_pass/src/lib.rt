@@ -1,24 +1,21 @@
-// The calls on every instance as one pass over the lent table, and the loss of several writers as another: record by record,
-// what is left of an instance is written behind the instances kept, and the handles of those listed go to the front of Out.
-// A record that the call leaves as it is, as few of its bytes tell, is not read whole, and moves only behind a purged one.
+// The calls on every instance, and the loss of several writers, each as a pass over the lent table: record by record an
+// instance is changed where it stands, or purged and the others closed up, and the handles of those listed go to the front of
+// Out. Whether a call concerns a record is told from few of its bytes.
 //
 // Derives from instance_tracker.rs of ZeroDDS.
 // Copyright 2026 ZeroDDS Contributors. SPDX-License-Identifier: Apache-2.0. Changed: written anew in Rattle, with the
 // instances as a table of records in lent bytes and every such call as a step on each.
+use instance_edits::Span;
+use instance_loss::Told;
 use instance_table::TableCall;
-use instance_watch::Span;
-use instance_watch::Watch;
 use model::Answer;
 use model::Guid;
-use model::Instance;
 use model::InstanceCall;
 use model::InstanceHandle;
-use model::InstanceState;
 use model::MaybeTime;
 use model::Report;
 use model::Sheet;
-ghost use mathlib.Core.Bool.{true, cond, _||_};
-ghost use mathlib.Core.Logic.{_⊎_};
+ghost use mathlib.Core.Bool.{true, cond};
 ghost use mathlib.Core.List.{List};
 ghost use mathlib.Core.Path.{_≡_};
 ghost use Prim.Native.Nat.{ℕ, _+_, _*_, _≤_, _<_};
@@ -26,34 +23,20 @@ ghost use lib.ListN.{length};
 ghost use Rattle.octets.specs.Lay.{All};
 ghost use Rattle.octets.specs.Octets.{put};
 ghost use Rattle.octets.specs.Patch.{patch};
-ghost use Rattle.model.specs.declared.InstanceCall.the-variants.{Autopurge};
-ghost use Rattle.model.specs.InstanceCalls.{kept, instanceCall};
+ghost use Rattle.model.specs.declared.InstanceCall.the-variants.{Autopurge, DropWriter, UpdateOwnerStrength};
+ghost use Rattle.model.specs.InstanceCalls.{instanceCall};
 ghost use Rattle.model.specs.InstanceRecord.{bit, instanceOf, timeAt};
-ghost use Rattle.model.specs.Instances.{rule, onEvery, purged};
+ghost use Rattle.model.specs.Instances.{rule, onEvery, purged, strengthUpdated};
 ghost use Rattle.model.specs.State.{instancesIn};
-ghost use Rattle.instance_writers.specs.Places.{Sound};
 ghost use Rattle.instance_record.specs.Parts.{recordAt};
-ghost use Rattle.instance_fields.specs.Usable.{Usable};
+ghost use Rattle.instance_sets.specs.Lists.{gonesIn, Listed};
+ghost use Rattle.instance_edits.specs.Edits.{Formed};
+ghost use Rattle.instance_loss.specs.Lost.{Within};
 ghost use Rattle.instance_table.specs.TableCalls.{TableFormed, stateWith};
 ghost use Rattle.instance_pass.specs.EveryCalls.{answerAs, LeavesTableAndOut};
-ghost use Rattle.instance_pass.specs.Passes.{UsableIn, keptAt, withStep, Ahead, TookOne, Spared, Passed};
-ghost use Rattle.instance_pass.specs.Purges.{Delays, PurgedOne, purges};
-ghost use Rattle.instance_pass.specs.Spares.{within, widened, watchAs, Watches};
-ghost use Rattle.instance_pass.specs.Steps.{Passable, gonesIn, countedAs, listedAs, callAct, lossAct, actOf, remains, Stepped, lostOne};
-
-// What passes over the instances: a call on every one, or the loss of the writers of a list.
-pub enum Passing {
-    Call(InstanceCall),
-    Loss,
-}
-
-// What becomes of one instance: whether it stays, is listed in Out, and how much it counts for the answer.
-pub struct Step {
-    pub keep: bool,
-    pub listed: bool,
-    pub counted: usize,
-    pub state: InstanceState,
-}
+ghost use Rattle.instance_pass.specs.Passes.{Editable, Ahead, TookOne, EditedAt, Passed, withTold};
+ghost use Rattle.instance_pass.specs.Purges.{Delays, PurgedOne};
+ghost use Rattle.instance_pass.specs.Steps.{callAct, lossAct, lossBy, ownsAs, clearedAs, ownerAct};
 
 // How many instances stay and are listed, and what was counted.
 pub struct Tally {
@@ -61,8 +44,6 @@ pub struct Tally {
     pub listed: usize,
     pub counted: usize,
 }
-
-// ---- the step of a call
 
 // What a call reports of an instance.
 fn report_of(c: InstanceCall) -> Report
@@ -80,210 +61,6 @@ fn one(yes: bool) -> usize
     if yes { 1 } else { 0 }
 }
 
-// Whether the instance is listed.
-fn is_listed(k: Report, s: Sheet, x: InstanceState) -> bool
-    requires { ⌜ Sound (x .writers) ⌝ }
-    ensures { λ r. ⌜ r ≡ listedAs k s x ⌝ }
-{
-    let g = s.guid;
-    match k {
-        Report::Nothing => false,
-        Report::Left => instance_lifecycle::left_by(g, x),
-        Report::Owner => false,
-        Report::Prefix => false,
-        Report::Purge => false,
-    }
-}
-
-// Whether the instance is counted.
-fn is_counted(k: Report, s: Sheet, x: InstanceState) -> bool
-    ensures { λ r. ⌜ r ≡ countedAs k s x ⌝ }
-{
-    let g = s.guid;
-    let o = x.owner;
-    match k {
-        Report::Nothing => false,
-        Report::Left => false,
-        Report::Owner => instance_ownership::owns(g, o),
-        Report::Prefix => instance_ownership::owns_prefix(g, o),
-        Report::Purge => instance_effects::purged(s, x),
-    }
-}
-
-// What a call on every instance makes of one.
-pub fn call_step(c: InstanceCall, s: Sheet, x: InstanceState) -> Step
-    requires { ⌜ (onEvery c ≡ true) × Usable x ⌝ }
-    ensures { λ r. ⌜ Stepped (callAct c s) x r ⌝ }
-{
-    let e = instance_effects::take_effect(c, s, x);
-    let k = report_of(c);
-    let l = is_listed(k, s, x);
-    let n = one(is_counted(k, s, x));
-    let y = e.state;
-    Step {
-        keep: e.keep,
-        listed: l,
-        counted: n,
-        state: y,
-    }
-}
-
-// ---- the step of a loss
-
-// Either of two.
-fn either(a: bool, b: bool) -> bool
-    ensures { λ r. ⌜ r ≡ (a || b) ⌝ }
-{
-    if a {
-        return true;
-    }
-    b
-}
-
-// One writer more is lost to the instance, which it may own.
-fn lose_one(g: Guid, at: MaybeTime, r: Step) -> Step
-    requires { ⌜ Sound (r .state .writers) × (r .counted ≤ 256) ⌝ }
-    ensures { λ t. ⌜ t ≡ lostOne g at r ⌝ }
-{
-    let x = r.state;
-    let l = instance_lifecycle::left_by(g, x);
-    let y = instance_lifecycle::writer_dropped(g, at, x);
-    let o = y.owner;
-    let n = one(instance_ownership::owns(g, o));
-    let z = instance_ownership::owner_cleared(g, y);
-    let listed = either(r.listed, l);
-    Step {
-        keep: true,
-        listed: listed,
-        counted: r.counted + n,
-        state: z,
-    }
-}
-
-// The writers of a list are lost to an instance, one after the other.
-pub fn loss_step(gone: &[u8], at: MaybeTime, x: InstanceState) -> Step
-    requires { ⌜ (length (now gone) ≤ 4096) × Sound (x .writers) ⌝ }
-    ensures { λ r. ⌜ Stepped (lossAct (gonesIn (now (gone .entry))) at) x r ⌝ }
-{
-    let n = gone.len() / 16;
-    let mut r = Step {
-        keep: true,
-        listed: false,
-        counted: 0,
-        state: x,
-    };
-    let mut i = 0;
-    while i < n {
-        let g = guid::guid_at(gone, i * 16);
-        r = lose_one(g, at, r);
-        i += 1;
-    }
-    r
-}
-
-// ---- either step
-
-// What a pass makes of one instance.
-pub fn take_step(p: Passing, s: Sheet, gone: &[u8], x: InstanceState) -> Step
-    requires { ⌜ Passable p × (length (now gone) ≤ 4096) × Usable x ⌝ }
-    ensures { λ r. ⌜ Stepped (actOf p s (gonesIn (now (gone .entry)))) x r ⌝ }
-{
-    let t = s.time_1;
-    match p {
-        Passing::Call(c) => call_step(c, s, x),
-        Passing::Loss => loss_step(gone, instance_fields::if_present(t), x),
-    }
-}
-
-// ---- what a pass looks for
-
-// The span that reaches to g too.
-fn widen(w: Span, g: Guid) -> Span
-    ensures { λ r. ⌜ r ≡ widened w g ⌝ }
-{
-    let low = w.low;
-    let high = w.high;
-    if guid::is_less(g, low) {
-        if guid::is_less(high, g) {
-            return Span { low: g, high: g };
-        }
-        return Span { low: g, high: high };
-    }
-    if guid::is_less(high, g) {
-        return Span { low: low, high: g };
-    }
-    w
-}
-
-// From the lowest to the highest of a list's GUIDs.
-fn span_of(gone: &[u8]) -> Span
-    requires { ⌜ length (now gone) ≤ 4096 ⌝ }
-    ensures { λ r. ⌜ All (within r) (gonesIn (now (gone .entry))) ⌝ }
-{
-    let n = gone.len() / 16;
-    let top = Guid {
-        hi: 0xffff_ffff_ffff_ffff,
-        lo: 0xffff_ffff_ffff_ffff,
-    };
-    let bottom = guid::nil();
-    let mut w = Span {
-        low: top,
-        high: bottom,
-    };
-    let mut i = 0;
-    while i < n {
-        let g = guid::guid_at(gone, i * 16);
-        w = widen(w, g);
-        i += 1;
-    }
-    w
-}
-
-// What a call looks for, by what it reports: the one that reports nothing is an update of the owner's strength.
-fn call_watch(k: Report, g: Guid) -> Watch
-    ensures { λ r. ⌜ r ≡ watchAs k g ⌝ }
-{
-    match k {
-        Report::Nothing => Watch::Owner(g),
-        Report::Left => Watch::Writers(Span { low: g, high: g }),
-        Report::Owner => Watch::Owner(g),
-        Report::Prefix => Watch::Prefix(g),
-        Report::Purge => Watch::NotAlive,
-    }
-}
-
-// What a pass looks for.
-fn watch_of(p: Passing, g: Guid, gone: &[u8]) -> Watch
-    requires { ⌜ Passable p × (length (now gone) ≤ 4096) ⌝ }
-    ensures { λ r. ⌜ ((s : Sheet) → s .guid ≡ g → Watches (actOf p s (gonesIn (now (gone .entry)))) r) ⌝ }
-{
-    match p {
-        Passing::Call(c) => call_watch(report_of(c), g),
-        Passing::Loss => Watch::Writers(span_of(gone)),
-    }
-}
-
-// ---- the pass
-
-// What is left of the instance x is written at place k.
-fn keep(pens: &mut [u8], k: usize, x: Instance, r: Step)
-    requires { ⌜ (k * 512 + 512 ≤ length (now pens)) × (r .keep ≡ true → r .state .writers .len < 32) ⌝ }
-    ensures { λ _. ⌜ now (pens .exit) ≡ keptAt (now (pens .entry)) k (kept x (remains r)) ⌝ }
-{
-    let yes = r.keep;
-    if yes {
-        let key = x.key;
-        let handle = x.handle;
-        let state = r.state;
-        let y = Instance {
-            key: key,
-            handle: handle,
-            state: state,
-        };
-        instance_writing::put_instance(pens, k, y);
-    }
-}
-
 // The handle h is noted behind l others.
 fn note(out: &mut [u8], l: usize, yes: bool, h: u64)
     requires { ⌜ (l < 128) × (l * 8 + 8 ≤ length (now out)) ⌝ }
@@ -294,41 +71,205 @@ fn note(out: &mut [u8], l: usize, yes: bool, h: u64)
     }
 }
 
-// The tally with one step more.
-fn tallied(c: Tally, r: Step) -> Tally
-    requires { ⌜ (c .kept < 128) × (c .listed < 128) × (c .counted ≤ 32768) × (r .counted ≤ 256) ⌝ }
-    ensures { λ t. ⌜ t ≡ withStep c r ⌝ }
+// ---- writers lost
+
+// From the first GUID of a list that rises to its last; of a list with none, any span.
+fn span_of(gone: &[u8]) -> Span
+    requires { ⌜ Listed (now gone) ⌝ }
+    ensures { λ r. ⌜ All (Within r) (gonesIn (now (gone .entry))) ⌝ }
 {
-    let k = one(r.keep);
-    let l = one(r.listed);
-    Tally {
-        kept: c.kept + k,
-        listed: c.listed + l,
-        counted: c.counted + r.counted,
+    let n = gone.len() / 16;
+    if n == 0 {
+        let g = guid::nil();
+        return Span { low: g, high: g };
+    }
+    let low = guid::guid_at(gone, 0);
+    let high = guid::guid_at(gone, n * 16 - 16);
+    Span {
+        low: low,
+        high: high,
     }
 }
 
-// Record i is read, taken through its step and written behind the instances kept.
-fn pass_at(
+// The tally with one instance more, which stays.
+fn with_told(c: Tally, r: Told) -> Tally
+    requires { ⌜ (c .kept < 128) × (c .listed < 128) × (c .counted ≤ 32768) ⌝ }
+    ensures { λ t. ⌜ t ≡ withTold c r ⌝ }
+{
+    let l = one(r.left);
+    let n = one(r.cleared);
+    Tally {
+        kept: c.kept + 1,
+        listed: c.listed + l,
+        counted: c.counted + n,
+    }
+}
+
+// The writers of a list are lost to the instance of record i.
+fn lose_at(
     pens: &mut [u8],
     out: &mut [u8],
     i: usize,
     tally: Tally,
-    p: Passing,
-    s: Sheet,
+    w: Span,
     gone: &[u8],
+    at: MaybeTime,
+    clears: bool,
 ) -> Tally
-    requires { ⌜ Ahead p (now gone) (now pens) (now out) i tally (instanceOf (recordAt (now pens) i)) ⌝ }
-    ensures { λ r. ⌜ TookOne (actOf p s (gonesIn (now (gone .entry)))) (instanceOf (recordAt (now (pens .entry)) i)) (now (pens .entry)) (now (out .entry)) tally (now (pens .exit)) (now (out .exit)) r ⌝ }
+    requires { ⌜ Ahead (now pens) (now out) i tally × Formed (recordAt (now pens) i) × Listed (now gone) × All (Within w) (gonesIn (now gone)) ⌝ }
+    ensures { λ r. ⌜ TookOne (lossBy clears (gonesIn (now (gone .entry))) at) (instanceOf (recordAt (now (pens .entry)) i)) (now (pens .entry)) (now (out .entry)) tally (now (pens .exit)) (now (out .exit)) r ⌝ }
 {
-    let x = instance_record::instance_at(pens, i);
-    let state = x.state;
-    let h = x.handle;
-    let r = take_step(p, s, gone, state);
-    keep(pens, tally.kept, x, r);
-    note(out, tally.listed, r.listed, h.0);
-    tallied(tally, r)
+    let from = i * 512;
+    let end = from + 512;
+    let h = instance_record::handle_at(pens, i);
+    let told = instance_loss::lose(&mut pens[from..end], w, gone, at, clears);
+    note(out, tally.listed, told.left, h.0);
+    with_told(tally, told)
 }
+
+// The writers of a list are lost to the first count instances: dropped and, where that is asked for, cleared as owners.
+fn lose_every(
+    pens: &mut [u8],
+    out: &mut [u8],
+    count: usize,
+    gone: &[u8],
+    at: MaybeTime,
+    clears: bool,
+) -> Tally
+    requires { ⌜ Editable count (now pens) × Listed (now gone) × (1024 ≤ length (now out)) ⌝ }
+    ensures { λ r. ⌜ Passed (lossBy clears (gonesIn (now (gone .entry))) at) (instancesIn count (now (pens .entry))) (now (pens .entry)) (now (out .entry)) (now (pens .exit)) (now (out .exit)) r ⌝ }
+{
+    let w = span_of(gone);
+    let mut tally = Tally {
+        kept: 0,
+        listed: 0,
+        counted: 0,
+    };
+    let mut i = 0;
+    while i < count {
+        tally = lose_at(pens, out, i, tally, w, gone, at, clears);
+        i += 1;
+    }
+    tally
+}
+
+// The writers of a list are lost, one after the other: codes 7 and 18 for each.
+pub fn lose_writers(
+    pens: &mut [u8],
+    out: &mut [u8],
+    count: usize,
+    gone: &[u8],
+    at: MaybeTime,
+) -> Tally
+    requires { ⌜ Editable count (now pens) × Listed (now gone) × (1024 ≤ length (now out)) ⌝ }
+    ensures { λ r. ⌜ Passed (lossAct (gonesIn (now (gone .entry))) at) (instancesIn count (now (pens .entry))) (now (pens .entry)) (now (out .entry)) (now (pens .exit)) (now (out .exit)) r ⌝ }
+{
+    if gone.len() < 16 {
+        return Tally {
+            kept: count,
+            listed: 0,
+            counted: 0,
+        };
+    }
+    lose_every(pens, out, count, gone, at, true)
+}
+
+// Code 7: the writer of the sheet alone, and no owner is cleared.
+fn drop_writer(pens: &mut [u8], out: &mut [u8], count: usize, s: Sheet) -> Tally
+    requires { ⌜ Editable count (now pens) × (1024 ≤ length (now out)) ⌝ }
+    ensures { λ r. ⌜ Passed (callAct DropWriter s) (instancesIn count (now (pens .entry))) (now (pens .entry)) (now (out .entry)) (now (pens .exit)) (now (out .exit)) r ⌝ }
+{
+    let g = s.guid;
+    let t = s.time_1;
+    let mut gone = [0u8; 16];
+    guid::put_guid(&mut gone, 0, g);
+    lose_every(
+        pens,
+        out,
+        count,
+        &gone,
+        instance_fields::if_present(t),
+        false,
+    )
+}
+
+// ---- owners
+
+// The owner of record i has another strength, if it is g.
+fn strength_at(pens: &mut [u8], i: usize, g: Guid, strength: u32)
+    requires { ⌜ i * 512 + 512 ≤ length (now pens) ⌝ }
+    ensures { λ _. ⌜ EditedAt (strengthUpdated g strength) i (now (pens .entry)) (now (pens .exit)) ⌝ }
+{
+    let from = i * 512;
+    let end = from + 512;
+    if instance_edits::owner_is(&pens[from..end], g) {
+        instance_edits::put_strength(&mut pens[from..end], strength);
+    }
+}
+
+// Code 17.
+fn set_strengths(pens: &mut [u8], count: usize, s: Sheet) -> Tally
+    requires { ⌜ (count ≤ 128) × (count * 512 ≤ length (now pens)) ⌝ }
+    ensures { λ r. ⌜ ((out : List ℕ) → 1024 ≤ length out → Passed (callAct UpdateOwnerStrength s) (instancesIn count (now (pens .entry))) (now (pens .entry)) out (now (pens .exit)) out r) ⌝ }
+{
+    let g = s.guid;
+    let strength = s.second;
+    let mut i = 0;
+    while i < count {
+        strength_at(pens, i, g, strength);
+        i += 1;
+    }
+    Tally {
+        kept: count,
+        listed: 0,
+        counted: 0,
+    }
+}
+
+// Whether the owner is g, or of its participant.
+fn owned_in(r: &[u8], g: Guid, prefix: bool) -> bool
+    requires { ⌜ length (now r) ≡ 512 ⌝ }
+    ensures { λ y. ⌜ y ≡ ownsAs prefix g (instanceOf (now (r .entry)) .state .owner) ⌝ }
+{
+    if prefix {
+        return instance_edits::owner_of_prefix(r, g);
+    }
+    instance_edits::owner_is(r, g)
+}
+
+// The owner of record i is cleared, if it is g or of its participant. Whether it was.
+fn owner_at(pens: &mut [u8], i: usize, g: Guid, prefix: bool) -> bool
+    requires { ⌜ i * 512 + 512 ≤ length (now pens) ⌝ }
+    ensures { λ r. ⌜ (r ≡ ownsAs prefix g (instanceOf (recordAt (now (pens .entry)) i) .state .owner)) × EditedAt (clearedAs prefix g) i (now (pens .entry)) (now (pens .exit)) ⌝ }
+{
+    let from = i * 512;
+    let end = from + 512;
+    let yes = owned_in(&pens[from..end], g, prefix);
+    if yes {
+        instance_edits::clear_owner(&mut pens[from..end]);
+    }
+    yes
+}
+
+// Codes 18 and 19.
+fn clear_owners(pens: &mut [u8], count: usize, g: Guid, prefix: bool) -> Tally
+    requires { ⌜ (count ≤ 128) × (count * 512 ≤ length (now pens)) ⌝ }
+    ensures { λ r. ⌜ ((out : List ℕ) → 1024 ≤ length out → Passed (ownerAct prefix g) (instancesIn count (now (pens .entry))) (now (pens .entry)) out (now (pens .exit)) out r) ⌝ }
+{
+    let mut n = 0;
+    let mut i = 0;
+    while i < count {
+        n = n + one(owner_at(pens, i, g, prefix));
+        i += 1;
+    }
+    Tally {
+        kept: count,
+        listed: 0,
+        counted: n,
+    }
+}
+
+// ---- code 21
 
 // Record i, which stays as it is, goes to place k, where it may stand already.
 fn close_up(pens: &mut [u8], k: usize, i: usize)
@@ -339,63 +280,6 @@ fn close_up(pens: &mut [u8], k: usize, i: usize)
         octets::move_down(pens, k * 512, i * 512, 512);
     }
 }
-
-// Record i takes its turn: one that the pass leaves as it is goes to its place as it stands.
-fn turn(
-    pens: &mut [u8],
-    out: &mut [u8],
-    i: usize,
-    tally: Tally,
-    p: Passing,
-    s: Sheet,
-    gone: &[u8],
-    w: Watch,
-) -> Tally
-    requires { ⌜ Ahead p (now gone) (now pens) (now out) i tally (instanceOf (recordAt (now pens) i)) × Watches (actOf p s (gonesIn (now gone))) w ⌝ }
-    ensures { λ r. ⌜ TookOne (actOf p s (gonesIn (now (gone .entry)))) (instanceOf (recordAt (now (pens .entry)) i)) (now (pens .entry)) (now (out .entry)) tally (now (pens .exit)) (now (out .exit)) r
-        ⊎ Spared (actOf p s (gonesIn (now (gone .entry)))) (instanceOf (recordAt (now (pens .entry)) i)) i (now (pens .entry)) (now (out .entry)) tally (now (pens .exit)) (now (out .exit)) r ⌝ }
-{
-    if instance_watch::is_clear(pens, i, w) {
-        close_up(pens, tally.kept, i);
-        return Tally {
-            kept: tally.kept + 1,
-            listed: tally.listed,
-            counted: tally.counted,
-        };
-    }
-    pass_at(pens, out, i, tally, p, s, gone)
-}
-
-// The first count instances are taken through their steps, those kept closed up and the places behind them cleared; the
-// handles of those listed go to the front of Out.
-pub fn pass(
-    pens: &mut [u8],
-    out: &mut [u8],
-    count: usize,
-    p: Passing,
-    s: Sheet,
-    gone: &[u8],
-) -> Tally
-    requires { ⌜ Passable p × (length (now gone) ≤ 4096) × (count ≤ 128) × (count * 512 ≤ length (now pens)) × (1024 ≤ length (now out)) × All UsableIn (instancesIn count (now pens)) ⌝ }
-    ensures { λ r. ⌜ Passed (actOf p s (gonesIn (now (gone .entry)))) (instancesIn count (now (pens .entry))) (now (pens .entry)) (now (out .entry)) (now (pens .exit)) (now (out .exit)) r ⌝ }
-{
-    let mut tally = Tally {
-        kept: 0,
-        listed: 0,
-        counted: 0,
-    };
-    let g = s.guid;
-    let w = watch_of(p, g, gone);
-    let mut i = 0;
-    while i < count {
-        tally = turn(pens, out, i, tally, p, s, gone, w);
-        i += 1;
-    }
-    instance_table::truncate(pens, tally.kept, count);
-    tally
-}
-
-// ---- code 21
 
 // The time of the 8 bytes from at, present or not.
 fn time_in(s: &[u8], at: usize, present: bool) -> MaybeTime
@@ -464,29 +348,19 @@ fn purge(pens: &mut [u8], count: usize, s: Sheet) -> Tally
 
 // ---- the calls on every instance
 
-// Whether the call purges.
-fn is_purge(k: Report) -> bool
-    ensures { λ r. ⌜ r ≡ purges k ⌝ }
-{
-    match k {
-        Report::Nothing => false,
-        Report::Left => false,
-        Report::Owner => false,
-        Report::Prefix => false,
-        Report::Purge => true,
-    }
-}
-
-// The pass of a call.
+// The pass of a call, by what it reports: the one that reports nothing is an update of the owner's strength.
 fn call_pass(pens: &mut [u8], out: &mut [u8], count: usize, c: InstanceCall, s: Sheet) -> Tally
-    requires { ⌜ (onEvery c ≡ true) × (count ≤ 128) × (count * 512 ≤ length (now pens)) × (1024 ≤ length (now out)) × All UsableIn (instancesIn count (now pens)) ⌝ }
+    requires { ⌜ (onEvery c ≡ true) × Editable count (now pens) × (1024 ≤ length (now out)) ⌝ }
     ensures { λ r. ⌜ Passed (callAct c s) (instancesIn count (now (pens .entry))) (now (pens .entry)) (now (out .entry)) (now (pens .exit)) (now (out .exit)) r ⌝ }
 {
-    if is_purge(report_of(c)) {
-        return purge(pens, count, s);
+    let g = s.guid;
+    match report_of(c) {
+        Report::Nothing => set_strengths(pens, count, s),
+        Report::Left => drop_writer(pens, out, count, s),
+        Report::Owner => clear_owners(pens, count, g, false),
+        Report::Prefix => clear_owners(pens, count, g, true),
+        Report::Purge => purge(pens, count, s),
     }
-    let nobody = [0u8; 16];
-    pass(pens, out, count, Passing::Call(c), s, &nobody)
 }
 
 // What a call answers, from the tally of its pass.

@@ -16,7 +16,7 @@ use Rattle.model.specs.Call.{judged, lentOf, leftOf}
 use Rattle.model.specs.Calls.{joined}
 use Rattle.model.specs.Refusals.{sheetRefusal}
 use Rattle.model.specs.State.{Lent, State, stateOf}
-use Rattle.instance_pass.proofs.CallLaws.{ready-held}
+use Rattle.instance_pass.proofs.EditLaws.{table-editable}
 use Rattle.writer_turns.specs.WriterCalls.{WritersFormed}
 use Rattle.lent_state.proofs.Formed.{Parts, parts}
 use Rattle.call_laws.specs.Entered.{Entered}
@@ -33,8 +33,10 @@ module _ (places : ℕ) (l : Lent) (e : Entered places l) where
 
   pub entered-losable : places ≤ 128 → Losable (l .head .«instance_count») (l .pens) (l .out)
   entered-losable few =
-      let h = ready-held places (l .head .«instance_count») (l .head .«next_handle» .0) (l .pens) record { few = few; size = e .pens; formed = entered-parts .pens } in
-      record { few = h .few; room = h .room; wide = omega (arith, e .out); usable = h .usable }
+      record {
+        table = table-editable places (l .head .«instance_count») (l .head .«next_handle» .0) (l .pens) record { few = few; size = e .pens; formed = entered-parts .pens };
+        wide = omega (arith, e .out);
+      }
 
 -- ---- refusals 4 to 6
 

@@ -1,6 +1,7 @@
 -- Code 49: the expiry, then the loss of the writers that it put into Lost.
 --     lapse-counts, lapse-losable
 --                         how many Lost holds after the expiry; the instances can then be passed over
+--     lapse-listed        those that come to Lost rise, and are at most 128
 --     lapse-left          what the call leaves where the expiry is accepted
 --     lapse-stays         and where it is refused
 -- Assumes nothing.
@@ -22,15 +23,18 @@ use Rattle.model.specs.declared.Sheet.{Sheet}
 use Rattle.model.specs.declared.TrackerCall.the-variants.{Expire}
 use Rattle.model.specs.Call.{lentOf}
 use Rattle.model.specs.Calls.{joined}
-use Rattle.model.specs.Guids.{guidOf}
+use Rattle.model.specs.Guids.{num, guidOf}
 use Rattle.model.specs.Refusals.{sheetRefusal}
-use Rattle.model.specs.State.{Lent, State, stateOf, headOf, lostOf, instancesIn}
+use Rattle.model.specs.State.{Lent, State, stateOf, headOf, lostOf, instancesIn, writersIn}
+use Rattle.model.specs.Tables.{rising}
 use Rattle.model.specs.Writers.{movers, trackerState, trackerTurn, trackerLate, trackerCall}
 use Rattle.model.proofs.RowLaws.{length-read}
 use Rattle.model.proofs.TrackerLaws.{late-number}
+use Rattle.writer_turns.specs.WriterCalls.{WritersFormed}
+use Rattle.writer_turns.proofs.Holding.{good}
 use Rattle.writer_expiry.specs.Losing.{Leaves, Expires}
 use Rattle.joined_calls.specs.Losses.{Losable, Loses, goneSince, LapseJudged}
-use Rattle.joined_calls.proofs.Gone.{gone-fits, expired-gone}
+use Rattle.joined_calls.proofs.Gone.{gone-fits, gone-rises, gone-few, expired-gone}
 use Rattle.joined_calls.proofs.Losing.{count-kept, turn-taken, loss-left, loss-stays}
 
 -- ---- Lost after the expiry
@@ -84,6 +88,10 @@ module _ (s : Sheet) (l : Lent) (r : Called) (writers′ lost′ : List ℕ) (d 
         expired-gone (st .lost) gone (l .head .«lost_count») (r .head .«lost_count») lost′ (gone-fits s (l .head .«writer_count») (l .writers) bytes) before-is after-is
         (turned .lostLaid ∙ ap lostOf (lost-grown s st))
 
+    -- they are no more than the writers
+    gone-little : length (st .writers) ≤ 128 → r .head .«lost_count» ≤ l .head .«lost_count» + 128
+    gone-little h = omega (arith, before-is, after-is, length-append (st .lost) gone, gone-few s (st .writers))
+
 -- ---- the call
 
 module _ (s : Sheet) (head : Head) (pens writers lost out : List ℕ) (called : Called) (writers′ lost′ : List ℕ) (d : Expires s head writers lost called writers′ lost′) where
@@ -96,6 +104,16 @@ module _ (s : Sheet) (head : Head) (pens writers lost out : List ℕ) (called : 
 
   pub lapse-counts : called .answer .number ≡ 0 → (head .«lost_count» ≤ called .head .«lost_count») × (called .head .«lost_count» ≤ 256)
   lapse-counts accepted = counts s lent called writers′ lost′ leaves accepted
+
+  -- what comes to Lost rises, as the writers do
+  pub lapse-listed : Bytes writers → WritersFormed head writers → called .answer .number ≡ 0 →
+      (called .head .«lost_count» ≤ head .«lost_count» + 128) × (rising num (goneSince (head .«lost_count») (called .head .«lost_count») lost′) ≡ true)
+  unfolding stateOf
+  lapse-listed b w accepted =
+      let g = good head writers b w in (
+        gone-little s lent called writers′ lost′ leaves accepted (omega (arith, g .size, g .ready .sound .few)),
+        rw (gone-since s lent called writers′ lost′ leaves accepted b) (gone-rises s (writersIn (head .«writer_count») writers) (g .ready .rises)),
+      )
 
   pub lapse-losable : Losable (head .«instance_count») pens out → Losable (called .head .«instance_count») pens out
   lapse-losable h = rw (count-kept Expire s head pens writers lost called writers′ (d pens .settles)) h

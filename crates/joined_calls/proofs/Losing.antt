@@ -6,7 +6,7 @@
 --     loss-stays                    where it is refused, nothing is changed
 --     leave-left, leave-number      codes 50 and 51
 -- Assumes nothing.
-use Prim.Native.Nat.{ℕ, zero, suc, _≤_}
+use Prim.Native.Nat.{ℕ, zero, suc}
 use mathlib.Core.Bool.{Bool, true, false}
 use mathlib.Core.List.{List, [], _∷_}
 use mathlib.Core.Path.{_≡_, refl, sym, ap, _∙_, subst}
@@ -39,12 +39,12 @@ use Rattle.model.proofs.StateLaws.{formed-facts}
 use Rattle.model.proofs.TrackerLaws.{instances-stay}
 use Rattle.instance_table.specs.Laid.{Laid}
 use Rattle.instance_table.proofs.LaidOut.{table-formed, table-laid}
-use Rattle.instance_pass.specs.declared.Passing.the-variants.{Loss}
 use Rattle.instance_pass.specs.declared.Tally.{Tally}
 use Rattle.instance_pass.specs.Passes.{Passed}
-use Rattle.instance_pass.specs.Steps.{gonesIn, lossAct}
+use Rattle.instance_sets.specs.Lists.{gonesIn, Listed}
+use Rattle.instance_pass.specs.Steps.{lossAct}
 use Rattle.instance_pass.proofs.CallLaws.{Few, passed-few, lost}
-use Rattle.instance_pass.proofs.StepLaws.{gones-few, counted-le}
+use Rattle.instance_pass.proofs.LossLaws.{loss-bounded}
 use Rattle.writer_turns.specs.WriterCalls.{heldBy, Settles, Turns, leaving}
 use Rattle.writer_expiry.specs.Losing.{Leaves}
 use Rattle.writer_expiry.proofs.Expiring.{lost-laid}
@@ -56,15 +56,19 @@ use Rattle.joined_calls.proofs.Entering.{entered-parts}
 
 -- ---- the pass
 
-module _ (s : Sheet) (gone : List ℕ) (count : ℕ) (pens out pens′ out′ : List ℕ) (r : Tally) (p : Passed (lossAct (gonesIn gone) (lossTime s)) (instancesIn count pens) pens out pens′ out′ r) where
+module _ (s : Sheet) (gone : List ℕ) (count : ℕ) (pens out pens′ out′ : List ℕ) (r : Tally) (at : MaybeTime) (given : at ≡ lossTime s)
+    (passed : Passed (lossAct (gonesIn gone) at) (instancesIn count pens) pens out pens′ out′ r) where
+  p : Passed (lossAct (gonesIn gone) (lossTime s)) (instancesIn count pens) pens out pens′ out′ r
+  p = rw given at passed
+
   abbrev xs : List Instance
   xs = instancesIn count pens
 
-  pub loss-few : length gone ≤ 4096 → Losable count pens out → Few r 128
+  pub loss-few : Listed gone → Losable count pens out → Few r 128
   loss-few h d =
       let n : length xs ≡ count = length-read instanceOf 512 count pens in
-      let w = passed-few (lossAct (gonesIn gone) (lossTime s)) xs pens out pens′ out′ r (λ x. counted-le Loss s (gonesIn gone) x (gones-few gone h)) p in
-      record { kept = omega (arith, w .kept, n, d .few); listed = omega (arith, w .listed, n, d .few); counted = omega (arith, w .counted, n, d .few) }
+      let w = passed-few (lossAct (gonesIn gone) (lossTime s)) xs pens out pens′ out′ r (loss-bounded gone (lossTime s) (omega (arith, h .few))) p in
+      record { kept = omega (arith, w .kept, n, d .table .few); listed = omega (arith, w .listed, n, d .table .few); counted = omega (arith, w .counted, n, d .table .few) }
 
   pub loss-passed : (called : Called) (a : Answer) → a ≡ withList (called .answer) (r .counted) (r .listed) →
       Loses s (gonesIn gone) xs called pens out record { answer = a; head = called .head } pens′ out′

@@ -10,7 +10,6 @@ use mathlib.Core.Bool.{Bool, cond}
 use mathlib.Core.List.{List}
 use mathlib.Core.Path.{_≡_}
 use lib.ListN.{length, take, drop}
-use Rattle.octets.specs.Lay.{All}
 use Rattle.model.specs.declared.Called.{Called}
 use Rattle.model.specs.declared.Guid.{Guid}
 use Rattle.model.specs.declared.Head.{Head}
@@ -24,22 +23,19 @@ use Rattle.model.specs.Call.{listIn, judged, lentOf, leftOf}
 use Rattle.model.specs.Calls.{joined}
 use Rattle.model.specs.InstanceCalls.{handleBytes}
 use Rattle.model.specs.Joined.{clearingsIn, loses, leftWriterless}
-use Rattle.model.specs.State.{instancesIn}
 use Rattle.model.specs.Tables.{pick, sift}
 use Rattle.model.specs.Times.{ifPresent}
 use Rattle.instance_table.specs.Laid.{Laid}
-use Rattle.instance_pass.specs.Passes.{UsableIn}
-use Rattle.instance_pass.specs.Steps.{gonesIn}
+use Rattle.instance_pass.specs.Passes.{Editable}
+use Rattle.instance_sets.specs.Lists.{gonesIn}
 use Rattle.call_laws.specs.Entered.{Entered}
 
 -- ---- the loss of writers
 
 -- the first count instances can be passed over
 pub record Losable (count : ℕ) (pens out : List ℕ) : Type 0 where
-  pub few : count ≤ 128
-  pub room : count * 512 ≤ length pens
+  pub table : Editable count pens
   pub wide : 1024 ≤ length out
-  pub usable : All UsableIn (instancesIn count pens)
 
 -- time 1 with its presence bit
 abbrev pub lossTime : Sheet → MaybeTime

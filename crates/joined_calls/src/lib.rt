@@ -4,7 +4,6 @@
 // Derives from instance_tracker.rs and liveliness_tracker.rs of ZeroDDS.
 // Copyright 2026 ZeroDDS Contributors. SPDX-License-Identifier: Apache-2.0. Changed: written anew in Rattle, the calls of
 // the two trackers joined.
-use instance_pass::Passing;
 use model::Answer;
 use model::Called;
 use model::Head;
@@ -13,14 +12,16 @@ use model::Sheet;
 ghost use mathlib.Core.Bool.{true};
 ghost use mathlib.Core.List.{[], _∷_};
 ghost use mathlib.Core.Path.{_≡_};
-ghost use Prim.Native.Nat.{_≤_};
+ghost use Prim.Native.Nat.{_+_, _≤_};
 ghost use lib.ListN.{length};
 ghost use Rattle.model.specs.Answers.{withList};
 ghost use Rattle.model.specs.Call.{judged, lentOf, leftOf};
 ghost use Rattle.model.specs.Calls.{joined};
+ghost use Rattle.model.specs.Guids.{num};
 ghost use Rattle.model.specs.State.{instancesIn};
+ghost use Rattle.model.specs.Tables.{rising};
 ghost use Rattle.model.specs.WellFormed.{lostOk};
-ghost use Rattle.instance_pass.specs.Steps.{gonesIn};
+ghost use Rattle.instance_sets.specs.Lists.{gonesIn, Listed};
 ghost use Rattle.instance_table.specs.TableCalls.{TableFormed};
 ghost use Rattle.writer_turns.specs.WriterCalls.{WritersFormed};
 ghost use Rattle.call_laws.specs.Entered.{Entered};
@@ -59,12 +60,19 @@ fn with_list(a: Answer, count: u32, listed: u32) -> Answer
 
 // After a call on the tracker, the writers of a list are dropped from every instance: codes 7 and 18 for one after the other.
 fn lose(called: Called, s: Sheet, pens: &mut [u8], out: &mut [u8], gone: &[u8]) -> Called
-    requires { ⌜ Losable (called .head .«instance_count») (now pens) (now out) × (length (now gone) ≤ 4096) ⌝ }
+    requires { ⌜ Losable (called .head .«instance_count») (now pens) (now out) × Listed (now gone) ⌝ }
     ensures { λ r. ⌜ Loses s (gonesIn (now (gone .entry))) (instancesIn (called .head .«instance_count») (now (pens .entry))) called (now (pens .entry)) (now (out .entry)) r (now (pens .exit)) (now (out .exit)) ⌝ }
 {
     let h = called.head;
     let a = called.answer;
-    let tally = instance_pass::pass(pens, out, h.instance_count as usize, Passing::Loss, s, gone);
+    let t = s.time_1;
+    let tally = instance_pass::lose_writers(
+        pens,
+        out,
+        h.instance_count as usize,
+        gone,
+        instance_fields::if_present(t),
+    );
     Called {
         answer: with_list(a, tally.counted as u32, tally.listed as u32),
         head: h,
@@ -113,7 +121,8 @@ fn lose_expired(
     before: u32,
 ) -> Called
     requires { ⌜ Losable (called .head .«instance_count») (now pens) (now out) × (length (now lost) ≡ 4096) × (before ≤ called .head .«lost_count»)
-        × (called .head .«lost_count» ≤ 256) ⌝ }
+        × (called .head .«lost_count» ≤ 256) × (called .head .«lost_count» ≤ before + 128)
+        × (rising num (goneSince before (called .head .«lost_count») (now lost)) ≡ true) ⌝ }
     ensures { λ r. ⌜ Loses s (goneSince before (called .head .«lost_count») (now (lost .entry))) (instancesIn (called .head .«instance_count») (now (pens .entry))) called (now (pens .entry)) (now (out .entry)) r (now (pens .exit)) (now (out .exit)) ⌝ }
 {
     let h = called.head;

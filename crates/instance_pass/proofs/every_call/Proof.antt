@@ -3,7 +3,8 @@ use mathlib.Core.Path.{ap, _∙_}
 use native.Mathlib.Omega.{arith}
 use Rattle.model.specs.declared.Report.{Report}
 use Rattle.instance_pass.specs.EveryCalls.{answerAs}
-use Rattle.instance_pass.proofs.CallLaws.{ready-held, every-few, every-left}
+use Rattle.instance_pass.proofs.CallLaws.{every-few, every-left}
+use Rattle.instance_pass.proofs.EditLaws.{table-editable}
 use borrow.Author.Needs.{needs}
 use Rattle.instance_pass.proofs.every_call.Statement.{statement}
 use Rattle.instance_pass.proofs.every_call.Tie as tie
@@ -12,8 +13,7 @@ call-pass-requires : tie.Need-call-pass-requires
 call-pass-requires c κs =
     let s = c .before .before .before .before in
     let a = s .args in
-    let h = ready-held (a .places) (a .count) (a .next .0) (a .pens .now) (s .pre .0) in
-    (s .pre .2, h .few, h .room, s .pre .1, h .usable)
+    (s .pre .2, table-editable (a .places) (a .count) (a .next .0) (a .pens .now) (s .pre .0), s .pre .1)
 
 report-of-requires : tie.Need-report-of-requires
 report-of-requires c κs = search needs

@@ -2,7 +2,7 @@
 use mathlib.Core.Path.{sym, _∙_}
 use Rattle.model.specs.declared.JoinedCall.the-variants.{Lapse}
 use Rattle.joined_calls.proofs.Entering.{sheet-refused}
-use Rattle.joined_calls.proofs.Lapsing.{lapse-counts, lapse-losable, lapse-left, lapse-stays}
+use Rattle.joined_calls.proofs.Lapsing.{lapse-counts, lapse-listed, lapse-losable, lapse-left, lapse-stays}
 use borrow.Author.Needs.{needs}
 use Rattle.joined_calls.proofs.lapse.Statement.{statement}
 use Rattle.joined_calls.proofs.lapse.Tie as tie
@@ -43,12 +43,16 @@ lose-expired-requires c κs =
     let a = start .args in
     let e = r .expire in
     let n = lapse-counts (a .s) (a .head) (a .pens .now) (a .writers .now) (a .lost .now) (a .out .now) (e .result) (e .last .1 .1 .0)
-    (e .last .1 .1 .1 .0) (e .ensures) (c .before .before .before .if2 .left) in (
+    (e .last .1 .1 .1 .0) (e .ensures) (c .before .before .before .if2 .left) in
+    let m = lapse-listed (a .s) (a .head) (a .pens .now) (a .writers .now) (a .lost .now) (a .out .now) (e .result) (e .last .1 .1 .0)
+    (e .last .1 .1 .1 .0) (e .ensures) (λ j. c .before .before .before .before .before .before .before .before .before .before .before .before .before .before .before .before .before .slice-known2 .given j .fits) (start .pre .0) (c .before .before .before .if2 .left) in (
       lapse-losable (a .s) (a .head) (a .pens .now) (a .writers .now) (a .lost .now) (a .out .now) (e .result) (e .last .1 .1 .0)
           (e .last .1 .1 .1 .0) (e .ensures) (start .pre .1),
       search needs,
       n .0,
       n .1,
+      m .0,
+      m .1,
     )
 
 same-length-3 : tie.Need-same-length-3

@@ -5,33 +5,31 @@ use borrow.Author.Needs.{needs}
 use Rattle.joined_calls.proofs.lose.Statement.{statement}
 use Rattle.joined_calls.proofs.lose.Tie as tie
 
-cast-pass : tie.Need-cast-pass
-cast-pass c = search needs
+cast-lose-writers : tie.Need-cast-lose-writers
+cast-lose-writers c = search needs
 
-pass-requires : tie.Need-pass-requires
-pass-requires c κs =
-    let start = c .before .before .before .before .before .before .before .before in
-    let h = start .pre .0 in
-    (tt, start .pre .1, h .few, h .room, h .wide, h .usable)
+if-present-requires : tie.Need-if-present-requires
+if-present-requires c κs = search needs
+
+lose-writers-requires : tie.Need-lose-writers-requires
+lose-writers-requires c κs = search needs
 
 cast-with-list : tie.Need-cast-with-list
 cast-with-list c =
-    let passed = c .before .before .before .before .before in
-    let start = passed .before .before .before .before .before .before .before .before .before in
+    let start = c .before .before .before .before .before .before .before .before .before .before .before .before .before .before .before .before in
     let a = start .args in
-    let p = passed .pass in
+    let p = c .before .before .before .before .before .lose-writers in
     let w = loss-few (a .s) (a .gone .now) (a .called .head .«instance_count») (a .pens .now) (a .out .now) (p .last .0) (p .last .1 .0) (p .result)
-    (p .ensures) (start .pre .1) (start .pre .0) in
+    (c .before .before .before .before .before .before .if-present .result) (c .before .before .before .before .before .before .if-present .ensures) (p .ensures) (start .pre .1) (start .pre .0) in
     omega (arith, w .counted)
 
 cast-with-list-2 : tie.Need-cast-with-list-2
 cast-with-list-2 c =
-    let passed = c .before .before .before .before .before .before in
-    let start = passed .before .before .before .before .before .before .before .before .before in
+    let start = c .before .before .before .before .before .before .before .before .before .before .before .before .before .before .before .before .before in
     let a = start .args in
-    let p = passed .pass in
+    let p = c .before .before .before .before .before .before .lose-writers in
     let w = loss-few (a .s) (a .gone .now) (a .called .head .«instance_count») (a .pens .now) (a .out .now) (p .last .0) (p .last .1 .0) (p .result)
-    (p .ensures) (start .pre .1) (start .pre .0) in
+    (c .before .before .before .before .before .before .before .if-present .result) (c .before .before .before .before .before .before .before .if-present .ensures) (p .ensures) (start .pre .1) (start .pre .0) in
     omega (arith, w .listed)
 
 with-list-requires : tie.Need-with-list-requires
@@ -45,18 +43,18 @@ same-length-2 c = search needs
 
 returns : tie.Need-returns
 returns c =
-    let passed = c .before .before .before .before .before .before .before in
-    let a = passed .before .before .before .before .before .before .before .before .before .args in
-    let p = passed .pass in
+    let a = c .before .before .before .before .before .before .before .before .before .before .before .before .before .before .before .before .before .before .args in
+    let p = c .before .before .before .before .before .before .before .lose-writers in
     loss-passed (a .s) (a .gone .now) (a .called .head .«instance_count») (a .pens .now) (a .out .now) (p .last .0) (p .last .1 .0) (p .result)
-    (p .ensures) (a .called) (c .with-list .result) (c .with-list .ensures)
+    (c .before .before .before .before .before .before .before .before .if-present .result) (c .before .before .before .before .before .before .before .before .if-present .ensures) (p .ensures) (a .called) (c .with-list .result) (c .with-list .ensures)
 
 pub lose-spec : {M : Type 1} → statement M
 lose-spec =
     tie.close
     (tie.spec
-    cast-pass
-    pass-requires
+    cast-lose-writers
+    if-present-requires
+    lose-writers-requires
     cast-with-list
     cast-with-list-2
     with-list-requires

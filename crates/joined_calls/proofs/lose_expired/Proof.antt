@@ -3,6 +3,9 @@ use borrow.Author.Needs.{needs}
 use Rattle.joined_calls.proofs.lose_expired.Statement.{statement}
 use Rattle.joined_calls.proofs.lose_expired.Tie as tie
 
+returns : tie.Need-returns
+returns c = c .before .before .before .before .lose .ensures
+
 mul-from : tie.Need-mul-from
 mul-from c = search needs
 
@@ -29,9 +32,6 @@ same-length c = search needs
 
 same-length-2 : tie.Need-same-length-2
 same-length-2 c = search needs
-
-returns : tie.Need-returns
-returns c = c .before .before .before .before .lose .ensures
 
 pub lose-expired-spec : {M : Type 1} → statement M
 lose-expired-spec =

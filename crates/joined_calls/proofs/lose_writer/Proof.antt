@@ -6,7 +6,7 @@ use lib.ListN.{replicate}
 use native.Mathlib.Omega.{arith}
 use Rattle.octets.specs.Octets.{put}
 use Rattle.model.proofs.Fits.{FitsGuid}
-use Rattle.joined_calls.proofs.Gone.{one-gone}
+use Rattle.instance_pass.proofs.LossLaws.{one-gone, one-listed}
 use borrow.Author.Needs.{needs}
 use Rattle.joined_calls.proofs.lose_writer.Statement.{statement}
 use Rattle.joined_calls.proofs.lose_writer.Tie as tie
@@ -27,7 +27,15 @@ slice-aggregate-lose : tie.Need-slice-aggregate-lose
 slice-aggregate-lose c = search needs
 
 lose-requires : tie.Need-lose-requires
-lose-requires c κs = search needs
+lose-requires c κs =
+    let start = c .before .before .before .before .before .before .before .before .before .before .before .before in
+    let a = start .args in
+    let g = a .s .guid in
+    let first = c .before .before .before .before .before .before .before .put-u64 in
+    let second = c .before .before .before .before .put-u642 in
+    let stored : second .last .0 ≡ put 8 (put 8 (replicate 16 0) 0 (g .hi)) 8 (g .lo) = second .ensures ∙ ap (λ (b : List ℕ). put 8 b 8 (g .lo)) (first .ensures) in
+    let fits : FitsGuid g = record { high = omega (arith, start .good .1); low = omega (arith, start .good .1) } in
+    (start .pre, one-listed g (second .last .0) (omega arith) (one-gone g (second .last .0) fits stored))
 
 same-length : tie.Need-same-length
 same-length c = search needs
@@ -37,16 +45,14 @@ same-length-2 c = search needs
 
 returns : tie.Need-returns
 returns c =
-    let lost = c .before .before .before .before in
-    let second = lost .before .before .before .before .before in
-    let first = second .before .before .before in
-    let start = first .before .before .before .before .before in
+    let start = c .before .before .before .before .before .before .before .before .before .before .before .before .before .before .before .before .before in
     let a = start .args in
     let g = a .s .guid in
-    let stored : second .put-u642 .last .0 ≡ put 8 (put 8 (replicate 16 0) 0 (g .hi)) 8 (g .lo) =
-    second .put-u642 .ensures ∙ ap (λ (b : List ℕ). put 8 b 8 (g .lo)) (first .put-u64 .ensures) in
+    let first = c .before .before .before .before .before .before .before .before .before .before .before .before .put-u64 in
+    let second = c .before .before .before .before .before .before .before .before .before .put-u642 in
+    let stored : second .last .0 ≡ put 8 (put 8 (replicate 16 0) 0 (g .hi)) 8 (g .lo) = second .ensures ∙ ap (λ (b : List ℕ). put 8 b 8 (g .lo)) (first .ensures) in
     let fits : FitsGuid g = record { high = omega (arith, start .good .1); low = omega (arith, start .good .1) } in
-    rw (one-gone g (second .put-u642 .last .0) fits stored) at (lost .lose .ensures)
+    rw (one-gone g (second .last .0) fits stored) at (c .before .before .before .before .lose .ensures)
 
 pub lose-writer-spec : {M : Type 1} → statement M
 lose-writer-spec =
