@@ -25,7 +25,7 @@ ghost use Rattle.octets.specs.Octets.{put};
 ghost use Rattle.octets.specs.Patch.{patch};
 ghost use Rattle.model.specs.declared.InstanceCall.the-variants.{Autopurge, DropWriter, UpdateOwnerStrength};
 ghost use Rattle.model.specs.InstanceCalls.{instanceCall};
-ghost use Rattle.model.specs.InstanceRecord.{bit, instanceOf, timeAt};
+ghost use Rattle.model.specs.InstanceRecord.{bit, instanceOf};
 ghost use Rattle.model.specs.Instances.{rule, onEvery, purged, strengthUpdated};
 ghost use Rattle.model.specs.State.{instancesIn};
 ghost use Rattle.instance_record.specs.Parts.{recordAt};
@@ -281,20 +281,6 @@ fn close_up(pens: &mut [u8], k: usize, i: usize)
     }
 }
 
-// The time of the 8 bytes from at, present or not.
-fn time_in(s: &[u8], at: usize, present: bool) -> MaybeTime
-    requires { ⌜ at + 8 ≤ length (now s) ⌝ }
-    ensures { λ r. ⌜ r ≡ timeAt (now (s .entry)) at present ⌝ }
-{
-    let sec = octets::get_u32(s, at);
-    let nanosec = octets::get_u32(s, at + 4);
-    MaybeTime {
-        present: present,
-        sec: sec,
-        nanosec: nanosec,
-    }
-}
-
 // Whether the instance of a record is purged: its kind, in the two highest bits of the flags, says since when and which delay.
 fn purged_in(r: &[u8], at: MaybeTime, a: u64, b: u64) -> bool
     requires { ⌜ length (now r) ≡ 512 ⌝ }
@@ -305,9 +291,9 @@ fn purged_in(r: &[u8], at: MaybeTime, a: u64, b: u64) -> bool
         return false;
     }
     if f < 32768 {
-        return sample_time::purge_due(time_in(r, 68, f / 512 % 2 == 1), at, a);
+        return sample_time::purge_due(instance_record::read_time(r, 68, f / 512 % 2 == 1), at, a);
     }
-    sample_time::purge_due(time_in(r, 76, f / 256 % 2 == 1), at, b)
+    sample_time::purge_due(instance_record::read_time(r, 76, f / 256 % 2 == 1), at, b)
 }
 
 // Record i goes behind the k kept, unless it is purged. How many are kept then.

@@ -36,7 +36,7 @@ fn kind_of(n: u16) -> InstanceStateKind
 }
 
 // The time of the 8 bytes from at, present or not.
-fn read_time(s: &[u8], at: usize, present: bool) -> MaybeTime
+pub fn read_time(s: &[u8], at: usize, present: bool) -> MaybeTime
     requires { ⌜ at + 8 ≤ length (now s) ⌝ }
     ensures { λ r. ⌜ r ≡ timeAt (now (s .entry)) at present ⌝ }
 {

@@ -13,8 +13,8 @@ returns c =
     let a = c .before .before .before .args in
     alive-stays (a .r .now) (c .before .get-u16 .result) (c .before .get-u16 .ensures) s (a .at) (a .a) (a .b) d (c .if1 .taken)
 
-time-in-requires : tie.Need-time-in-requires
-time-in-requires c κs = search needs
+read-time-requires : tie.Need-read-time-requires
+read-time-requires c κs = search needs
 
 purge-due-requires : tie.Need-purge-due-requires
 purge-due-requires c κs = search needs
@@ -24,10 +24,10 @@ returns-2 c =
     λ s d.
     let a = c .before .before .before .before .before .before .args in
     let f = c .before .before .before .before .get-u16 in
-    disposed-goes (a .r .now) (f .result) (f .ensures) s (a .at) (a .a) (a .b) d (c .purge-due .result) (c .before .time-in .result) (c .before .time-in .ensures) (c .purge-due .ensures) (c .before .before .before .if1 .left) (c .before .before .if2 .taken)
+    disposed-goes (a .r .now) (f .result) (f .ensures) s (a .at) (a .a) (a .b) d (c .purge-due .result) (c .before .read-time .result) (c .before .read-time .ensures) (c .purge-due .ensures) (c .before .before .before .if1 .left) (c .before .before .if2 .taken)
 
-time-in-requires-2 : tie.Need-time-in-requires-2
-time-in-requires-2 c κs = search needs
+read-time-requires-2 : tie.Need-read-time-requires-2
+read-time-requires-2 c κs = search needs
 
 purge-due-requires-2 : tie.Need-purge-due-requires-2
 purge-due-requires-2 c κs = search needs
@@ -37,7 +37,7 @@ returns-3 c =
     λ s d.
     let a = c .before .before .before .before .before .before .args in
     let f = c .before .before .before .before .get-u16 in
-    writerless-goes (a .r .now) (f .result) (f .ensures) s (a .at) (a .a) (a .b) d (c .purge-due2 .result) (c .before .time-in2 .result) (c .before .time-in2 .ensures) (c .purge-due2 .ensures) (c .before .before .if2 .left)
+    writerless-goes (a .r .now) (f .result) (f .ensures) s (a .at) (a .a) (a .b) d (c .purge-due2 .result) (c .before .read-time2 .result) (c .before .read-time2 .ensures) (c .purge-due2 .ensures) (c .before .before .if2 .left)
 
 pub purged-in-spec : {M : Type 1} → statement M
 purged-in-spec =
@@ -45,9 +45,9 @@ purged-in-spec =
     (tie.spec
     get-u16-requires
     returns
-    time-in-requires
+    read-time-requires
     purge-due-requires
     returns-2
-    time-in-requires-2
+    read-time-requires-2
     purge-due-requires-2
     returns-3)
