@@ -2,10 +2,11 @@
 --     others-all, others-not                                 a handle that none has, and one that some has
 --     handle-place                                           the place of the first that has it
 --     Met, met-start, met-tells, met-turn                    the test of all handles: what is known after i of them
---     met-end, low-end, high-end, used-end                   how it ends
+--     handles-ok, met-end, low-end, high-end, used-end       how it ends
+--     noted-turn, noted-outside, noted-by                    the handles as numbers, and what is known of these
 --     used-start, used-stop, used-on, used-all               the used records, from a place on
 -- Assumes nothing.
-use Prim.Native.Nat.{ℕ, zero, suc, _+_, _-_, _*_, _%_, _≤_, _<_}
+use Prim.Native.Nat.{ℕ, suc, _+_, _-_, _*_, _%_, _≤_, _<_}
 use mathlib.Core.Bool.{Bool, true, false, not, _&&_}
 use mathlib.Core.List.{List, []}
 use mathlib.Core.Logic.{_≢_, ⊎-elim}
@@ -31,6 +32,8 @@ use Rattle.tables.specs.Places.{placeOf}
 use Rattle.model.proofs.Tests.{both, split, clash, eq-or-ne}
 use Rattle.tables.proofs.Finds.{all-at, at-all, place-unique}
 use Rattle.tables.proofs.Puts.{distinct-ne, pairs-distinct}
+use Rattle.handle_order.proofs.Order.{positive}
+use Rattle.handle_order.specs.Apart.{Within, Apart}
 use Rattle.instance_table.specs.Laid.{handleAt}
 use Rattle.octets.proofs.Laws.{be-drop}
 use Rattle.instance_table.proofs.Rows.{handle-read}
@@ -108,10 +111,6 @@ module _ {t : List ℕ} {next i : ℕ} {met : List ℕ} (m : Met t next i met) w
             (rw (← e) (getD-set-same met (h % 1024) 1 0 (omega (arith, m .size))));
       }
     where
-      positive : (h : ℕ) → h ≢ 0 → 1 ≤ h
-      positive zero z = absurd (z refl)
-      positive (suc h) z = omega arith
-
       stays : (j : ℕ) → j < i → getD (set met (h % 1024) 1) (handleAt t j % 1024) 0 ≡ 1
       stays j k =
           ⊎-elim (λ q. rw q (getD-set-same met (h % 1024) 1 0 (omega (arith, m .size))))
@@ -122,19 +121,26 @@ module _ {t : List ℕ} {next i : ℕ} {met : List ℕ} (m : Met t next i met) w
 abbrev pub handlesTest : List ℕ → ℕ → ℕ → Bool
 handlesTest t next n = all (handleBelow next) (instancesIn n t) && handlesDistinct (instancesIn n t)
 
-pub met-end : (t : List ℕ) (next n : ℕ) (met : List ℕ) → Met t next n met → true ≡ handlesTest t next n
-met-end t next n met m =
+pub handles-ok : (t : List ℕ) (next n : ℕ) → ((j : ℕ) → j < n → 1 ≤ handleAt t j) → ((j : ℕ) → j < n → handleAt t j < next) →
+    ((k : ℕ) → k < n → (j : ℕ) → j < k → handleAt t j ≢ handleAt t k) → true ≡ handlesTest t next n
+handles-ok t next n low high apart =
     let c : length (instancesIn n t) ≡ n = length-read instanceOf 512 n t in
     let a : all (handleBelow next) (instancesIn n t) ≡ true =
     at-all (handleBelow next) (instancesIn n t) blank (λ j l. below j (omega arith)) in
     let b : handlesDistinct (instancesIn n t) ≡ true =
     pairs-distinct blank (instancesIn n t)
-    (λ j k l h e. m .apart k (omega arith) j l (sym (handle-read n t j (omega arith)) ∙ sym e ∙ handle-read n t k (omega arith))) in
+    (λ j k l h e. apart k (omega arith) j l (sym (handle-read n t j (omega arith)) ∙ sym e ∙ handle-read n t k (omega arith))) in
     rw (a, b)
   where
     below : (j : ℕ) → j < n → handleBelow next (getD (instancesIn n t) j blank) ≡ true
     below j l =
-        rw (handle-read n t j l, le-leb 1 (handleAt t j) (m .low j l), lt-ltb (handleAt t j) next (m .high j l))
+        rw (handle-read n t j l, le-leb 1 (handleAt t j) (low j l), lt-ltb (handleAt t j) next (high j l))
+
+pub met-end : (t : List ℕ) (next n : ℕ) (met : List ℕ) → Met t next n met → true ≡ handlesTest t next n
+met-end t next n met m = handles-ok t next n (m .low) (m .high) (m .apart)
+
+ends : (t : List ℕ) (next n : ℕ) → (handlesTest t next n ≡ true → ⊥) → false ≡ handlesTest t next n
+ends t next n f = split (handlesTest t next n) (λ h. absurd (f h)) (λ h. sym h)
 
 module _ (t : List ℕ) (next n i : ℕ) (l : i < n) where
   -- what the tests say, where both hold
@@ -149,17 +155,38 @@ module _ (t : List ℕ) (next n i : ℕ) (l : i < n) where
         (λ j k e. distinct-ne blank (instancesIn n t) (p .1) j i k (omega arith) (handle-read n t i l ∙ sym e ∙ sym (handle-read n t j (omega arith)))),
       )
 
-  ends : (handlesTest t next n ≡ true → ⊥) → false ≡ handlesTest t next n
-  ends f = split (handlesTest t next n) (λ h. absurd (f h)) (λ h. sym h)
-
   pub low-end : handleAt t i ≡ 0 → false ≡ handlesTest t next n
-  low-end z = ends (λ h. omega (arith, holds h .0))
+  low-end z = ends t next n (λ h. omega (arith, holds h .0))
 
   pub high-end : next ≤ handleAt t i → false ≡ handlesTest t next n
-  high-end z = ends (λ h. omega (arith, holds h .1))
+  high-end z = ends t next n (λ h. omega (arith, holds h .1))
 
   pub used-end : all (otherHandle (handleAt t i)) (instancesIn i t) ≡ false → false ≡ handlesTest t next n
-  used-end z = ends (λ h. clash (all (otherHandle (handleAt t i)) (instancesIn i t)) (others-all t i (handleAt t i) (holds h .2)) z)
+  used-end z = ends t next n (λ h. clash (all (otherHandle (handleAt t i)) (instancesIn i t)) (others-all t i (handleAt t i) (holds h .2)) z)
+
+-- ---- the handles as numbers
+
+pub noted-turn : (t hs : List ℕ) (i v : ℕ) → i < length hs → v ≡ handleAt t i → ((j : ℕ) → j < i → getD hs j 0 ≡ handleAt t j) →
+    (j : ℕ) → j < i + 1 → getD (set hs i v) j 0 ≡ handleAt t j
+noted-turn t hs i v l e n =
+    below-more (λ (j : ℕ). getD (set hs i v) j 0 ≡ handleAt t j) i
+    (λ j k. getD-set-other hs i j v 0 (λ q. omega arith) ∙ n j k) (getD-set-same hs i v 0 l ∙ e)
+
+module _ (t hs : List ℕ) (next n : ℕ) (noted : (j : ℕ) → j < n → getD hs j 0 ≡ handleAt t j) where
+  noted-ok : Within next n hs → Apart n hs → true ≡ handlesTest t next n
+  noted-ok w a =
+      handles-ok t next n (λ j l. rw (noted j l) at (w j l .0)) (λ j l. rw (noted j l) at (w j l .1))
+      (λ k l j m e. a j k m l (noted j (omega arith) ∙ e ∙ sym (noted k l)))
+
+  pub noted-outside : (Within next n hs → ⊥) → false ≡ handlesTest t next n
+  noted-outside f = ends t next n (λ h. f (λ j l. (rw (noted j l) (holds t next n j l h .0), rw (noted j l) (holds t next n j l h .1))))
+
+  noted-twice : (Apart n hs → ⊥) → false ≡ handlesTest t next n
+  noted-twice f = ends t next n (λ h. f (λ j k l m e. holds t next n k m h .2 j l (sym (noted j (omega arith)) ∙ e ∙ noted k m)))
+
+  pub noted-by : (r : Bool) → Within next n hs → (r ≡ true → Apart n hs) → (r ≡ false → Apart n hs → ⊥) → r ≡ handlesTest t next n
+  noted-by true w y z = noted-ok w (y refl)
+  noted-by false w y z = noted-twice (z refl)
 
 -- ---- the used records
 

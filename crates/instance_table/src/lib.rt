@@ -13,7 +13,7 @@ ghost use mathlib.Core.Bool.{true, _&&_};
 ghost use mathlib.Core.List.{List, _∷_, _++_, map};
 ghost use mathlib.Core.Path.{_≡_};
 ghost use Prim.Native.Nat.{ℕ, _+_, _*_, _≤_, _<_};
-ghost use lib.ListN.{length, take, drop, set};
+ghost use lib.ListN.{length, getD, take, drop, set};
 ghost use Rattle.model.specs.Guids.{num};
 ghost use Rattle.model.specs.Instances.{hasHandle};
 ghost use Rattle.model.specs.Reads.{usedIn, tableOk};
@@ -41,14 +41,11 @@ fn number_at(t: &[u8], i: usize) -> u64
     octets::get_u64(t, i * 512 + 16)
 }
 
-// Whether none of the first n instances has the handle h. A flag of 0 says so already.
-fn fresh(t: &[u8], n: usize, h: u64, flag: u8) -> bool
-    requires { ⌜ (n * 512 ≤ length (now t)) × (flag ≡ 0 → all (otherHandle h) (instancesIn n (now t)) ≡ true) ⌝ }
+// Whether none of the first n instances has the handle h.
+fn fresh(t: &[u8], n: usize, h: u64) -> bool
+    requires { ⌜ n * 512 ≤ length (now t) ⌝ }
     ensures { λ r. ⌜ r ≡ all (otherHandle h) (instancesIn n (now (t .entry))) ⌝ }
 {
-    if flag == 0 {
-        return true;
-    }
     let mut j = 0;
     while j < n {
         if number_at(t, j) == h {
@@ -59,13 +56,40 @@ fn fresh(t: &[u8], n: usize, h: u64, flag: u8) -> bool
     true
 }
 
+// The handles of the first count instances are noted in hs, as numbers.
+fn note(t: &[u8], count: usize, hs: &mut [u64; 128])
+    requires { ⌜ (count ≤ 128) × (count * 512 ≤ length (now t)) × (length (now hs) ≡ 128) ⌝ }
+    ensures { λ _. ⌜ ((j : ℕ) → j < count → getD (now (hs .exit)) j 0 ≡ handleAt (now (t .entry)) j) ⌝ }
+{
+    let mut i = 0;
+    while i < count {
+        hs[i] = number_at(t, i);
+        i += 1;
+    }
+}
+
+// The same as handles_ok, by an order of the handles.
+fn ordered_ok(t: &[u8], count: usize, next: u64) -> bool
+    requires { ⌜ (count ≤ 128) × (count * 512 ≤ length (now t)) ⌝ }
+    ensures { λ r. ⌜ r ≡ (all (handleBelow next) (instancesIn count (now (t .entry))) && handlesDistinct (instancesIn count (now (t .entry)))) ⌝ }
+{
+    let mut hs = [0u64; 128];
+    note(t, count, &mut hs);
+    if !handle_order::within(&hs, count, next) {
+        return false;
+    }
+    handle_order::distinct(&hs, count)
+}
+
 // Whether the handles of the first count instances are from 1 to below next, and distinct. A handle that differs modulo
-// 1,024 from all before it needs no comparison.
+// 1,024 from all before it needs no comparison. The others are compared one by one, until that took more than an order of
+// all handles takes.
 fn handles_ok(t: &[u8], count: usize, next: u64) -> bool
     requires { ⌜ count * 512 ≤ length (now t) ⌝ }
     ensures { λ r. ⌜ r ≡ (all (handleBelow next) (instancesIn count (now (t .entry))) && handlesDistinct (instancesIn count (now (t .entry)))) ⌝ }
 {
     let mut met = [0u8; 1024];
+    let mut scanned = 0;
     let mut i = 0;
     while i < count {
         let h = number_at(t, i);
@@ -76,8 +100,14 @@ fn handles_ok(t: &[u8], count: usize, next: u64) -> bool
             return false;
         }
         let r = (h % 1024) as usize;
-        if !fresh(t, i, h, met[r]) {
-            return false;
+        if met[r] != 0 {
+            if (1280 < scanned) & (count <= 128) {
+                return ordered_ok(t, count, next);
+            }
+            if !fresh(t, i, h) {
+                return false;
+            }
+            scanned = std::num::wrapping_add_usize(scanned, i);
         }
         met[r] = 1;
         i += 1;

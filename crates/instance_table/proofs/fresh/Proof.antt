@@ -10,13 +10,10 @@ use Rattle.instance_table.proofs.fresh.Statement.{statement}
 use Rattle.instance_table.proofs.fresh.Tie as tie
 
 abbrev Inv-loop : tie.InvT-loop
-Inv-loop t n h flag j₀ j = (j ≤ n) × ((i : ℕ) → i < j → handleAt t i ≢ h)
+Inv-loop t n h j₀ j = (j ≤ n) × ((i : ℕ) → i < j → handleAt t i ≢ h)
 
 abbrev μ-loop : tie.MeasureT-loop
-μ-loop t n h flag j₀ j = n - j
-
-returns : tie.Need-returns Inv-loop μ-loop
-returns c = sym (c .before .before .pre .1 (c .if1 .taken))
+μ-loop t n h j₀ j = n - j
 
 loop-holds : tie.Need-loop-holds Inv-loop μ-loop
 loop-holds c = (omega arith, (λ i l. absurd (omega arith)))
@@ -24,11 +21,11 @@ loop-holds c = (omega arith, (λ i l. absurd (omega arith)))
 number-at-requires : tie.Need-number-at-requires Inv-loop μ-loop
 number-at-requires c κs = omega arith
 
-returns-2 : tie.Need-returns-2 Inv-loop μ-loop
-returns-2 c =
-    let a = c .before .before .before .before .before .before .args in
+returns : tie.Need-returns Inv-loop μ-loop
+returns c =
+    let a = c .before .before .before .before .before .args in
     let l = c .before .before .before .loop in
-    sym (others-not (a .t .now) (a .n) (a .h) (l .j) (omega arith) (sym (c .before .number-at .ensures) ∙ c .if2 .taken))
+    sym (others-not (a .t .now) (a .n) (a .h) (l .j) (omega arith) (sym (c .before .number-at .ensures) ∙ c .if1 .taken))
 
 add-j : tie.Need-add-j Inv-loop μ-loop
 add-j c = omega arith
@@ -39,11 +36,11 @@ loop-less c = omega arith
 loop-again : tie.Need-loop-again Inv-loop μ-loop
 loop-again c =
     let l = c .before .before .before .loop in
-    (omega arith, below-more _ _ (l .inv .1) (λ e. c .if2 .left (c .before .number-at .ensures ∙ e)))
+    (omega arith, below-more _ _ (l .inv .1) (λ e. c .if1 .left (c .before .number-at .ensures ∙ e)))
 
-returns-3 : tie.Need-returns-3 Inv-loop μ-loop
-returns-3 c =
-    let a = c .before .before .before .before .args in
+returns-2 : tie.Need-returns-2 Inv-loop μ-loop
+returns-2 c =
+    let a = c .before .before .before .args in
     let l = c .before .loop in
     sym (others-all (a .t .now) (a .n) (a .h) (λ i m. l .inv .1 i (omega arith)))
 
@@ -53,11 +50,10 @@ fresh-spec =
     (tie.spec
     Inv-loop
     μ-loop
-    returns
     loop-holds
     number-at-requires
-    returns-2
+    returns
     add-j
     loop-less
     loop-again
-    returns-3)
+    returns-2)

@@ -1,18 +1,22 @@
 -- `handles_ok` meets its contract: the handles passed are as they should be, and the flags of their remainders are set.
 -- Assumes nothing.
 use Prim.Native.Nat.{_-_, _≤_}
+use mathlib.Core.Logic.{⊎-elim}
 use mathlib.Core.Path.{_≡_, sym, _∙_}
 use native.Mathlib.Omega.{arith}
-use borrow.Author.Tests.{not-true, not-false}
+use borrow.Author.Needs.{needs}
+use borrow.Author.Tests.{leb-true, not-true, not-false}
+use lib.Dec.{leb, ltb}
+use Rattle.model.proofs.Tests.{both}
 use Rattle.instance_table.proofs.Handles.{Met, met-start, met-tells, met-turn, met-end, low-end, high-end, used-end}
 use Rattle.instance_table.proofs.handles_ok.Statement.{statement}
 use Rattle.instance_table.proofs.handles_ok.Tie as tie
 
 abbrev Inv-loop : tie.InvT-loop
-Inv-loop t count next met₀ i₀ met i = (i ≤ count) × Met t next i met
+Inv-loop t count next met₀ scanned₀ i₀ met scanned i = (i ≤ count) × Met t next i met
 
 abbrev μ-loop : tie.MeasureT-loop
-μ-loop t count next met₀ i₀ met i = count - i
+μ-loop t count next met₀ scanned₀ i₀ met scanned i = count - i
 
 loop-holds : tie.Need-loop-holds Inv-loop μ-loop
 loop-holds c = (omega arith, met-start (c .before .args .t .now) (c .before .args .next))
@@ -32,18 +36,30 @@ returns-2 c =
     let l = c .before .before .before .before .loop in
     high-end (a .t .now) (a .next) (a .count) (l .i) (omega arith) (omega (arith, c .before .before .number-at .ensures))
 
-array-read-fresh : tie.Need-array-read-fresh Inv-loop μ-loop
-array-read-fresh c = omega arith
+array-read-if3 : tie.Need-array-read-if3 Inv-loop μ-loop
+array-read-if3 c = omega arith
 
-fresh-requires : tie.Need-fresh-requires Inv-loop μ-loop
-fresh-requires c κs = (omega arith, met-tells (c .before .before .before .before .loop .inv .1) (c .before .before .number-at .result))
-
-returns-3 : tie.Need-returns-3 Inv-loop μ-loop
-returns-3 c =
+ordered-ok-requires : tie.Need-ordered-ok-requires Inv-loop μ-loop
+ordered-ok-requires c κs =
     let a = c .before .before .before .before .before .before .before .before .args in
     let l = c .before .before .before .before .before .before .loop in
+    (leb-true (a .count) 128 (both (ltb 1280 (l .scanned)) (leb (a .count) 128) (c .if4 .taken) .1), omega arith)
+
+returns-3 : tie.Need-returns-3 Inv-loop μ-loop
+returns-3 c = c .ordered-ok .ensures
+
+fresh-requires : tie.Need-fresh-requires Inv-loop μ-loop
+fresh-requires c κs = omega arith
+
+returns-4 : tie.Need-returns-4 Inv-loop μ-loop
+returns-4 c =
+    let a = c .before .before .before .before .before .before .before .before .before .before .args in
+    let l = c .before .before .before .before .before .before .before .before .loop in
     used-end (a .t .now) (a .next) (a .count) (l .i) (omega arith)
-    (rw (← c .before .before .before .before .number-at .ensures) (sym (c .before .fresh .ensures) ∙ not-true _ (c .if3 .taken)))
+    (rw (← c .before .before .before .before .before .before .number-at .ensures) (sym (c .before .fresh .ensures) ∙ not-true _ (c .if5 .taken)))
+
+wrapping-add-usize-requires : tie.Need-wrapping-add-usize-requires Inv-loop μ-loop
+wrapping-add-usize-requires c κs = search needs
 
 array-write-met : tie.Need-array-write-met Inv-loop μ-loop
 array-write-met c = omega arith
@@ -56,15 +72,15 @@ loop-less c = omega arith
 
 loop-again : tie.Need-loop-again Inv-loop μ-loop
 loop-again c =
-    let l = c .before .before .before .before .before .before .loop in
-    let n = c .before .before .before .before .number-at in (
+    let l = c .before .before .before .before .before .loop in
+    let n = c .before .before .before .number-at in (
       omega arith,
-      met-turn (l .inv .1) (n .result) (n .ensures) (c .before .before .before .if1 .left) (c .before .before .if2 .left)
-          (sym (c .before .fresh .ensures) ∙ not-false _ (c .if3 .left)),
+      met-turn (l .inv .1) (n .result) (n .ensures) (c .before .before .if1 .left) (c .before .if2 .left)
+          (⊎-elim (λ x. sym (x .2 .ensures) ∙ not-false _ (x .3 .left)) (λ x. met-tells (l .inv .1) (n .result) (x .0 .left)) (c .if3 .came)),
     )
 
-returns-4 : tie.Need-returns-4 Inv-loop μ-loop
-returns-4 c =
+returns-5 : tie.Need-returns-5 Inv-loop μ-loop
+returns-5 c =
     let a = c .before .before .before .args in
     let l = c .before .loop in
     let e : l .i ≡ a .count = omega arith in
@@ -80,11 +96,14 @@ handles-ok-spec =
     number-at-requires
     returns
     returns-2
-    array-read-fresh
-    fresh-requires
+    array-read-if3
+    ordered-ok-requires
     returns-3
+    fresh-requires
+    returns-4
+    wrapping-add-usize-requires
     array-write-met
     add-i
     loop-less
     loop-again
-    returns-4)
+    returns-5)

@@ -1,0 +1,2 @@
+-- Laws that the proofs of handle_order cite.
+pub mod Order

@@ -1,0 +1,2 @@
+-- What the contracts of handle_order cite.
+pub mod Apart
