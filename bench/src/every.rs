@@ -75,12 +75,18 @@ fn expiries(size: Size) -> Vec<Sweep> {
             start(size.set),
             expire,
             Answer::yes(true),
-            |before, after| writers_changed(before, after) && all_lost(before, after),
+            |before, after| {
+                writers_changed(before, after)
+                    && all_lost(before, after)
+                    && before.instances == after.instances
+            },
         ),
     ]
 }
 
-/// The loss of a writer that all instances have, and no other.
+/// The loss of a writer that all instances have, and no other, and that owns
+/// them: code 7 leaves the owner and the writer's record, 50 takes the record
+/// out, and 51 lets the writer depart.
 fn losses(size: Size) -> Vec<Sweep> {
     let mut start = state(size, size.instances);
     let guid = start.writers[size.writers / 2].guid;
@@ -91,36 +97,66 @@ fn losses(size: Size) -> Vec<Sweep> {
     let all = size.instances as u32;
     let dropped = Answer { listed: all, ..Answer::default() };
     let left = Answer { count: all, listed: all, ..Answer::yes(true) };
-    let done: Done = |before, after| {
-        instances_changed(before, after)
-            && after.instances.iter().all(|i| i.writers.is_empty() && i.kind == Kind::NoWriters)
+    let drop: Done = |before, after| {
+        emptied(before, after)
+            && after.instances.iter().all(|i| i.owner.is_some())
+            && before.writers == after.writers
+    };
+    let part: Done = |before, after| {
+        emptied(before, after)
+            && after.instances.iter().all(|i| i.owner.is_none())
+            && before.writers.len() == after.writers.len() + 1
+    };
+    let depart: Done = |before, after| {
+        emptied(before, after)
+            && after.instances.iter().all(|i| i.owner.is_none())
+            && after.writers.iter().filter(|w| w.standing == Standing::Departed).count() == 1
     };
     [
-        (7, "drop_writer of the only writer", dropped),
-        (50, "part of the only writer", left),
-        (51, "depart of the only writer", left),
+        (7, "drop_writer of the only writer", dropped, drop),
+        (50, "part of the only writer", left, part),
+        (51, "depart of the only writer", left, depart),
     ]
-    .map(|(code, name, answer)| {
+    .map(|(code, name, answer, done)| {
         let sheet = Filled::code(code).guid(guid).time1(at(LAST + 1)).bits(TIME1_PRESENT);
         sweep(name, start.clone(), sheet, answer, done)
     })
     .into()
 }
 
-/// One owner of all instances.
+/// Whether every instance lost its writers, and is without them.
+fn emptied(before: &State, after: &State) -> bool {
+    instances_changed(before, after)
+        && after.instances.iter().all(|i| i.writers.is_empty() && i.kind == Kind::NoWriters)
+}
+
+/// One owner of all instances, or one participant whose entities own them.
 fn owners(size: Size) -> Vec<Sweep> {
-    let mut start = state(size, size.instances);
-    let guid = start.writers[size.writers / 2].guid;
-    start.instances.iter_mut().for_each(|i| i.owner = Some((guid, 1)));
+    let mut one = state(size, size.instances);
+    let guid = one.writers[size.writers / 2].guid;
+    one.instances.iter_mut().for_each(|i| i.owner = Some((guid, 1)));
+    let mut many = one.clone();
+    for (place, instance) in many.instances.iter_mut().enumerate() {
+        let mut entity = guid;
+        entity[12..].copy_from_slice(&(place as u32).to_be_bytes());
+        instance.owner = Some((entity, 1));
+    }
     let cleared = Answer::count(size.instances as u32);
+    let stronger: Done = |before, after| {
+        instances_changed(before, after)
+            && after.instances.iter().all(|i| matches!(i.owner, Some((_, 2))))
+    };
+    let unowned: Done = |before, after| {
+        instances_changed(before, after) && after.instances.iter().all(|i| i.owner.is_none())
+    };
     [
-        (17, "update_owner_strength of the owner of all", Answer::default()),
-        (18, "clear_owner_for_writer of the owner of all", cleared),
-        (19, "clear_owner_for_writer_prefix of the owner of all", cleared),
+        (17, "update_owner_strength of the owner of all", &one, Answer::default(), stronger),
+        (18, "clear_owner_for_writer of the owner of all", &one, cleared, unowned),
+        (19, "clear_owner_for_writer_prefix of the owner of all", &many, cleared, unowned),
     ]
-    .map(|(code, name, answer)| {
+    .map(|(code, name, start, answer, done)| {
         let sheet = Filled::code(code).guid(guid).strength(2);
-        sweep(name, start.clone(), sheet, answer, instances_changed)
+        sweep(name, start.clone(), sheet, answer, done)
     })
     .into()
 }

@@ -61,8 +61,8 @@ fn each_sweep(floors: [f64; 2]) {
     mixes_head("call on every record");
     for (size, floor) in full().into_iter().zip(floors) {
         for Sweep { mix, done } in every::sweeps(size) {
-            let after = agree(&mix);
-            assert!(after.is_none_or(|after| done(&mix.start, &after)), "{}", mix.name);
+            let after = agree(&mix).expect("the Rust, whose sources are there");
+            assert!(done(&mix.start, &after), "{}", mix.name);
             row(mix.name, size, timed(&mix), floor);
         }
     }
@@ -83,7 +83,7 @@ fn each_handles(floors: [f64; 2]) {
     let [large, small] = full().map(handles::statuses);
     let rows = large.zip(small).map(|(large, small)| {
         let times = [&large, &small].map(|mix| {
-            agree(mix);
+            agree(mix).expect("the Rust, whose sources are there");
             timed_call(mix.name, &mix.start, &mix.sheets[0])
         });
         (large.name, times)
