@@ -2,8 +2,8 @@
 
 use lists::fill::{BY_SOURCE, Filled, LEASE_PRESENT, TIME1_PRESENT};
 use reading::State;
-use reading::layout::Time;
 
+use crate::mixes::{Mix, at, mix};
 use crate::state::{APART, LAST, LEASE};
 
 /// Codes and the names of their calls.
@@ -44,12 +44,12 @@ const NAMES: [(u8, &str); 34] = [
     (51, "depart"),
 ];
 
-/// For each code a sheet about an instance in the middle of the table and its
+/// For each code a call about an instance in the middle of the table and its
 /// owner; expire and lapse find one writer due.
-pub fn calls(state: &State) -> Vec<(&'static str, Vec<u8>)> {
+pub fn calls(state: &State) -> Vec<Mix> {
     let instance = &state.instances[state.instances.len() / 2];
     let (guid, strength) = instance.owner.unwrap_or_default();
-    let time = Time { seconds: LAST + 1, nanoseconds: 0 };
+    let time = at(LAST + 1);
     NAMES
         .into_iter()
         .map(|(code, name)| {
@@ -69,7 +69,7 @@ pub fn calls(state: &State) -> Vec<(&'static str, Vec<u8>)> {
                 .limit(if code == 40 { 0 } else { -1 })
                 .strength(strength)
                 .bits(TIME1_PRESENT | LEASE_PRESENT | BY_SOURCE);
-            (name, sheet.0)
+            mix(name, state.clone(), vec![sheet], |a| a.number == 0)
         })
         .collect()
 }

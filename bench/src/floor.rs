@@ -4,7 +4,7 @@
 use std::hint::black_box;
 
 use crate::state::SIZES;
-use crate::{ROUNDS, each, median};
+use crate::{ROUNDS, each, median, ns};
 
 /// Bytes that a turn of the floor's loop takes: a shorter loop takes twice as
 /// long where the linker happens to put it across a line of the cache.
@@ -22,7 +22,7 @@ pub fn floors() -> [f64; 2] {
     SIZES.map(|sizes| {
         let (places, lent) = (sizes[0].places, sizes[0].lent());
         let [floor, unrolled] = [floor(lent), unrolled(lent)];
-        println!("| {places} | {lent} | {floor:.0} | {unrolled:.0} |");
+        println!("| {places} | {lent} | {} | {} |", ns(floor, 0), ns(unrolled, 0));
         floor
     })
 }
@@ -41,7 +41,9 @@ fn floor(lent: usize) -> f64 {
     median((0..ROUNDS).map(|_| each(1, pass)).collect())
 }
 
-/// The same pass, unrolled.
+/// The same pass, unrolled: 64 loads a turn, where the floor has 8. On x86-64 it
+/// takes as long, since it is the loads, of 16 bytes each, that bound either:
+/// with wider ones (`-C target-cpu=native`) both are shorter, and alike again.
 fn unrolled(lent: usize) -> f64 {
     let bytes = vec![0u8; lent];
     let pass = || {

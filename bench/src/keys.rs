@@ -6,7 +6,7 @@ use compare::library;
 use reading::bytes::Key;
 
 use crate::md5::md5;
-use crate::{ROUNDS, each, median};
+use crate::{ROUNDS, each, median, ns};
 
 /// Keys in a round.
 const CALLS: usize = 64;
@@ -22,7 +22,8 @@ pub fn each_key() {
         let key: Vec<u8> = (0..length).map(|place| place as u8).collect();
         assert_eq!(of_rust(&key, largest), of_library(&key, largest), "{length}, {largest}");
         let (rust, library) = timed(&key, largest);
-        println!("| {length} | {largest} | {rust:.1} | {library:.1} | {:.1} |", library / rust);
+        let by_rust = library / rust;
+        println!("| {length} | {largest} | {} | {} | {by_rust:.1} |", ns(rust, 1), ns(library, 1));
     }
 }
 

@@ -3,6 +3,9 @@
 //! pass over the lent bytes as the floor; then each call by itself, the calls
 //! that concern every record and handles that clash; then keys through the
 //! library and through a plain MD5 in Rust, and stamps beside plain arithmetic.
+//!
+//! With the argument `exact` each time has behind it, in brackets, what it was
+//! rounded from: `side-by-side` makes ratios of that.
 
 mod buffers;
 mod calls;
@@ -30,6 +33,9 @@ use state::{SIZES, Size, full, state};
 /// Each list is run so often; the median counts.
 const ROUNDS: usize = 301;
 
+/// `main` has looked for it.
+const THERE: &str = "the Rust, whose sources are there";
+
 fn main() {
     if !library::PRESENT {
         println!("SKIPPED: no libdcps_c.a (rt staticlib dcps_c, or set DCPS_LIB_DIR)");
@@ -44,6 +50,7 @@ fn main() {
     for (sizes, floor) in SIZES.iter().zip(floors) {
         for size in *sizes {
             for mix in mixes(*size) {
+                agree(&mix);
                 row(mix.name, *size, timed(&mix), floor);
             }
             row("reads", *size, timed_reads(&state(*size, size.instances)), floor);
@@ -61,8 +68,7 @@ fn each_sweep(floors: [f64; 2]) {
     mixes_head("call on every record");
     for (size, floor) in full().into_iter().zip(floors) {
         for Sweep { mix, done } in every::sweeps(size) {
-            let after = agree(&mix).expect("the Rust, whose sources are there");
-            assert!(done(&mix.start, &after), "{}", mix.name);
+            assert!(done(&mix.start, &agree(&mix)), "{}", mix.name);
             row(mix.name, size, timed(&mix), floor);
         }
     }
@@ -70,48 +76,35 @@ fn each_sweep(floors: [f64; 2]) {
 
 /// The library's time for each call by itself, on the full states.
 fn each_call(floors: [f64; 2]) {
-    let [large, small] = full().map(|size| state(size, size.instances));
-    let sheets = calls::calls(&large).into_iter().zip(calls::calls(&small));
-    let rows = sheets.map(|((name, of_large), (_, of_small))| {
-        (name, [timed_call(name, &large, &of_large), timed_call(name, &small, &of_small)])
-    });
-    on_full("call", floors, rows);
+    on_full("call", floors, full().map(|size| calls::calls(&state(size, size.instances))));
 }
 
 /// The library's time for take_status, by the handles of the full states.
 fn each_handles(floors: [f64; 2]) {
-    let [large, small] = full().map(handles::statuses);
-    let rows = large.zip(small).map(|(large, small)| {
-        let times = [&large, &small].map(|mix| {
-            agree(mix).expect("the Rust, whose sources are there");
-            timed_call(mix.name, &mix.start, &mix.sheets[0])
-        });
-        (large.name, times)
-    });
-    on_full("take_status, handles", floors, rows);
+    on_full("take_status, handles", floors, full().map(handles::statuses));
 }
 
-/// A table of what the library takes on the full states, each row timed as it
-/// is printed.
-fn on_full(what: &str, floors: [f64; 2], rows: impl Iterator<Item = (&'static str, [f64; 2])>) {
+/// A table of what the library takes on the full states for lists of one call,
+/// each row timed as it is printed.
+fn on_full(what: &str, floors: [f64; 2], [large, small]: [Vec<Mix>; 2]) {
     let [a, b] = full().map(|size| size.name);
     println!("\n| {what} | on {a}, ns | library / floor | on {b}, ns | library / floor |");
     println!("|---|---|---|---|---|");
-    for (name, [a, b]) in rows {
+    for (large, small) in large.iter().zip(&small) {
+        let [a, b] = [large, small].map(timed_call);
         let [by_a, by_b] = [a / floors[0], b / floors[1]];
-        println!("| {name} | {a:.0} | {by_a:.1} | {b:.0} | {by_b:.1} |");
+        println!("| {} | {} | {by_a:.1} | {} | {by_b:.1} |", large.name, ns(a, 0), ns(b, 0));
     }
 }
 
-/// Nanoseconds of a call of the library that is accepted.
-fn timed_call(name: &str, start: &State, sheet: &[u8]) -> f64 {
+/// Nanoseconds of the library for a list of one call, on which both sides agree.
+fn timed_call(mix: &Mix) -> f64 {
+    agree(mix);
     let rounds = (0..ROUNDS).map(|_| {
-        let mut buffers = Buffers::of(start);
-        let time = each(1, || {
-            black_box(buffers.call(black_box(sheet)));
-        });
-        assert_eq!(buffers.answer[0], 0, "{name}");
-        time
+        let mut buffers = Buffers::of(&mix.start);
+        each(1, || {
+            black_box(buffers.call(black_box(&mix.sheets[0])));
+        })
     });
     median(rounds.collect())
 }
@@ -124,13 +117,22 @@ fn mixes_head(what: &str) {
     println!("|---|---|---|---|---|---|---|");
 }
 
-fn row(name: &str, size: Size, times: Option<(f64, f64)>, floor: f64) {
-    let Some((rust, library)) = times else { return };
+fn row(name: &str, size: Size, (rust, library): (f64, f64), floor: f64) {
     let (by_rust, by_floor) = (library / rust, library / floor);
     println!(
-        "| {name} | {} | {} | {rust:.0} | {library:.0} | {by_rust:.1} | {by_floor:.1} |",
-        size.places, size.name
+        "| {name} | {} | {} | {} | {} | {by_rust:.1} | {by_floor:.1} |",
+        size.places,
+        size.name,
+        ns(rust, 0),
+        ns(library, 0)
     );
+}
+
+/// A time as a cell of a table, with so many digits behind the point.
+fn ns(time: f64, digits: usize) -> String {
+    let exact = std::env::args().any(|word| word == "exact");
+    let exact = if exact { format!(" ({time})") } else { String::new() };
+    format!("{time:.digits$}{exact}")
 }
 
 fn median(mut all: Vec<f64>) -> f64 {
@@ -149,13 +151,12 @@ fn sheet_of(bytes: &[u8]) -> Sheet<'_> {
     Sheet::of(bytes).expect("sheets of 256 bytes")
 }
 
-/// Nanoseconds a call of the Rust and of the library; none without the Rust.
-fn timed(mix: &Mix) -> Option<(f64, f64)> {
-    agree(mix)?;
+/// Nanoseconds a call of the Rust and of the library.
+fn timed(mix: &Mix) -> (f64, f64) {
     let (mut rusts, mut libraries) = (Vec::new(), Vec::new());
     for _ in 0..ROUNDS {
         let mut rust = Original::at(&mix.start);
-        let rust = rust.as_mut()?;
+        let rust = rust.as_mut().expect(THERE);
         rusts.push(each(mix.sheets.len(), || {
             for sheet in &mix.sheets {
                 black_box(rust.turn(sheet_of(black_box(sheet))));
@@ -168,14 +169,14 @@ fn timed(mix: &Mix) -> Option<(f64, f64)> {
             }
         }));
     }
-    Some((median(rusts), median(libraries)))
+    (median(rusts), median(libraries))
 }
 
 /// Both sides give the same answers, and the ones that the mix is about, and
 /// list the same; what they leave is the same state, which this answers.
-fn agree(mix: &Mix) -> Option<State> {
+fn agree(mix: &Mix) -> State {
     let (mut rust, mut buffers) = (Original::at(&mix.start), Buffers::of(&mix.start));
-    let rust = rust.as_mut()?;
+    let rust = rust.as_mut().expect(THERE);
     for (n, sheet) in mix.sheets.iter().enumerate() {
         buffers.call(sheet);
         let answer = Answer::of_bytes(&buffers.answer);
@@ -184,14 +185,14 @@ fn agree(mix: &Mix) -> Option<State> {
         assert_eq!(listed, buffers.out[..listed.len()], "{}, call {n}", mix.name);
         assert!((mix.expected)(&answer), "{}, call {n}: {answer:?}", mix.name);
     }
-    let left = buffers.state();
-    assert_eq!(left, Some(rust.state()), "{}", mix.name);
+    let left = rust.state();
+    assert_eq!(buffers.state().as_ref(), Some(&left), "{}", mix.name);
     left
 }
 
-fn timed_reads(state: &State) -> Option<(f64, f64)> {
+fn timed_reads(state: &State) -> (f64, f64) {
     let (rust, mut buffers) = (Original::at(state), Buffers::of(state));
-    let rust = rust.as_ref()?;
+    let rust = rust.as_ref().expect(THERE);
     let asked = reads::questions(state);
     let pens = &buffers.image.pens[..buffers.pens];
     let (head, out) = (&buffers.head, &mut buffers.out);
@@ -212,5 +213,5 @@ fn timed_reads(state: &State) -> Option<(f64, f64)> {
             }
         }));
     }
-    Some((median(rusts), median(libraries)))
+    (median(rusts), median(libraries))
 }

@@ -8,7 +8,7 @@ use compare::read::READ_BYTES;
 use reading::bytes::array_at;
 use reading::wire_time::{MILLISECOND, SECOND};
 
-use crate::{ROUNDS, each, median};
+use crate::{ROUNDS, each, median, ns};
 
 /// Stamps in a round, one in each millisecond.
 const STAMPS: u32 = 1_000;
@@ -28,7 +28,7 @@ pub fn each_conversion() {
 }
 
 fn row(to: &str, name: &str, (rust, library): (f64, f64)) {
-    println!("| {to} | {name} | {rust:.1} | {library:.1} | {:.1} |", library / rust);
+    println!("| {to} | {name} | {} | {} | {:.1} |", ns(rust, 1), ns(library, 1), library / rust);
 }
 
 /// Nanoseconds a stamp of the Rust and of the library, which give the same. The
