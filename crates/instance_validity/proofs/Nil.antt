@@ -1,22 +1,28 @@
 -- Zeros in bytes are zeros as numbers.
+--     zero-time     two numbers of 4 bytes are 0 where the 8 bytes are as one number
 --     guids-nil     GUIDs are nil where their bytes are zero
 --     set-tail      the unused places of the writer set are nil where the record's end is zero
 -- Assumes nothing.
 use Prim.Native.Nat.{ℕ, zero, suc, _+_, _-_, _*_, _^_, _≤_}
+use mathlib.Core.Bool.{_&&_}
 use mathlib.Core.Path.{_≡_, refl, sym, ap, _∙_}
 use mathlib.Core.List.{List}
 use native.Mathlib.Omega.{arith}
+use lib.Dec.{eqb}
 use lib.ListN.{length, take, drop, length-drop}
 use lib.Seq.{take-add, take-all, drop-drop, length-take-le}
 use Rattle.octets.specs.Octets.{be}
 use Rattle.octets.specs.Zeros.{allZero}
 use Rattle.octets.proofs.ZeroLaws.{allZero-append}
-use Rattle.zeros.proofs.Words.{zero-sum, be-zero}
+use Rattle.zeros.proofs.Words.{zero-sum, be-zero, zeros-add}
 use Rattle.model.specs.Guids.{num, same, nil, guidOf, guidsIn}
 use Rattle.model.specs.Layout.{readRows}
 use Rattle.model.specs.Tables.{all}
 use Rattle.model.specs.WellFormed.{isNil}
 use Rattle.model.proofs.RowLaws.{drop-read}
+
+pub zero-time : (s : List ℕ) (at : ℕ) → at + 8 ≤ length s → eqb (be 8 s at) 0 ≡ (eqb (be 4 s at) 0 && eqb (be 4 s (at + 4)) 0)
+zero-time s at h = rw (be-zero 8 s at h, be-zero 4 s at (omega arith), be-zero 4 s (at + 4) (omega arith)) (zeros-add s 4 4 at)
 
 nil-zero : (s : List ℕ) → length s ≡ 16 → same (guidOf s) nil ≡ allZero s
 unfolding num

@@ -1,27 +1,31 @@
 -- GUIDs end to end that rise from one to the next rise.
---     high-decides                      of two numbers of two digits, where the high ones differ
 --     next                              the GUID at a place is below the one behind it
+--     next-high, next-low               the high halves decide that where they differ, else the low ones
 --     rise-few, rise-next, rise-six     none or one, two and six of them
 --     rise-stop, rise-turn              the first ones do not rise, or do: then the rest decides
 -- Assumes nothing.
-use Prim.Native.Nat.{ℕ, zero, suc, _+_, _-_, _*_, _≤_, _<_}
+use Prim.Native.Nat.{ℕ, zero, suc, _+_, _-_, _*_, _^_, _≤_, _<_}
 use mathlib.Core.Bool.{Bool, true, false, _&&_, and-true, and-false, and-assoc}
 use mathlib.Core.Path.{_≡_, refl, sym, ap, _∙_}
 use mathlib.Core.List.{List, [], _∷_}
 use native.Mathlib.Nat.{le-of-lt}
 use native.Mathlib.Omega.{arith}
 use lib.Dec.{ltb}
-use lib.ListN.{take, drop}
+use lib.ListN.{drop}
 use lib.Seq.{drop-drop}
 use borrow.Author.Tests.{ltb-true, ltb-false, lt-ltb, le-ltb}
+use Rattle.octets.specs.Bounds.{Bytes}
+use Rattle.octets.specs.Octets.{be}
+use Rattle.octets.proofs.BoundLaws.{be-lt}
 use Rattle.model.proofs.Tests.{both}
-use Rattle.model.specs.Guids.{num, less, guidAt, guidOf, guidsIn}
+use Rattle.model.specs.Guids.{num, less, guidAt, guidsIn}
 use Rattle.model.specs.Layout.{readRows}
 use Rattle.model.specs.Tables.{above, rising}
 use Rattle.model.proofs.GuidLaws.{guid-part}
-use Rattle.guid.proofs.Digits.{digit-lt}
+use Rattle.guid.proofs.Digits.{digit-lt, ltb-low}
 
-pub high-decides : (m h h′ l l′ : ℕ) → l < m → l′ < m → (h ≡ h′ → ⊥) → ltb (h * m + l) (h′ * m + l′) ≡ ltb h h′
+-- of two numbers of two digits, where the high ones differ
+high-decides : (m h h′ l l′ : ℕ) → l < m → l′ < m → (h ≡ h′ → ⊥) → ltb (h * m + l) (h′ * m + l′) ≡ ltb h h′
 high-decides m h h′ l l′ p p′ n = each (ltb h h′) refl
   where
     each : (t : Bool) → ltb h h′ ≡ t → ltb (h * m + l) (h′ * m + l′) ≡ t
@@ -49,6 +53,18 @@ module _ (s : List ℕ) where
   -- the GUID of the 16 bytes from at is below that of the next 16
   abbrev pub next : ℕ → Bool
   next at = less (guidAt s at) (guidAt s (at + 16))
+
+  pub next-high : Bytes s → (at a b : ℕ) → a ≡ be 8 s at → b ≡ be 8 s (at + 16) → (a ≡ b → ⊥) → next at ≡ ltb a b
+  unfolding num
+  next-high bytes at a b p q n =
+      rw (p, q)
+      (high-decides (2 ^ 64) (be 8 s at) (be 8 s (at + 16)) (be 8 s (at + 8)) (be 8 s (at + 16 + 8)) (be-lt 8 s (at + 8) bytes) (be-lt 8 s (at + 16 + 8) bytes) (λ e. n (p ∙ e ∙ sym q)))
+
+  pub next-low : (at a b l m : ℕ) → a ≡ be 8 s at → b ≡ be 8 s (at + 16) → a ≡ b → l ≡ be 8 s (at + 8) → m ≡ be 8 s (at + 24) → next at ≡ ltb l m
+  unfolding num
+  next-low at a b l m p q e u v =
+      let w : at + 16 + 8 ≡ at + 24 = omega arith in
+      rw (u, v, ← w) (ltb-low (2 ^ 64) (be 8 s at) (be 8 s (at + 16)) (be 8 s (at + 8)) (be 8 s (at + 16 + 8)) (sym p ∙ e ∙ q))
 
   -- so is each of the k from at on
   abbrev steps : ℕ → ℕ → Bool

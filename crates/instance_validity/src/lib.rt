@@ -5,10 +5,11 @@
 // Copyright 2026 ZeroDDS Contributors. SPDX-License-Identifier: Apache-2.0. Changed: written anew in Rattle, with the
 // instance as bytes of a fixed layout.
 ghost use mathlib.Core.Path.{_≡_};
-ghost use mathlib.Core.Bool.{_&&_};
+ghost use mathlib.Core.Bool.{true, _&&_};
 ghost use Prim.Native.Nat.{_+_, _*_, _≤_};
 ghost use lib.Dec.{ltb};
 ghost use lib.ListN.{length, drop};
+ghost use Rattle.octets.specs.Octets.{be};
 ghost use Rattle.model.specs.Guids.{num, less, guidAt, guidsIn};
 ghost use Rattle.model.specs.InstanceRecord.{timeAt, lifeOf, timesOf, ownerOf, holderOf, writerSetOf};
 ghost use Rattle.model.specs.Tables.{rising};
@@ -20,12 +21,10 @@ fn time_ok(s: &[u8], at: usize, present: bool) -> bool
     requires { ⌜ at + 8 ≤ length (now s) ⌝ }
     ensures { λ r. ⌜ r ≡ timeOk (timeAt (now (s .entry)) at present) ⌝ }
 {
-    let n = octets::get_u32(s, at + 4);
-    if present {
-        return n < 1000000000;
+    if !present {
+        return octets::get_u64(s, at) == 0;
     }
-    let sec = octets::get_u32(s, at);
-    (sec == 0) & (n == 0)
+    octets::get_u32(s, at + 4) < 1000000000
 }
 
 // Each of the six times is valid.
@@ -93,17 +92,44 @@ fn holder_ok(s: &[u8], f: u16) -> bool
     zeros::zero_tail(s, 112, 256)
 }
 
-// Whether the GUID of the 16 bytes from at stands before that of the next 16.
-fn next_above(s: &[u8], at: usize) -> bool
-    requires { ⌜ at + 32 ≤ length (now s) ⌝ }
-    ensures { λ r. ⌜ r ≡ less (guidAt (now (s .entry)) at) (guidAt (now (s .entry)) (at + 16)) ⌝ }
+// A GUID beside the one before it: whether it stands behind that one and, where it does, its low half.
+pub struct Next {
+    pub rises: bool,
+    pub low: u64,
+}
+
+// The GUID behind that of the 16 bytes from at, whose low half the caller has from the neighbour before. The next low half is
+// read in either branch, and not before them: so the compiler keeps the branches, and turns the bytes of a half round only
+// where its order is asked for.
+fn next_beside(s: &[u8], at: usize, low: u64) -> Next
+    requires { ⌜ (at + 32 ≤ length (now s)) × (low ≡ be 8 (now s) (at + 8)) ⌝ }
+    ensures { λ r. ⌜ (r .rises ≡ less (guidAt (now (s .entry)) at) (guidAt (now (s .entry)) (at + 16))) × (r .rises ≡ true → r .low ≡ be 8 (now (s .entry)) (at + 24)) ⌝ }
 {
     let a = octets::get_u64(s, at);
     let b = octets::get_u64(s, at + 16);
     if a != b {
-        return a < b;
+        if b < a {
+            return Next {
+                rises: false,
+                low: 0,
+            };
+        }
+        return Next {
+            rises: true,
+            low: octets::get_u64(s, at + 24),
+        };
     }
-    octets::get_u64(s, at + 8) < octets::get_u64(s, at + 24)
+    let next = octets::get_u64(s, at + 24);
+    if next <= low {
+        return Next {
+            rises: false,
+            low: 0,
+        };
+    }
+    Next {
+        rises: true,
+        low: next,
+    }
 }
 
 // Whether the six GUIDs from at strictly rise.
@@ -111,19 +137,24 @@ fn six_rise(s: &[u8], at: usize) -> bool
     requires { ⌜ at + 96 ≤ length (now s) ⌝ }
     ensures { λ r. ⌜ r ≡ rising num (guidsIn 6 (drop at (now (s .entry)))) ⌝ }
 {
-    if !next_above(s, at) {
+    let b = next_beside(s, at, octets::get_u64(s, at + 8));
+    if !b.rises {
         return false;
     }
-    if !next_above(s, at + 16) {
+    let c = next_beside(s, at + 16, b.low);
+    if !c.rises {
         return false;
     }
-    if !next_above(s, at + 32) {
+    let d = next_beside(s, at + 32, c.low);
+    if !d.rises {
         return false;
     }
-    if !next_above(s, at + 48) {
+    let e = next_beside(s, at + 48, d.low);
+    if !e.rises {
         return false;
     }
-    next_above(s, at + 64)
+    let f = next_beside(s, at + 64, e.low);
+    f.rises
 }
 
 // Whether the n GUIDs from at strictly rise, one neighbour a turn.
@@ -134,7 +165,8 @@ fn few_rise(s: &[u8], from: usize, n: usize) -> bool
     let mut at = from;
     let mut left = n;
     while 1 < left {
-        if !next_above(s, at) {
+        let b = next_beside(s, at, octets::get_u64(s, at + 8));
+        if !b.rises {
             return false;
         }
         at += 16;

@@ -19,14 +19,21 @@ abbrev μ-loop : tie.MeasureT-loop
 loop-holds : tie.Need-loop-holds Inv-loop μ-loop
 loop-holds c = (omega arith, refl)
 
-next-above-requires : tie.Need-next-above-requires Inv-loop μ-loop
-next-above-requires c κs = omega arith
+add-get-u64 : tie.Need-add-get-u64 Inv-loop μ-loop
+add-get-u64 c = omega arith
+
+get-u64-requires : tie.Need-get-u64-requires Inv-loop μ-loop
+get-u64-requires c κs = omega arith
+
+next-beside-requires : tie.Need-next-beside-requires Inv-loop μ-loop
+next-beside-requires c κs = (omega arith, c .get-u64 .ensures)
 
 returns : tie.Need-returns Inv-loop μ-loop
 returns c =
-    let a = c .before .before .before .before .before .args in
-    let l = c .before .before .before .loop in
-    sym (l .inv .1 ∙ rise-stop (a .s .now) 1 (l .left) (l .at) (omega arith) (rise-next (a .s .now) (l .at) ∙ sym (c .before .next-above .ensures) ∙ not-true _ (c .if1 .taken)))
+    let l = c .before .before .before .before .before in
+    let a = l .before .before .args in
+    let n = l .loop in
+    sym (n .inv .1 ∙ rise-stop (a .s .now) 1 (n .left) (n .at) (omega arith) (rise-next (a .s .now) (n .at) ∙ sym (c .before .before .next-beside .ensures .0) ∙ not-true _ (c .if1 .taken)))
 
 add-at : tie.Need-add-at Inv-loop μ-loop
 add-at c = omega arith
@@ -39,10 +46,11 @@ loop-less c = omega arith
 
 loop-again : tie.Need-loop-again Inv-loop μ-loop
 loop-again c =
-    let a = c .before .before .before .before .before .args in
-    let l = c .before .before .before .loop in (
+    let l = c .before .before .before .before .before in
+    let a = l .before .before .args in
+    let n = l .loop in (
       omega arith,
-      l .inv .1 ∙ rise-turn (a .s .now) 1 (l .left) (l .at) (omega arith) (rise-next (a .s .now) (l .at) ∙ sym (c .before .next-above .ensures) ∙ not-false _ (c .if1 .left)),
+      n .inv .1 ∙ rise-turn (a .s .now) 1 (n .left) (n .at) (omega arith) (rise-next (a .s .now) (n .at) ∙ sym (c .before .before .next-beside .ensures .0) ∙ not-false _ (c .if1 .left)),
     )
 
 returns-2 : tie.Need-returns-2 Inv-loop μ-loop
@@ -57,7 +65,9 @@ few-rise-spec =
     Inv-loop
     μ-loop
     loop-holds
-    next-above-requires
+    add-get-u64
+    get-u64-requires
+    next-beside-requires
     returns
     add-at
     sub-left
