@@ -3,9 +3,11 @@
 --     Asserting                      table and tally at the loop's head; asserting-start, asserting-there, asserting-turn,
 --                                    asserting-left and asserting-end are its laws
 --     part-touched, part-kept        the assertion at one record, from what its callees ensure
+--     moves-not-alive                who moves to the alive ones was not among them
+--     tally-moved, tally-stays       the tally of one record, where its writer moves and where not
 -- Assumes nothing.
 use Prim.Native.Nat.{ℕ, suc, _+_, _-_, _*_, _≤_, _<_, _^_}
-use mathlib.Core.Bool.{Bool, true, false, cond}
+use mathlib.Core.Bool.{Bool, true, false, not, _&&_, cond}
 use mathlib.Core.Path.{_≡_, refl, sym, ap, _∙_}
 use mathlib.Core.List.{List, [], _∷_, _++_, map, append-nil}
 use native.Mathlib.Omega.{arith}
@@ -104,14 +106,39 @@ raise-told xs ys w v n l e =
 
 -- ---- the assertion at one record
 
-pub part-touched : (a : Assertion) (w v : Writer) (t t′ : List ℕ) (i : ℕ) (tally r : Tally) (y : Bool) → y ≡ acts a w → y ≡ true → v ≡ withState Alive (a .clock) w →
-    t′ ≡ patch t (i * 40) 40 (writerBytes v) → r ≡ raised tally w →
-    (t′ ≡ cond (acts a w) (patch t (i * 40) 40 (writerBytes (withState Alive (a .clock) w))) t) × (r ≡ cond (acts a w) (raised tally w) tally)
-part-touched a w v t t′ i tally r y b e f p q = rw (← b, e) (p ∙ ap (λ (z : Writer). patch t (i * 40) 40 (writerBytes z)) f, q)
+pub part-touched : (a : Assertion) (w v : Writer) (t t′ : List ℕ) (i : ℕ) (y z : Bool) → y ≡ acts a w → y ≡ true → v ≡ withState Alive (a .clock) w →
+    t′ ≡ patch t (i * 40) 40 (writerBytes v) → z ≡ countsAlive w →
+    (t′ ≡ cond (acts a w) (patch t (i * 40) 40 (writerBytes (withState Alive (a .clock) w))) t) × (not z ≡ (acts a w && not (countsAlive w)))
+part-touched a w v t t′ i y z b e f p q = rw (← b, e, q) (p ∙ ap (λ (x : Writer). patch t (i * 40) 40 (writerBytes x)) f, refl)
 
-pub part-kept : (a : Assertion) (w : Writer) (t : List ℕ) (i : ℕ) (tally : Tally) (y : Bool) → y ≡ acts a w → y ≡ false →
-    (t ≡ cond (acts a w) (patch t (i * 40) 40 (writerBytes (withState Alive (a .clock) w))) t) × (tally ≡ cond (acts a w) (raised tally w) tally)
-part-kept a w t i tally y b e = rw (← b, e) (refl, refl)
+pub part-kept : (a : Assertion) (w : Writer) (t : List ℕ) (i : ℕ) (y : Bool) → y ≡ acts a w → y ≡ false →
+    (t ≡ cond (acts a w) (patch t (i * 40) 40 (writerBytes (withState Alive (a .clock) w))) t) × (false ≡ (acts a w && not (countsAlive w)))
+part-kept a w t i y b e = rw (← b, e) (refl, refl)
+
+pub moves-not-alive : (a : Assertion) (w : Writer) → (acts a w && not (countsAlive w)) ≡ true → countsAlive w ≡ false
+moves-not-alive a w = each (acts a w) (countsAlive w)
+  where
+    each : (x y : Bool) → (x && not y) ≡ true → y ≡ false
+    each true true h = sym h
+    each true false h = refl
+    each false y h = let z : _≡_ {A = ℕ} 0 1 = cc in absurd (omega arith)
+
+-- the tally of a record, where the writer moves to the alive ones and where it does not
+module _ (a : Assertion) (w : Writer) (tally : Tally) where
+  pub tally-moved : (acts a w && not (countsAlive w)) ≡ true → raised tally w ≡ cond (acts a w) (raised tally w) tally
+  tally-moved = each (acts a w) (countsAlive w)
+    where
+      each : (x y : Bool) {r : Tally} → (x && not y) ≡ true → r ≡ cond x r tally
+      each true y h = refl
+      each false y h = let z : _≡_ {A = ℕ} 0 1 = cc in absurd (omega arith)
+
+  pub tally-stays : (acts a w && not (countsAlive w)) ≡ false → tally ≡ cond (acts a w) (raised tally w) tally
+  tally-stays = each (acts a w) (countsAlive w) _
+    where
+      each : (x y : Bool) (r : Tally) → (x && not y) ≡ false → tally ≡ cond x (cond y tally r) tally
+      each true true r h = refl
+      each true false r h = let z : _≡_ {A = ℕ} 0 1 = cc in absurd (omega arith)
+      each false y r h = refl
 
 -- ---- the loop
 

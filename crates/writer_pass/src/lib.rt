@@ -10,7 +10,7 @@ use model::MaybeDue;
 use model::Writer;
 use model::WriterState;
 use writer_effects::Assertion;
-ghost use mathlib.Core.Bool.{true, cond};
+ghost use mathlib.Core.Bool.{true, false, not, _&&_, cond};
 ghost use mathlib.Core.List.{_++_, map};
 ghost use mathlib.Core.Path.{_≡_};
 ghost use Prim.Native.Nat.{_+_, _-_, _*_, _≤_, _<_, _^_};
@@ -20,7 +20,7 @@ ghost use Rattle.octets.specs.Patch.{patch};
 ghost use Rattle.model.specs.declared.LastWriter.the-variants.{Is};
 ghost use Rattle.model.specs.declared.WriterState.the-variants.{Alive};
 ghost use Rattle.model.specs.Guids.{num, prefix, guidBytes, guidsIn};
-ghost use Rattle.model.specs.State.{writerKey, countsNotAlive, writersIn, lostOf};
+ghost use Rattle.model.specs.State.{writerKey, countsAlive, countsNotAlive, writersIn, lostOf};
 ghost use Rattle.model.specs.Tables.{pick, rising};
 ghost use Rattle.model.specs.Writers.{asserted, withState, isAliveState, expires, expired, guidIn, lastAfter};
 ghost use Rattle.model.specs.WriterRecord.{writerBytes};
@@ -65,16 +65,13 @@ fn one_less(yes: bool, n: u32) -> u32
     if yes { n - 1 } else { n }
 }
 
-// The tally once w is alive: where it was not, it moves to the alive ones from the class that it was of.
+// The tally once w, which is not among the alive ones, is: it moves to them from the class that it was of.
 fn raise(tally: Tally, w: Writer) -> Tally
-    requires { ⌜ (tally .counts .alive ≤ 128) × (tally .moved ≤ 128) × (countsNotAlive w ≡ true → 1 ≤ tally .counts .«not_alive») ⌝ }
+    requires { ⌜ (tally .counts .alive ≤ 128) × (tally .moved ≤ 128) × (countsNotAlive w ≡ true → 1 ≤ tally .counts .«not_alive») × (countsAlive w ≡ false) ⌝ }
     ensures { λ r. ⌜ r ≡ raised tally w ⌝ }
 {
     let l = w.liveliness;
     let s = l.state;
-    if writer_effects::counts_alive(s) {
-        return tally;
-    }
     let g = w.guid;
     let c = tally.counts;
     let not_alive = one_less(writer_effects::counts_not_alive(s), c.not_alive);
@@ -89,19 +86,21 @@ fn raise(tally: Tally, w: Writer) -> Tally
     }
 }
 
-// The assertion at record i, whose writer is w: a record on which it does not act is not written.
-fn assert_at(t: &mut [u8], i: usize, w: Writer, a: Assertion, tally: Tally) -> Tally
-    requires { ⌜ (i * 40 + 40 ≤ length (now t)) × (tally .counts .alive ≤ 128) × (tally .moved ≤ 128)
-        × (countsNotAlive w ≡ true → 1 ≤ tally .counts .«not_alive») ⌝ }
+// The assertion at record i, whose writer is w: a record on which it does not act is not written. Whether it moves the writer
+// to the alive ones.
+fn assert_at(t: &mut [u8], i: usize, w: Writer, a: Assertion) -> bool
+    requires { ⌜ i * 40 + 40 ≤ length (now t) ⌝ }
     ensures { λ r. ⌜ (now (t .exit) ≡ cond (acts a w) (patch (now (t .entry)) (i * 40) 40 (writerBytes (withState Alive (a .clock) w))) (now (t .entry)))
-        × (r ≡ cond (acts a w) (raised tally w) tally) ⌝ }
+        × (r ≡ (acts a w && not (countsAlive w))) ⌝ }
 {
-    if asserts(a, w) {
-        let v = writer_effects::with_state(w, WriterState::Alive, a.clock);
-        writer_record::put_writer(t, i, v);
-        return raise(tally, w);
+    if !asserts(a, w) {
+        return false;
     }
-    tally
+    let v = writer_effects::with_state(w, WriterState::Alive, a.clock);
+    writer_record::put_writer(t, i, v);
+    let l = w.liveliness;
+    let s = l.state;
+    !writer_effects::counts_alive(s)
 }
 
 // The least GUID of the prefix of g.
@@ -140,7 +139,9 @@ pub fn assert_writers(
         if !guid::same_prefix(g, named) {
             return tally;
         }
-        tally = assert_at(t, i, w, a, tally);
+        if assert_at(t, i, w, a) { // most assertions move none, and then the tally is not copied
+            tally = raise(tally, w);
+        }
         i += 1;
     }
     tally

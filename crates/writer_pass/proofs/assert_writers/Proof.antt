@@ -2,13 +2,14 @@
 use Prim.Native.Nat.{_-_}
 use mathlib.Core.Path.{sym, ap, _∙_}
 use native.Mathlib.Omega.{arith}
+use mathlib.Core.Logic.{⊎-elim}
 use borrow.Author.Needs.{needs}
 use borrow.Author.Tests.{not-true}
 use Rattle.model.specs.State.{writersIn, writerKey}
 use Rattle.tables.specs.Keys.{rising}
 use Rattle.tables.proofs.RecordLaws.{rising-records}
 use Rattle.writer_pass.proofs.Prefixes.{keys-are}
-use Rattle.writer_pass.proofs.Asserting.{Asserting, starts, asserting-start, asserting-there, asserting-turn, asserting-left, asserting-end}
+use Rattle.writer_pass.proofs.Asserting.{Asserting, starts, asserting-start, asserting-there, asserting-turn, asserting-left, asserting-end, moves-not-alive, tally-moved, tally-stays}
 use Rattle.writer_pass.proofs.assert_writers.Statement.{statement}
 use Rattle.writer_pass.proofs.assert_writers.Tie as tie
 
@@ -62,21 +63,26 @@ returns c =
 
 assert-at-requires : tie.Need-assert-at-requires Inv-loop μ-loop
 assert-at-requires c κs =
-    let m = c .before .before .before .before in
+    let n = c .before .before .before .before .before .before .before in
+    omega (arith, (n .before .before .before .before .before .before .pre .0), (n .loop .inv .amid))
+
+raise-requires : tie.Need-raise-requires Inv-loop μ-loop
+raise-requires c κs =
+    let m = c .before .before .before .before .before .before .before .before in
     let l = m .before .before .before .before in
     let k = l .before .before .before .before in
     let a = k .before in
     let n = m .before .before .before .loop in (
-      omega (arith, (a .pre .0), (n .inv .amid)),
       n .inv .few,
       n .inv .moved,
       asserting-there (a .args .a) (a .args .last) (a .args .t .now) (a .args .count) (l .lower-bound .result) (λ j. (k .slice-known .given) j .fits) (a .pre .0) (a .pre .1) (n .t)
           (n .tally) (n .i) (n .inv) (omega arith) (m .writer-at .result) (m .writer-at .ensures),
+      moves-not-alive (a .args .a) (m .writer-at .result) (sym (c .before .before .before .assert-at .ensures .1) ∙ c .if2 .taken),
     )
 
 add-i : tie.Need-add-i Inv-loop μ-loop
 add-i c =
-    let n = c .before .before .before .before .before .before .before .before .before .before in
+    let n = c .before .before .before .before .before .before .before .before .before .before .before in
     omega (arith, (n .before .before .before .before .before .before .pre .0))
 
 loop-less : tie.Need-loop-less Inv-loop μ-loop
@@ -84,15 +90,17 @@ loop-less c = omega arith
 
 loop-again : tie.Need-loop-again Inv-loop μ-loop
 loop-again c =
-    let d = c .before .before in
+    let d = c .before .before .before in
     let m = d .before .before .before .before .before in
     let l = m .before .before .before .before in
     let k = l .before .before .before .before in
     let a = k .before in
     let n = m .before .before .before .loop in
+    let w = m .writer-at .result in
+    let e = d .assert-at .ensures .1 in
     asserting-turn (a .args .a) (a .args .last) (a .args .t .now) (a .args .count) (l .lower-bound .result) (λ j. (k .slice-known .given) j .fits) (a .pre .0) (a .pre .1) (n .t)
-    (n .tally) (n .i) (n .inv) (omega arith) (m .writer-at .result) (m .writer-at .ensures) (d .assert-at .last .0) (d .assert-at .result)
-    (d .assert-at .ensures .0) (d .assert-at .ensures .1)
+    (n .tally) (n .i) (n .inv) (omega arith) w (m .writer-at .ensures) (d .assert-at .last .0) (c .if2 .tally) (d .assert-at .ensures .0)
+    (⊎-elim (λ x. x .2 ∙ x .1 .ensures ∙ tally-moved (a .args .a) w (n .tally) (sym e ∙ x .0 .taken)) (λ x. x .1 ∙ tally-stays (a .args .a) w (n .tally) (sym e ∙ x .0 .left)) (c .if2 .came))
 
 same-length-2 : tie.Need-same-length-2 Inv-loop μ-loop
 same-length-2 c = omega (arith, (c .before .loop .inv .amid))
@@ -120,6 +128,7 @@ assert-writers-spec =
     same-length
     returns
     assert-at-requires
+    raise-requires
     add-i
     loop-less
     loop-again
