@@ -1,0 +1,27 @@
+-- `put_low_4` meets its contract: its two halves are written, the lower first. Assumes nothing.
+use native.Mathlib.Omega.{arith}
+use Rattle.octets.proofs.SwapLaws.{put-4}
+use borrow.Author.Needs.{needs}
+use Rattle.octets.proofs.put_low_4.Statement.{statement}
+use Rattle.octets.proofs.put_low_4.Tie as tie
+
+put-low-2-requires : tie.Need-put-low-2-requires
+put-low-2-requires c κs = search needs
+
+add-put-low-2 : tie.Need-add-put-low-2
+add-put-low-2 c = search needs
+
+put-low-2-requires-2 : tie.Need-put-low-2-requires-2
+put-low-2-requires-2 c κs = search needs
+
+same-length : tie.Need-same-length
+same-length c = search needs
+
+returns : tie.Need-returns
+returns c =
+    let a = c .before .before .before .before .before .before .before .before .before .args in
+    rw (c .before .before .put-low-22 .ensures, c .before .before .before .before .before .before .put-low-2 .ensures) (put-4 (a .s .now) (a .at) (a .v) (omega arith))
+
+pub put-low-4-spec : {M : Type 1} → statement M
+put-low-4-spec =
+    tie.close (tie.spec put-low-2-requires add-put-low-2 put-low-2-requires-2 same-length returns)
