@@ -3,8 +3,7 @@
 --     prefix-low, prefix-high, prefix-same   their prefixes
 --     less-high, less-low                    their order
 --     owner-other, owner-there               a test of the owner's GUID, and of the flags then
---     listed-keys                            the keys that are searched are a list's GUIDs
---     listed-at, listed-missing              what the search says of the owner
+--     listed-none, listed-at, listed-missing without an owner, and what the search says of one
 --     apart-high, apart-none, apart-low      the first writer is above a span, there is none, the last is below it
 -- Assumes nothing.
 use Prim.Native.Nat.{ℕ, zero, suc, _+_, _-_, _*_, _/_, _%_, _^_, _≤_, _<_}
@@ -34,9 +33,9 @@ use Rattle.guid.proofs.Digits.{digit-lt, digits-eq, eqb-high, eqb-low, ltb-low}
 use Rattle.guid.proofs.Laws.{prefix-digits}
 use Rattle.tables.specs.declared.Found.the-variants.{At, Missing}
 use Rattle.tables.specs.Found.{foundIn}
-use Rattle.tables.specs.Keys.{keys, rising as rises}
+use Rattle.tables.specs.Keys.{keys}
 use Rattle.tables.proofs.Puts.{above-at}
-use Rattle.tables.proofs.RecordLaws.{find-at, find-none, keyed, keys-read, rising-records}
+use Rattle.tables.proofs.RecordLaws.{find-at, find-none, keyed, keys-read}
 use Rattle.instance_record.proofs.Rows.{guid-in}
 use Rattle.instance_edits.specs.declared.Span.{Span}
 use Rattle.instance_edits.specs.Edits.{Formed}
@@ -126,9 +125,6 @@ module _ (r : List ℕ) (g : Guid) (e : be 8 r 92 ≡ g .hi) where
 
 listed-keys : (n : ℕ) (t : List ℕ) → keys 16 n t ≡ map num (guidsIn n t)
 listed-keys n t = keys-read guidOf 16 num (λ s. refl) (omega arith) n t
-
-pub listed-rise : (n : ℕ) (t : List ℕ) → rising num (guidsIn n t) ≡ true → rises (keys 16 n t) ≡ true
-listed-rise n t h = rw (listed-keys n t) (rising-records num (guidsIn n t) ∙ h)
 
 has-find : (g : Guid) (s : List Guid) → has g s ≡ isSome (find (keyed num (num g)) s)
 unfolding has find

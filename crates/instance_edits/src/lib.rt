@@ -57,7 +57,7 @@ pub fn owner_of_prefix(s: &[u8], g: Guid) -> bool
 }
 
 // Whether the instance has an owner that is in the list.
-pub fn owner_listed(s: &[u8], gone: &[u8]) -> bool
+pub fn owner_listed(s: &[u8], gone: &[u8], guesses: &[u8; 1024]) -> bool
     requires { ⌜ (length (now s) ≡ 512) × Listed (now gone) ⌝ }
     ensures { λ r. ⌜ r ≡ ownedBy (gonesIn (now (gone .entry))) (instanceOf (now (s .entry)) .state .owner) ⌝ }
 {
@@ -65,7 +65,7 @@ pub fn owner_listed(s: &[u8], gone: &[u8]) -> bool
         return false;
     }
     let g = guid::guid_at(s, 92);
-    match tables::find(gone, 16, gone.len() / 16, g) {
+    match instance_sets::find_listed(gone, guesses, g) {
         Found::At(_) => true,
         Found::Missing(_) => false,
     }

@@ -25,18 +25,18 @@ pub struct Told {
 // ---- the set
 
 // The writers of the list are dropped from the set. Whether that leaves the instance writerless.
-fn drop_listed(s: &mut [u8], gone: &[u8], at: MaybeTime) -> bool
+fn drop_listed(s: &mut [u8], gone: &[u8], guesses: &[u8; 1024], at: MaybeTime) -> bool
     requires { ⌜ Formed (now s) × Listed (now gone) ⌝ }
     ensures { λ r. ⌜ (now (s .exit) ≡ instanceBytes (changed (droppedOf (gonesIn (now (gone .entry))) at) (instanceOf (now (s .entry)))))
         × (r ≡ emptiedBy (gonesIn (now (gone .entry))) (instanceOf (now (s .entry)) .state)) ⌝ }
 {
     let n = (octets::get_u16(s, 24) % 32) as usize;
-    let k = instance_sets::keep_others(&mut s[256..512], n, gone);
+    let k = instance_sets::keep_others(&mut s[256..512], n, gone, guesses);
     instance_edits::settle(s, n, k, at)
 }
 
 // The same of a list within a span: a set apart from the span stays as it is.
-fn drop_within(s: &mut [u8], w: Span, gone: &[u8], at: MaybeTime) -> bool
+fn drop_within(s: &mut [u8], w: Span, gone: &[u8], guesses: &[u8; 1024], at: MaybeTime) -> bool
     requires { ⌜ Formed (now s) × Listed (now gone) × All (Within w) (gonesIn (now gone)) ⌝ }
     ensures { λ r. ⌜ (now (s .exit) ≡ instanceBytes (changed (droppedOf (gonesIn (now (gone .entry))) at) (instanceOf (now (s .entry)))))
         × (r ≡ emptiedBy (gonesIn (now (gone .entry))) (instanceOf (now (s .entry)) .state)) ⌝ }
@@ -44,13 +44,13 @@ fn drop_within(s: &mut [u8], w: Span, gone: &[u8], at: MaybeTime) -> bool
     if instance_edits::set_apart(s, w) {
         return false;
     }
-    drop_listed(s, gone, at)
+    drop_listed(s, gone, guesses, at)
 }
 
 // ---- the owner
 
 // Whether the owner is to be cleared, as it is in the list, which is within a span.
-fn owner_goes(clears: bool, s: &[u8], w: Span, gone: &[u8]) -> bool
+fn owner_goes(clears: bool, s: &[u8], w: Span, gone: &[u8], guesses: &[u8; 1024]) -> bool
     requires { ⌜ (length (now s) ≡ 512) × Listed (now gone) × All (Within w) (gonesIn (now gone)) ⌝ }
     ensures { λ r. ⌜ r ≡ (clears && ownedBy (gonesIn (now (gone .entry))) (instanceOf (now (s .entry)) .state .owner)) ⌝ }
 {
@@ -60,7 +60,7 @@ fn owner_goes(clears: bool, s: &[u8], w: Span, gone: &[u8]) -> bool
     if instance_edits::owner_apart(s, w) {
         return false;
     }
-    instance_edits::owner_listed(s, gone)
+    instance_edits::owner_listed(s, gone, guesses)
 }
 
 // The owner is cleared where it is to be.
@@ -76,13 +76,20 @@ fn clear_if(s: &mut [u8], yes: bool)
 // ---- both
 
 // The writers of the list are lost: dropped and, where that is asked for, cleared as owner. The list is within a span.
-pub fn lose(s: &mut [u8], w: Span, gone: &[u8], at: MaybeTime, clears: bool) -> Told
+pub fn lose(
+    s: &mut [u8],
+    w: Span,
+    gone: &[u8],
+    guesses: &[u8; 1024],
+    at: MaybeTime,
+    clears: bool,
+) -> Told
     requires { ⌜ Formed (now s) × Listed (now gone) × All (Within w) (gonesIn (now gone)) ⌝ }
     ensures { λ r. ⌜ (now (s .exit) ≡ instanceBytes (changed (lostBy clears (gonesIn (now (gone .entry))) at) (instanceOf (now (s .entry)))))
         × (r ≡ toldOf clears (gonesIn (now (gone .entry))) (instanceOf (now (s .entry)) .state)) ⌝ }
 {
-    let cleared = owner_goes(clears, s, w, gone);
-    let left = drop_within(s, w, gone, at);
+    let cleared = owner_goes(clears, s, w, gone, guesses);
+    let left = drop_within(s, w, gone, guesses, at);
     clear_if(s, cleared);
     Told {
         left: left,

@@ -113,6 +113,7 @@ fn lose_at(
     tally: Tally,
     w: Span,
     gone: &[u8],
+    guesses: &[u8; 1024],
     at: MaybeTime,
     clears: bool,
 ) -> Tally
@@ -122,7 +123,7 @@ fn lose_at(
     let from = i * 512;
     let end = from + 512;
     let h = instance_record::handle_at(pens, i);
-    let told = instance_loss::lose(&mut pens[from..end], w, gone, at, clears);
+    let told = instance_loss::lose(&mut pens[from..end], w, gone, guesses, at, clears);
     note(out, tally.listed, told.left, h.0);
     with_told(tally, told)
 }
@@ -140,6 +141,8 @@ fn lose_every(
     ensures { λ r. ⌜ Passed (lossBy clears (gonesIn (now (gone .entry))) at) (instancesIn count (now (pens .entry))) (now (pens .entry)) (now (out .entry)) (now (pens .exit)) (now (out .exit)) r ⌝ }
 {
     let w = span_of(gone);
+    let mut guesses = [0u8; 1024]; // made once for all instances
+    instance_sets::note_guesses(gone, &mut guesses);
     let mut tally = Tally {
         kept: 0,
         listed: 0,
@@ -147,7 +150,7 @@ fn lose_every(
     };
     let mut i = 0;
     while i < count {
-        tally = lose_at(pens, out, i, tally, w, gone, at, clears);
+        tally = lose_at(pens, out, i, tally, w, gone, &guesses, at, clears);
         i += 1;
     }
     tally

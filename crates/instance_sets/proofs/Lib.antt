@@ -4,3 +4,4 @@ pub mod SideBySide
 pub mod WalkLaws
 pub mod OneOut
 pub mod Starts
+pub mod Guesses

@@ -1,15 +1,18 @@
 // The writer set of an instance in its 256 bytes: the writers of a list are taken out where they stand, in one walk over
-// both, which rise.
+// both, which rise. Where a GUID stands in the list is guessed, and the guess is looked at before it is believed.
 // Derives from instance_tracker.rs of ZeroDDS.
 // Copyright 2026 ZeroDDS Contributors. SPDX-License-Identifier: Apache-2.0. Changed: written anew in Rattle, over records in
 // lent bytes.
 use model::Guid;
+use tables::Found;
 ghost use mathlib.Core.List.{[], _∷_};
 ghost use mathlib.Core.Path.{_≡_};
 ghost use Prim.Native.Nat.{_+_, _*_, _/_, _≤_, _<_};
 ghost use lib.ListN.{length, drop};
 ghost use Rattle.octets.specs.Patch.{patch};
-ghost use Rattle.model.specs.Guids.{same, guidAt, guidsIn, guidBytes, guidsBytes};
+ghost use Rattle.model.specs.Guids.{num, same, guidAt, guidsIn, guidBytes, guidsBytes};
+ghost use Rattle.tables.specs.Found.{lowerBound, foundIn};
+ghost use Rattle.tables.specs.Keys.{keys};
 ghost use Rattle.tables.specs.Places.{placeOf};
 ghost use Rattle.instance_writers.specs.Places.{padded};
 ghost use Rattle.instance_sets.specs.Others.{others};
@@ -155,10 +158,68 @@ fn keep_all_but(set: &mut [u8], n: usize, g: Guid) -> usize
     n - 1
 }
 
+// ---- a GUID looked for in a list
+
+// A guess as a place. Nothing of it is asked.
+fn wide(x: u8) -> usize {
+    x as usize
+}
+
+// Which of the guesses is that of g. By both halves and by a prime, so that GUIDs that differ in few bytes, or by equal
+// steps, seldom share one.
+fn guess_at(g: Guid) -> usize
+    ensures { λ r. ⌜ r < 1024 ⌝ }
+{
+    ((g.hi % 1021 + g.lo % 1021) % 1024) as usize
+}
+
+// The place of each GUID of the list is noted as its guess; where several share one, the place of the last. Nothing is
+// promised of the guesses: find_listed looks before it believes.
+pub fn note_guesses(gone: &[u8], guesses: &mut [u8; 1024])
+    requires { ⌜ Listed (now gone) ⌝ }
+{
+    let m = gone.len() / 16;
+    let mut j = 0;
+    while j < m {
+        let p = guess_at(guid::guid_at(gone, j * 16));
+        guesses[p] = j as u8;
+        j += 1;
+    }
+}
+
+// The place of g in the list, or where it would stand: its guess where g stands there, else by a search. So any guesses will
+// do.
+pub fn find_listed(gone: &[u8], guesses: &[u8; 1024], g: Guid) -> Found
+    requires { ⌜ Listed (now gone) ⌝ }
+    ensures { λ r. ⌜ r ≡ foundIn (keys 16 (length (now (gone .entry)) / 16) (now (gone .entry))) (num g) ⌝ }
+{
+    let m = gone.len() / 16;
+    let p = guess_at(g);
+    let j = wide(guesses[p]);
+    if j < m {
+        let there = guid::guid_at(gone, j * 16);
+        if guid::is_same(there, g) {
+            return Found::At(j);
+        }
+    }
+    tables::find(gone, 16, m, g)
+}
+
+// How many of the list stand before g.
+fn lower_listed(gone: &[u8], guesses: &[u8; 1024], g: Guid) -> usize
+    requires { ⌜ Listed (now gone) ⌝ }
+    ensures { λ r. ⌜ r ≡ lowerBound (keys 16 (length (now (gone .entry)) / 16) (now (gone .entry))) (num g) ⌝ }
+{
+    match find_listed(gone, guesses, g) {
+        Found::At(j) => j,
+        Found::Missing(j) => j,
+    }
+}
+
 // ---- either
 
 // Of the first n GUIDs of the set those of the list are taken out, and nil is put behind the others. Most lists have one.
-pub fn keep_others(set: &mut [u8], n: usize, gone: &[u8]) -> usize
+pub fn keep_others(set: &mut [u8], n: usize, gone: &[u8], guesses: &[u8; 1024]) -> usize
     requires { ⌜ Filled n (now set) × Listed (now gone) ⌝ }
     ensures { λ r. ⌜ (r ≡ length (others (gonesIn (now (gone .entry))) (guidsIn n (now (set .entry)))))
         × (now (set .exit) ≡ guidsBytes (padded (others (gonesIn (now (gone .entry))) (guidsIn n (now (set .entry)))))) ⌝ }
@@ -169,6 +230,6 @@ pub fn keep_others(set: &mut [u8], n: usize, gone: &[u8]) -> usize
         return keep_all_but(set, n, g);
     }
     let first = guid::guid_at(set, 0);
-    let from = tables::lower_bound(gone, 16, m, first);
+    let from = lower_listed(gone, guesses, first);
     walk_through(set, n, gone, from)
 }

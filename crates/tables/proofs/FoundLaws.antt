@@ -4,8 +4,10 @@
 --     StandsAt                             a key stands at a place: all before it are less
 --     InsertsAt                            a key would go in at a place: all before it are less, all from there on greater
 --     lower-found, lower-missing           what is found, from the lower bound
---     found-at                             At i says that it stands at i, and is said where key i is it
---     found-missing                        Missing i says that it would go in at i, and is said where it would
+--     key-found                            it is found At i where key i is it, as the keys rise
+--     found-at                             At i says that it stands at i
+--     found-missing                        Missing i says that it would go in at i
+--     toldPlace, told-lower                the place that is told either way is the lower bound
 --     number-le, insert-le                 of 128 keys at most: no record number above 127, no place to insert above 128
 -- Assumes nothing.
 use mathlib.Core.Path.{_≡_, refl, sym, ap}
@@ -131,6 +133,17 @@ lower-found ks k p q l e = rw (q, lt-ltb p (length ks) l, eq-eqb (getD ks p 0) k
 
 pub lower-missing : (ks : List ℕ) (k p : ℕ) → lowerBound ks k ≡ p → (p < length ks → getD ks p 0 ≡ k → ⊥) → foundIn ks k ≡ Missing p
 lower-missing ks k p q n = found-step (λ (r : Found). r ≡ Missing p) ks k (λ l e. absurd (n (rw q at l) (rw q at e))) (λ m. ap Missing q)
+
+pub key-found : (ks : List ℕ) (k i : ℕ) → rising ks ≡ true → i < length ks → getD ks i 0 ≡ k → foundIn ks k ≡ At i
+key-found ks k i r l e =
+    lower-found ks k i (lower-unique ks k i (omega arith) (λ j m. omega (arith, e, rising-pairs ks r j i m l)) (λ m. omega (arith, e))) l e
+
+abbrev pub toldPlace : Found → ℕ
+toldPlace (At i) = i
+toldPlace (Missing i) = i
+
+pub told-lower : (ks : List ℕ) (k : ℕ) → toldPlace (foundIn ks k) ≡ lowerBound ks k
+told-lower ks k = found-step (λ (r : Found). toldPlace r ≡ lowerBound ks k) ks k (λ l e. refl) (λ n. refl)
 
 -- document 02, request 3
 module _ (ks : List ℕ) (k i : ℕ) (most : length ks ≤ 128) where

@@ -9,7 +9,7 @@ use Rattle.model.specs.Guids.{num}
 use Rattle.model.specs.InstanceRecord.{flagsAt}
 use Rattle.tables.specs.Found.{foundIn}
 use Rattle.tables.specs.Keys.{keys}
-use Rattle.instance_edits.proofs.RecordReads.{listed-at, listed-missing, listed-none, listed-rise}
+use Rattle.instance_edits.proofs.RecordReads.{listed-at, listed-missing, listed-none}
 use borrow.Author.Needs.{needs}
 use Rattle.instance_edits.proofs.owner_listed.Statement.{statement}
 use Rattle.instance_edits.proofs.owner_listed.Tie as tie
@@ -26,7 +26,7 @@ returns-2 c =
     let n : ℕ = length (k .args .gone .now) / 16 in
     listed-at (k .args .s .now) n (k .args .gone .now) _
     (eq-eqb (flagsAt (k .args .s .now) / 128 % 2) 1 (omega (arith, c .before .before .before .before .before .get-u16 .ensures)))
-    (ap (λ (g : Guid). foundIn (keys 16 n (k .args .gone .now)) (num g)) (sym (c .before .before .before .guid-at .ensures)) ∙ sym (c .before .before .find .ensures) ∙ c .enum-told .given .1)
+    (ap (λ (g : Guid). foundIn (keys 16 n (k .args .gone .now)) (num g)) (sym (c .before .before .before .guid-at .ensures)) ∙ sym (c .before .before .find-listed .ensures) ∙ c .enum-told .given .1)
 
 returns-3 : tie.Need-returns-3
 returns-3 c =
@@ -34,7 +34,7 @@ returns-3 c =
     let n : ℕ = length (k .args .gone .now) / 16 in
     listed-missing (k .args .s .now) n (k .args .gone .now) _
     (eq-eqb (flagsAt (k .args .s .now) / 128 % 2) 1 (omega (arith, c .before .before .before .before .before .get-u16 .ensures))) (k .pre .1 .rises)
-    (ap (λ (g : Guid). foundIn (keys 16 n (k .args .gone .now)) (num g)) (sym (c .before .before .before .guid-at .ensures)) ∙ sym (c .before .before .find .ensures) ∙ c .enum-told2 .given .1)
+    (ap (λ (g : Guid). foundIn (keys 16 n (k .args .gone .now)) (num g)) (sym (c .before .before .before .guid-at .ensures)) ∙ sym (c .before .before .find-listed .ensures) ∙ c .enum-told2 .given .1)
 
 get-u16-requires : tie.Need-get-u16-requires
 get-u16-requires c κs = search needs
@@ -42,11 +42,8 @@ get-u16-requires c κs = search needs
 guid-at-requires : tie.Need-guid-at-requires
 guid-at-requires c κs = search needs
 
-find-requires : tie.Need-find-requires
-find-requires c κs =
-    let k = c .before .before .before .before .before in
-    let t = k .args .gone .now in
-    (omega arith, omega (arith, k .pre .1 .few), omega arith, listed-rise (length t / 16) t (k .pre .1 .rises))
+find-listed-requires : tie.Need-find-listed-requires
+find-listed-requires c κs = search needs
 
 enum-told : tie.Need-enum-told
 enum-told c = search needs
@@ -61,7 +58,7 @@ owner-listed-spec =
     get-u16-requires
     returns
     guid-at-requires
-    find-requires
+    find-listed-requires
     enum-told
     enum-told-2
     returns-2

@@ -11,28 +11,31 @@ use Rattle.instance_pass.proofs.lose_every.Statement.{statement}
 use Rattle.instance_pass.proofs.lose_every.Tie as tie
 
 abbrev Inv-loop : tie.InvT-loop
-Inv-loop pens₀ out₀ count gone at clears w tally₀ i₀ pens out tally i = During (lossBy clears (gonesIn gone) at) count pens₀ out₀ i pens out tally
+Inv-loop pens₀ out₀ count gone at clears w guesses tally₀ i₀ pens out tally i = During (lossBy clears (gonesIn gone) at) count pens₀ out₀ i pens out tally
 
 abbrev μ-loop : tie.MeasureT-loop
-μ-loop pens₀ out₀ count gone at clears w tally₀ i₀ pens out tally i = count - i
+μ-loop pens₀ out₀ count gone at clears w guesses tally₀ i₀ pens out tally i = count - i
 
 span-of-requires : tie.Need-span-of-requires Inv-loop μ-loop
 span-of-requires c κs = c .before .before .before .pre .1
 
+note-guesses-requires : tie.Need-note-guesses-requires Inv-loop μ-loop
+note-guesses-requires c κs = c .before .before .before .before .before .pre .1
+
 loop-holds : tie.Need-loop-holds Inv-loop μ-loop
 loop-holds c =
-    let a = c .before .before .before .before .args in
+    let a = c .before .before .before .before .before .before .args in
     during-start (lossBy (a .clears) (gonesIn (a .gone .now)) (a .at)) (a .count) (a .pens .now) (a .out .now)
 
 lose-at-requires : tie.Need-lose-at-requires Inv-loop μ-loop
 lose-at-requires c κs =
-    let s = c .before .before .before .before .before .before .before .before in
+    let s = c .before .before .before .before .before .before .before .before .before .before .before in
     let a = s .args in
-    let l = c .before .before .before .loop in (
+    let l = c .before .before .before .before .loop in (
       during-ahead (lossBy (a .clears) (gonesIn (a .gone .now)) (a .at)) (a .count) (a .pens .now) (a .out .now) (l .i) (l .pens) (l .out) (l .tally) (l .inv) (λ x. refl) (s .pre .0 .few) (s .pre .0 .room) (s .pre .2) (omega arith),
       record-formed (a .count) (a .pens .now) (s .pre .0) (l .i) (l .pens) (omega arith) (l .inv .long) (l .inv .ahead),
       s .pre .1,
-      c .before .before .before .before .span-of .ensures,
+      c .before .before .before .before .before .before .before .span-of .ensures,
     )
 
 add-i : tie.Need-add-i Inv-loop μ-loop
@@ -43,9 +46,9 @@ loop-less c = omega arith
 
 loop-again : tie.Need-loop-again Inv-loop μ-loop
 loop-again c =
-    let s = c .before .before .before .before .before .before .before .before .before .before .before .before .before in
+    let s = c .before .before .before .before .before .before .before .before .before .before .before .before .before .before .before .before in
     let a = s .args in
-    let l = c .before .before .before .before .before .before .before .before .loop in
+    let l = c .before .before .before .before .before .before .before .before .before .loop in
     let r = c .before .before .before .before .lose-at in
     during-turn (lossBy (a .clears) (gonesIn (a .gone .now)) (a .at)) (a .count) (a .pens .now) (a .out .now) (l .i) (l .pens) (l .out) (l .tally) (l .inv) (s .pre .0 .few) (s .pre .0 .room) (s .pre .2) (omega arith)
     (by-bounded (a .clears) (gonesIn (a .gone .now)) (a .at)) (r .last .0) (r .last .1 .0) (r .result) (omega arith) (omega arith) (r .ensures)
@@ -58,7 +61,7 @@ same-length-2 c = omega arith
 
 returns : tie.Need-returns Inv-loop μ-loop
 returns c =
-    let a = c .before .before .before .before .before .before .args in
+    let a = c .before .before .before .before .before .before .before .before .args in
     let l = c .before .loop in
     during-over (lossBy (a .clears) (gonesIn (a .gone .now)) (a .at)) (a .count) (a .pens .now) (a .out .now) (l .i) (l .pens) (l .out) (l .tally) (l .inv) (λ x. refl) (omega arith)
 
@@ -69,6 +72,7 @@ lose-every-spec =
     Inv-loop
     μ-loop
     span-of-requires
+    note-guesses-requires
     loop-holds
     lose-at-requires
     add-i

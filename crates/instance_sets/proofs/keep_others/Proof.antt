@@ -1,6 +1,6 @@
 -- A list of one, or a walk from the place of the first of the set on. Assumes nothing.
 use native.Mathlib.Omega.{arith}
-use Rattle.instance_sets.proofs.Starts.{one-listed, keys-rise, start-few, start-after}
+use Rattle.instance_sets.proofs.Starts.{one-listed, start-few, start-after}
 use Rattle.instance_sets.proofs.WalkLaws.{filled-long}
 use borrow.Author.Needs.{needs}
 use Rattle.instance_sets.proofs.keep_others.Statement.{statement}
@@ -27,20 +27,18 @@ guid-at-requires-2 c κs =
     let s = c .before .before .before .before in
     omega (arith, filled-long (s .args .n) (s .args .set .now) (s .pre .0))
 
-lower-bound-requires : tie.Need-lower-bound-requires
-lower-bound-requires c κs =
-    let s = c .before .before .before .before .before in
-    (omega arith, omega (arith, s .pre .1 .few), omega arith, keys-rise (s .args .gone .now) (s .pre .1))
+lower-listed-requires : tie.Need-lower-listed-requires
+lower-listed-requires c κs = search needs
 
 walk-through-requires : tie.Need-walk-through-requires
 walk-through-requires c κs =
     let s = c .before .before .before .before .before .before .before in
     let a = s .args in
     let g = c .before .before .guid-at2 in
-    let r = c .before .lower-bound in (
+    let r = c .before .lower-listed in (
       s .pre .0,
       s .pre .1,
-      start-few (a .gone .now) (a .set .now) (a .n) (g .result) (r .result) (g .ensures) (r .ensures),
+      omega (arith, start-few (a .gone .now) (a .set .now) (a .n) (g .result) (r .result) (g .ensures) (r .ensures)),
       start-after (a .gone .now) (a .set .now) (a .n) (g .result) (r .result) (g .ensures) (r .ensures) (s .pre .0),
     )
 
@@ -59,7 +57,7 @@ keep-others-spec =
     same-length
     returns
     guid-at-requires-2
-    lower-bound-requires
+    lower-listed-requires
     walk-through-requires
     same-length-2
     returns-2)
