@@ -4,7 +4,6 @@
 --     lost-abandoned     several lost writers
 --     counted-out        code 4
 --     unregistered-kind, unregistered-writer-kind      the kinds that codes 4 and 5 leave
--- Assumes nothing.
 use mathlib.Core.Bool.{Bool, true, false, not, _||_, cond}
 use mathlib.Core.List.{List, [], _∷_}
 use mathlib.Core.Path.{_≡_, refl, sym, ap, _∙_}

@@ -1,5 +1,4 @@
 -- The calls that turn an alive instance to no-writers are the causes, for every list.
--- Assumes nothing.
 use mathlib.Core.Bool.{Bool, true, false, not, _&&_, _||_, cond}
 use mathlib.Core.List.{List, [], _∷_}
 use mathlib.Core.Option.{Option, none, some}

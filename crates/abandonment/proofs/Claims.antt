@@ -1,7 +1,6 @@
 -- All claims, with either number of places.
 --     abandonment; abandonment-32, abandonment-128
 --     free-keeps      which lists are a console's, whatever is answered
--- Assumes nothing.
 use mathlib.Core.Bool.{true}
 use mathlib.Core.List.{List, [], _∷_}
 use mathlib.Core.Path.{_≡_, refl}

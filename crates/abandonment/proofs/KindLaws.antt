@@ -4,7 +4,6 @@
 --     left-kind, left-set      a lost writer
 --     Shown, left-shown        alive exactly while the set is not empty
 --     lost-shown, lost-has     several lost writers
--- Assumes nothing.
 use mathlib.Core.Bool.{Bool, true, false, not, _&&_, _||_, cond}
 use mathlib.Core.List.{List, [], _∷_}
 use mathlib.Core.Option.{some}

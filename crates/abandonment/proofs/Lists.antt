@@ -2,7 +2,6 @@
 --     turned-away-does-not-stand, noted-stands      a sample turned away, and the remedy
 --     turned-away-leaves      such a sample never makes its writer stand
 --     noted-keeps      the remedy's list is a console's
--- Assumes nothing.
 use mathlib.Core.Bool.{true, false}
 use mathlib.Core.Option.{Option, none, some}
 use mathlib.Core.Path.{_≡_, refl, sym, _∙_}

@@ -1,7 +1,6 @@
 -- One instance beside who stands for it: each call keeps the two in step.
 --     Stands, Agrees      what that is, of an instance that is there and of one that is not
 --     *-on                the calls, each on one account
--- Assumes nothing.
 use mathlib.Core.Bool.{Bool, true, false, not, _&&_, _||_}
 use mathlib.Core.List.{List, [], _∷_}
 use mathlib.Core.Option.{Option, none, some}

@@ -3,7 +3,6 @@
 --     has-expired        the GUIDs of a test on numbers are those that pass it
 --     remove-absent, remove-within, has-within      sets that rise
 --     none-in, same-empty, some-in      an empty set has none, and one that is not has one
--- Assumes nothing.
 use mathlib.Core.Bool.{Bool, true, false, not, _&&_, _||_}
 use mathlib.Core.List.{List, [], _∷_, map}
 use mathlib.Core.Path.{_≡_, refl, sym, ap, _∙_}

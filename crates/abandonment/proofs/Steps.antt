@@ -2,7 +2,6 @@
 --     by-code        a claim on each code and its call
 --     accepted-code, unknown-code      the code of a call that is heard, or not
 --     step           a call of the list
--- Assumes nothing.
 use mathlib.Core.Bool.{Bool, true, false, not, _||_}
 use mathlib.Core.List.{List, [], _∷_}
 use mathlib.Core.Option.{none, some}

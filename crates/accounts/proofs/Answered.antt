@@ -2,7 +2,6 @@
 --     answered         an accepted call's answer is that of its turn
 --     Real, real       so a handle is answered only by a call that starts or admits, and then it is the instance's
 --     real-next        the same of the next call of a list
--- Assumes nothing.
 use mathlib.Core.Bool.{Bool, true, false, not, _&&_, cond}
 use mathlib.Core.List.{List, [], _∷_}
 use mathlib.Core.Option.{Option, none, some}

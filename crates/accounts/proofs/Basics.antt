@@ -4,7 +4,6 @@
 --     and-assoc, contrary, eqb-sym      tests
 --     one-more             room for one more
 --     all-from, all-each, all-weaken      what holds of every record
--- Assumes nothing.
 use mathlib.Core.Bool.{Bool, true, false, not, _&&_, cond}
 use mathlib.Core.List.{List, [], _∷_}
 use mathlib.Core.Option.{none, some}

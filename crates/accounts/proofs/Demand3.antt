@@ -5,7 +5,6 @@
 --     always-formed      each call of the list is lent a well-formed state: no run meets refusal 3
 --     after-fresh        what holds after any list
 --     instances-are, writers-are      the tables are the accounts not absent
--- Assumes nothing.
 use mathlib.Core.Bool.{Bool, true, false, cond}
 use mathlib.Core.List.{List, [], _∷_}
 use mathlib.Core.Option.{Option, none, some}

@@ -3,7 +3,6 @@
 --     lost-sound         codes 7 and 18 for each writer gone
 --     started-sound      a started instance
 --     two-times          both times of a sheet
--- Assumes nothing.
 use mathlib.Core.Bool.{true, false, not, _&&_}
 use mathlib.Core.List.{List, [], _∷_}
 use mathlib.Core.Option.{Option, some}

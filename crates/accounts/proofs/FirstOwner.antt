@@ -3,7 +3,6 @@
 --                        owner, and time 2 as owner_at; before, it was absent or code 16's rule let the writer through
 --     first-owner        the same of an absent key
 --     admitted-owner-32, admitted-owner-128, first-owner-32, first-owner-128      with 32 places, and with 128
--- Assumes nothing.
 use mathlib.Core.Bool.{true, false}
 use mathlib.Core.Option.{Option, none, some}
 use mathlib.Core.Path.{_≡_, refl, sym, ap, _∙_}

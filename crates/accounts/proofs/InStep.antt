@@ -3,7 +3,6 @@
 --     held-turn          an accepted call keeps it so
 --     held-fits, held-valid      so the state fits its bytes and is well formed
 --     held-fresh         the fresh state
--- Assumes nothing.
 use mathlib.Core.Bool.{Bool, true, false, not, _&&_, _||_}
 use mathlib.Core.List.{List, [], _∷_}
 use mathlib.Core.Option.{Option, none}

@@ -3,7 +3,6 @@
 --     admit-sound        admit with outcome 0
 --     losses-sound       codes 49 to 51
 --     stays-sound        a call that leaves the instances
--- Assumes nothing.
 use mathlib.Core.Bool.{Bool, true, false}
 use mathlib.Core.List.{List, [], _∷_}
 use mathlib.Core.Logic.{_≢_}

@@ -6,7 +6,6 @@
 --     admit-heard        so does admit with outcome 0
 --     loss-heard         so do codes 49 to 51
 --     tracker-heard      a tracker call leaves the instances' accounts as they are
--- Assumes nothing.
 use mathlib.Core.Bool.{Bool, true, false, not, _&&_, cond}
 use mathlib.Core.List.{List, [], _∷_, _++_, append-nil}
 use mathlib.Core.Option.{Option, none, some}

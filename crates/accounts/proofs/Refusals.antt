@@ -6,7 +6,6 @@
 --     nothing-else       it is 0, 8 in code 40 alone, or 9 to 13
 --     never-3            no call of a list is refused by 3
 --     ..-32, ..-128      each with 32 places, and with 128
--- Assumes nothing.
 use mathlib.Core.Bool.{Bool, true, false, not, _&&_, _||_, cond}
 use mathlib.Core.List.{List, [], _∷_}
 use mathlib.Core.Option.{Option, none, some}

@@ -1,7 +1,6 @@
 -- A sound value fits its bytes and is well formed; as plain facts, group by group.
 --     ok-state, fits-state       a sound instance passes section 2's test and fits
 --     set-members, set-without, set-with      sets of writers
--- Assumes nothing.
 use mathlib.Core.Bool.{true, false, not, _&&_}
 use mathlib.Core.List.{List, [], _∷_}
 use mathlib.Core.Path.{_≡_, refl, sym, ap, _∙_, subst}

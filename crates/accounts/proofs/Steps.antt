@@ -3,7 +3,6 @@
 --     writers-stay       an instance call leaves the writers' half
 --     admit-cases        the chain of admit
 --     turned             an accepted call
--- Assumes nothing.
 use mathlib.Core.Bool.{Bool, true, false, not, _&&_, cond}
 use mathlib.Core.List.{List, [], _∷_}
 use mathlib.Core.Option.{Option, none, some}

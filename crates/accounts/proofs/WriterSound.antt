@@ -2,7 +2,6 @@
 --     ok-writer, fits-writer     a sound writer passes section 2's test and fits
 --     all-plain                  a departed one has only GUID and state
 --     tracker-sound              an accepted tracker call
--- Assumes nothing.
 use mathlib.Core.Bool.{Bool, true, false, not, _&&_, _||_, cond}
 use mathlib.Core.List.{List, [], _∷_}
 use mathlib.Core.Option.{Option, none, some}

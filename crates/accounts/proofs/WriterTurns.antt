@@ -5,7 +5,6 @@
 --     alive-are, not-alive-are      both counts
 --     movers-fit        their GUIDs fit
 --     writer-heard      a call that the writers see keeps table and accounts in step
--- Assumes nothing.
 use mathlib.Core.Bool.{Bool, true, false, not, _&&_, _||_, cond}
 use mathlib.Core.List.{List, [], _∷_, map, map-map}
 use mathlib.Core.Option.{Option, none, some}

@@ -2,7 +2,6 @@
 --     first-asked       a started instance is usable and has room
 --     observed-asked    so does code 9 leave one
 --     sampled-of        what code 10 leaves, owned, fits its record
--- Assumes nothing.
 use Prim.Native.Nat.{ℕ}
 use mathlib.Core.Path.{_≡_, refl}
 use native.Mathlib.Omega.{arith}

@@ -1,7 +1,6 @@
 -- What a call answers stands in the answer's 72 bytes: outcome and handle fit their fields.
 --     call-fits        so they do in every call on a state in step with accounts
 --     outcome-read, handle-read      and are read back
--- Assumes nothing.
 use Prim.Native.Nat.{ℕ, _^_, _≤_, _<_}
 use mathlib.Core.Bool.{Bool, true, false, not, _&&_, cond}
 use mathlib.Core.List.{List, [], _∷_, _++_, append-assoc}

@@ -2,7 +2,6 @@
 --     boundary-demand3      the claim; boundary-demand3-32, boundary-demand3-128 with pens of either length
 --     never-3               no call of such a list is refused as 3
 --     only-busy             a call in order returns the number worked out from the accounts
--- Assumes nothing.
 use Prim.Native.Nat.{ℕ}
 use mathlib.Core.Bool.{Bool, true, false, cond}
 use mathlib.Core.List.{List, [], _∷_}

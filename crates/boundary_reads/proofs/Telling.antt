@@ -2,7 +2,6 @@
 --     told-short      an answer of another length keeps its bytes
 --     told-whole      the two parts make the answer's bytes
 --     hash-short, hash-put, hash-whole     the same of a KeyHash
--- Assumes nothing.
 use Prim.Native.Nat.{ℕ}
 use mathlib.Core.Path.{_≡_, ap, _∙_}
 use mathlib.Core.List.{List, [], _∷_, _++_, append-assoc}

@@ -2,7 +2,6 @@
 --     instance-outcome, admit-outcome     a call is accepted, or refused with nothing changed
 --     range-left          from what the code returns and leaves to the call on bytes
 --     graft-left          what such a call on the table leaves is, in head and buffers, what model says
--- Assumes nothing.
 use Prim.Native.Nat.{ℕ, zero, suc}
 use mathlib.Core.Bool.{Bool, true, false, not, _&&_, cond}
 use mathlib.Core.Option.{Option, none, some}

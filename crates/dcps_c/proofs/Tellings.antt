@@ -2,7 +2,6 @@
 --     decided, handled, timed, placed     what was read is what is told
 --     hashed                              the same of a KeyHash
 --     left-untold, left-told              the list, where the answer has its length
--- Assumes nothing.
 use Prim.Native.Nat.{ℕ}
 use mathlib.Core.Path.{_≡_, ap, _∙_}
 use mathlib.Core.List.{List}

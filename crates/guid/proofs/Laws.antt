@@ -1,6 +1,5 @@
 -- Laws of `num` and `prefix`.
 --     prefix-digits     the prefix in two digits
--- Assumes nothing.
 use mathlib.Core.Path.{_≡_}
 use Prim.Native.Nat.{_+_, _*_, _/_, _^_}
 use native.Mathlib.Omega.{arith}

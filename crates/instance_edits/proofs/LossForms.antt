@@ -2,7 +2,6 @@
 --     left-form, drop-form         code 7 for one writer: what it lists, what it leaves
 --     cleared-form                 codes 18 for several: how many clear the owner
 --     listed-form, loss-form       codes 7 and 18 for several: what they list, what they leave
--- Assumes nothing.
 use Prim.Native.Nat.{ℕ, _+_}
 use mathlib.Core.Bool.{Bool, true, false, not, _&&_, _||_, cond, and-false, or-false}
 use mathlib.Core.List.{List, [], _∷_}

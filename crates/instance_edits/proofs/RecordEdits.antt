@@ -8,7 +8,6 @@
 --     set-same, set-less               the set replaced by one as long, and by a shorter one
 --     silent-by, given-by              it was the last set of an alive instance: without a time, and with one
 --     settled-same, settled-left, settled-less      what `settle` writes of it: nothing, the end of its last set, a length
--- Assumes nothing.
 use Prim.Native.Nat.{ℕ, zero, suc, _+_, _-_, _/_, _≤_, _<_}
 use mathlib.Core.Bool.{Bool, true, false, not, _&&_, cond, and-false}
 use mathlib.Core.List.{List, [], _∷_, _++_, append-assoc, append-nil}

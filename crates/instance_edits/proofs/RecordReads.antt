@@ -5,7 +5,6 @@
 --     owner-other, owner-there               a test of the owner's GUID, and of the flags then
 --     listed-none, listed-at, listed-missing without an owner, and what the search says of one
 --     apart-high, apart-none, apart-low      the first writer is above a span, there is none, the last is below it
--- Assumes nothing.
 use Prim.Native.Nat.{ℕ, zero, suc, _+_, _-_, _*_, _/_, _%_, _^_, _≤_, _<_}
 use mathlib.Core.Bool.{Bool, true, false, _&&_, and-false, and-true}
 use mathlib.Core.List.{List, [], _∷_, map}

@@ -1,4 +1,4 @@
--- An instance is left unless it is purged. Assumes nothing.
+-- An instance is left unless it is purged.
 use mathlib.Core.Bool.{Bool, true, false, not, cond}
 use mathlib.Core.Option.{none, some}
 use mathlib.Core.Path.{_≡_, refl}

@@ -3,7 +3,6 @@
 --     without-sound                a sound set stays sound without a GUID
 --     sound-after                  what a call leaves has a sound writer set
 --     sound-loss, sound-losses     so does what the loss of a writer, or of several, leaves
--- Assumes nothing.
 use Prim.Native.Nat.{_^_}
 use mathlib.Core.Bool.{true}
 use mathlib.Core.List.{List}

@@ -3,7 +3,6 @@
 --     without-left           the test for writerless sees the list
 --     left-only, left-unheld, left-more      an instance is left by its only writer alone
 --     dropped-rest           the loss that leaves it its writers takes the GUID out, whether held or not
--- Assumes nothing.
 use Prim.Native.Nat.{ℕ, _≤_}
 use mathlib.Core.Bool.{Bool, true, false, cond, _&&_, _||_}
 use mathlib.Core.List.{List, [], _∷_}

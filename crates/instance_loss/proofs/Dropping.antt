@@ -4,7 +4,6 @@
 --     set-back           the record when the part is back
 --     flags-kept         its flags are still those of the instance
 --     dropped-left       what is left once the flags are settled
--- Assumes nothing.
 use Prim.Native.Nat.{ℕ, _-_, _%_, _≤_, _<_}
 use mathlib.Core.Bool.{Bool}
 use mathlib.Core.List.{List, [], _++_, append-nil, append-assoc}

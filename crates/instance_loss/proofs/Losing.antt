@@ -4,7 +4,6 @@
 --     few-left, owner-left     what is left of an instance that drops writers: its set is small enough, its owner is the same
 --     owner-flag               the flag of the owner in its bytes
 --     lost-left                the record once the owner is cleared where it goes
--- Assumes nothing.
 use Prim.Native.Nat.{ℕ, suc, _<_}
 use mathlib.Core.Bool.{Bool, true, false, not, _&&_, cond, and-false}
 use mathlib.Core.List.{List, [], _∷_}

@@ -1,7 +1,6 @@
 -- Acts over the instances of a list.
 --     Agree, passed-as     acts that agree on each instance leave the same of a pass
 --     all-kept             an act that purges nothing leaves as many
--- Assumes nothing.
 use Prim.Native.Nat.{ℕ, _+_}
 use mathlib.Core.Bool.{true}
 use mathlib.Core.List.{List, [], _∷_}

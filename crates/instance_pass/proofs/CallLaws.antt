@@ -5,7 +5,6 @@
 --     Every, every-turn      model's call, by the steps of a pass
 --     every-few, every-left  the bounds of its tally; the call from its pass
 --     Lost, lost             what model says of the loss of writers, by the steps of a pass
--- Assumes nothing.
 use Prim.Native.Nat.{ℕ, _+_, _*_, _≤_}
 use mathlib.Core.Bool.{Bool, true, false}
 use mathlib.Core.List.{List, [], _∷_}

@@ -3,7 +3,6 @@
 --     formed-part, edited-part, edited-as, unedited
 --                                     a record lent and given back changed; one that stayed
 --     record-formed                   record i of it, while those from i on are as they were
--- Assumes nothing.
 use Prim.Native.Nat.{ℕ, zero, suc, _+_, _-_, _*_, _≤_, _<_}
 use mathlib.Core.Bool.{true}
 use mathlib.Core.List.{List, [], _∷_, _++_}

@@ -6,7 +6,6 @@
 --                                 a list as bytes; one of one writer
 --     drop-passed                 code 7 for the writer of a sheet
 --     loss-bounded, by-bounded    how much an instance counts at most
--- Assumes nothing.
 use Prim.Native.Nat.{ℕ, _+_, _-_, _*_, _/_, _≤_, _<_}
 use mathlib.Core.Bool.{Bool, true, false, _&&_, cond}
 use mathlib.Core.List.{List, [], _∷_, append-nil}

@@ -3,7 +3,6 @@
 --     Changing, changing-start, changing-turn, changing-end     the pass while it goes on
 --     owner-flag                                                an owner is present
 --     strength-put, owner-put, strength-kept, owner-kept        one record from its parts
--- Assumes nothing.
 use Prim.Native.Nat.{ℕ, _+_, _-_, _*_, _≤_, _<_}
 use mathlib.Core.Bool.{Bool, true, false}
 use mathlib.Core.List.{List}

@@ -7,7 +7,6 @@
 --     during-went                     either
 --     during-end                      all are passed, and the places behind those kept are cleared
 --     during-stays, during-over       of an act that purges nothing: each at its place; all are passed
--- Assumes nothing.
 use Prim.Native.Nat.{ℕ, _+_, _*_, _≤_, _<_}
 use mathlib.Core.Bool.{Bool, true, false, cond}
 use mathlib.Core.List.{List, append-nil, append-assoc}

@@ -3,7 +3,6 @@
 --     purged-part, purge-one, keep-one, kept-le       a turn from its parts
 --     Purging, purging-start, purging-turn, purging-end
 --                                                     the pass while it goes on
--- Assumes nothing.
 use Prim.Native.Nat.{ℕ, _+_, _-_, _*_, _/_, _≤_, _<_}
 use mathlib.Core.Bool.{Bool, true, false}
 use mathlib.Core.List.{List}

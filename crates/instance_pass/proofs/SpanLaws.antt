@@ -1,6 +1,5 @@
 -- The span of a list that rises, from its first GUID to its last.
 --     span-none, span-all     a list with none; one with some
--- Assumes nothing.
 use Prim.Native.Nat.{ℕ, zero, suc, _-_, _*_, _/_, _≤_, _<_}
 use mathlib.Core.Bool.{true}
 use mathlib.Core.List.{List, [], _∷_}

@@ -2,7 +2,6 @@
 --     insert-known, room           a writer has room where it is known, or where fewer than 16 are
 --     crowds-full                  the test of it, by the set's own length
 --     acted-of                     what the effect leaves, as an instance
--- Assumes nothing.
 use Prim.Native.Nat.{ℕ, _≤_}
 use mathlib.Core.Bool.{Bool, true, false, not, _&&_, cond}
 use mathlib.Core.List.{List, [], _∷_}

@@ -10,7 +10,6 @@
 --                                          where one would start: what that asks; none at the limit; refusals 9 and 13; the start
 --     reached-key, absent-key, reached-handle, absent-handle
 --                                          from what was found to what is reached
--- Assumes nothing.
 use Prim.Native.Nat.{ℕ, _+_, _*_, _≤_, _<_}
 use mathlib.Core.Bool.{Bool, true, false, not, _&&_}
 use mathlib.Core.List.{List, [], _∷_, _++_, map}

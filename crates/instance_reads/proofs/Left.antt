@@ -3,7 +3,6 @@
 --     gone-test                                          one writer is among those gone
 --     list-odd, list-long, list-fine, list-free          the refusal for a list of GUIDs
 --     would-refused, would-is                            would_leave_writerless
--- Assumes nothing.
 use Prim.Native.Nat.{ℕ, zero, suc, _+_, _*_, _/_, _%_, _≤_, _<_}
 use mathlib.Core.Bool.{Bool, true, false, not}
 use mathlib.Core.List.{List, [], _∷_}

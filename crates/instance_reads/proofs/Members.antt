@@ -5,7 +5,6 @@
 --     rest-part                             the writers' bytes lent as a part
 --     part-ok, part-told                    record i of a table lent as a part
 --     place-table                           the place of the first of which p holds
--- Assumes nothing.
 use Prim.Native.Nat.{ℕ, zero, suc, _+_, _-_, _*_, _/_, _%_, _≤_, _<_}
 use mathlib.Core.Bool.{Bool, true, false}
 use mathlib.Core.List.{List}

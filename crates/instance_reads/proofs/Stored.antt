@@ -5,7 +5,6 @@
 --     in-force                              the bytes at that place, or those offered, are the holder in force
 --     place-room                            the place is within the table
 --     force-at, offered-there, part-there, part-room     the same of a place that was looked for
--- Assumes nothing.
 use Prim.Native.Nat.{ℕ, _+_, _-_, _*_, _/_, _%_, _≤_, _<_}
 use mathlib.Core.Bool.{true, false, _&&_}
 use mathlib.Core.List.{List, [], map}

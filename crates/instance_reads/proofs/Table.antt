@@ -5,7 +5,6 @@
 --     located                                  where a key is looked for
 --     found-room, found-here                   the instance of a key that was found
 --     found-none                               a key that was not
--- Assumes nothing.
 use Prim.Native.Nat.{ℕ, _+_, _*_, _≤_, _<_}
 use mathlib.Core.Bool.{true, false, cond}
 use mathlib.Core.List.{List, [], map}

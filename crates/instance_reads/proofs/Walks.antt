@@ -4,7 +4,6 @@
 --     next-refused, next-first, next-after         next_handle_after
 --     walk-refused, walk-is                        the handle at a position, as it is read
 --     lookup-refused, lookup-is                    the writer lookup, from the place of the first
--- Assumes nothing.
 use Prim.Native.Nat.{ℕ, suc, _+_, _≤_, _<_}
 use mathlib.Core.Bool.{Bool}
 use mathlib.Core.List.{List, [], _∷_}

@@ -5,7 +5,6 @@
 --     holder-read, holder-tail      the holder's bytes, and those behind its length
 --     kind-rest                     each number from 2 on is the last kind
 --     lent-part, put-back           a record lent as a part of a table, and what it becomes when it is back
--- Assumes nothing.
 use Prim.Native.Nat.{ℕ, zero, suc, _+_, _-_, _*_, _<_}
 use mathlib.Core.Path.{_≡_, refl, sym, ap, _∙_}
 use mathlib.Core.List.{List, [], _∷_, append-nil}

@@ -1,5 +1,4 @@
 -- A GUID that was seen at a place of a list is found there.
--- Assumes nothing.
 use Prim.Native.Nat.{ℕ, _*_, _/_, _<_}
 use mathlib.Core.Bool.{true}
 use mathlib.Core.List.{List}

@@ -2,7 +2,6 @@
 --     halves-differ, halves-same      the test of two GUIDs, by the lower halves first
 --     guid-place                      the place of the first that is g
 --     gone-none, gone-one             the set, where g is not in it and where it is
--- Assumes nothing.
 use Prim.Native.Nat.{ℕ, suc, _+_, _-_, _*_, _^_, _≤_, _<_}
 use mathlib.Core.Bool.{Bool, true, false}
 use mathlib.Core.List.{List, [], _∷_, _++_}

@@ -10,7 +10,6 @@
 --     others-more                               one is gone, then others
 --     one-out, none-out                         one GUID is gone: from its place, or it is not there
 --     remove-one, rising-remove                 that is `remove`, and what is left rises
--- Assumes nothing.
 use Prim.Native.Nat.{ℕ, zero, suc, _≤_, _<_}
 use mathlib.Core.Bool.{true, false}
 use mathlib.Core.List.{List, [], _∷_, _++_}

@@ -2,7 +2,6 @@
 --     one-listed         a list of one GUID
 --     keys-rise          the list's GUIDs rise as keys
 --     start-few, start-after       from the place of the set's first GUID on
--- Assumes nothing.
 use Prim.Native.Nat.{ℕ, zero, suc, _*_, _/_, _≤_, _<_}
 use mathlib.Core.Bool.{true}
 use mathlib.Core.List.{List, [], _∷_}

@@ -5,7 +5,6 @@
 --     walking-start, walking-turn       before the first; one turn more
 --     walking-less                      a turn leaves less of the two
 --     walking-end                       all are passed, and nil is put behind those that stay
--- Assumes nothing.
 use Prim.Native.Nat.{ℕ, zero, suc, _+_, _-_, _*_, _/_, _≤_, _<_}
 use mathlib.Core.Bool.{Bool, true, false}
 use mathlib.Core.List.{List, [], _∷_, _++_, append-nil, append-assoc}

@@ -5,7 +5,6 @@
 --     handles-ok, met-end, low-end, high-end, used-end       how it ends
 --     noted-turn, noted-outside, noted-by                    the handles as numbers, and what is known of these
 --     used-start, used-stop, used-on, used-all               the used records, from a place on
--- Assumes nothing.
 use Prim.Native.Nat.{ℕ, suc, _+_, _-_, _*_, _%_, _≤_, _<_}
 use mathlib.Core.Bool.{Bool, true, false, not, _&&_}
 use mathlib.Core.List.{List, []}

@@ -1,7 +1,6 @@
 -- The test of a record, in the order in which the code tests, and that of the records of a table.
 --     times-by, record-by     the six times, and one record, from their parts
 --     records-ok              what model asks of the first n records of a table, record by record
--- Assumes nothing.
 use Prim.Native.Nat.{ℕ, zero, suc}
 use mathlib.Core.Bool.{Bool, true, false, _&&_, and-assoc, and-false}
 use mathlib.Core.Path.{_≡_, refl, sym, _∙_}

@@ -5,7 +5,6 @@
 --     found-by, empty-members                             membership by the scan
 --     place-few, with-old, with-room, with-new            a GUID put in at its place
 --     without-none, without-found                         a GUID taken out
--- Assumes nothing.
 use Prim.Native.Nat.{ℕ, zero, suc, _+_, _-_, _≤_, _<_}
 use mathlib.Core.Bool.{Bool, true, false, cond, _||_}
 use mathlib.Core.Path.{_≡_, refl, sym, ap, _∙_}

@@ -3,7 +3,6 @@
 --     sound-size       a sound set's array has 16 places
 --     set-sound        a valid set is sound
 --     members-rise     its members rise
--- Assumes nothing.
 use Prim.Native.Nat.{_+_, _-_, _≤_}
 use mathlib.Core.Bool.{true}
 use mathlib.Core.Path.{_≡_, refl, sym, ap, _∙_}

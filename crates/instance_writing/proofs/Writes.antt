@@ -3,7 +3,6 @@
 --     writtenTo                         the first i GUIDs of a writer set are written
 --     written-start, written-turn, written-end, length-written      the loop over them
 --     written                           fields, holder and set make the record
--- Assumes nothing.
 use Prim.Native.Nat.{ℕ, _+_, _*_, _≤_, _<_}
 use mathlib.Core.Path.{_≡_, sym, ap, _∙_}
 use mathlib.Core.List.{List, [], _∷_, _++_, append-assoc, append-nil}

@@ -2,7 +2,6 @@
 --     entered-parts                     head and buffers are well formed, part by part
 --     entered-held, entered-losable     what the calls on the tracker and the pass ask for
 --     sheet-refused                     refusals 4 to 6
--- Assumes nothing.
 use Prim.Native.Nat.{ℕ, _≤_}
 use mathlib.Core.List.{List}
 use mathlib.Core.Path.{_≡_, ap, _∙_}

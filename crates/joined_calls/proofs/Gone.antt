@@ -3,7 +3,6 @@
 --     gone-rises, gone-few
 --                       those expired rise, and are no more than the writers
 --     expired-gone      the part of Lost that an expiry added
--- Assumes nothing.
 use Prim.Native.Nat.{ℕ, _-_, _*_, _≤_}
 use mathlib.Core.Bool.{Bool, true}
 use mathlib.Core.List.{List, [], _∷_, _++_, map}

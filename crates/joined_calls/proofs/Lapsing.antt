@@ -4,7 +4,6 @@
 --     lapse-listed        those that come to Lost rise, and are at most 128
 --     lapse-left          what the call leaves where the expiry is accepted
 --     lapse-stays         and where it is refused
--- Assumes nothing.
 use Prim.Native.Nat.{ℕ, _+_, _≤_}
 use mathlib.Core.Bool.{Bool, true, false, cond}
 use mathlib.Core.List.{List, _++_}

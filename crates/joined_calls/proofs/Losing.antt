@@ -5,7 +5,6 @@
 --     loss-left                     the joined call where the tracker's is accepted
 --     loss-stays                    where it is refused, nothing is changed
 --     leave-left, leave-number      codes 50 and 51
--- Assumes nothing.
 use Prim.Native.Nat.{ℕ, zero, suc}
 use mathlib.Core.Bool.{Bool, true, false}
 use mathlib.Core.List.{List, [], _∷_}

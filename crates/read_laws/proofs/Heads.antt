@@ -3,7 +3,6 @@
 --     formed-head      of the head of a well-formed state it holds
 --     head-made        where it holds, buffers of their lengths are well formed with it
 --     head-3, only-head-3      so a head is refused as 3 exactly if its figure is another or no buffers do
--- Assumes nothing.
 use Prim.Native.Nat.{ℕ, _+_, _-_, _*_, _^_, _≤_, _<_}
 use mathlib.Core.Bool.{true, false, _&&_}
 use mathlib.Core.List.{List, []}

@@ -2,7 +2,6 @@
 --     instancesFrom, instances-ok, instances-fit      started instances with the keys and handles from a number on
 --     writersFrom, writers-ok, writers-fit            writers with the GUIDs from a number on, each in a class
 --     alive-are, not-alive-are                        their classes
--- Assumes nothing.
 use Prim.Native.Nat.{ℕ, zero, suc, _+_, _^_, _≤_, _<_}
 use mathlib.Core.Bool.{Bool, true, false, cond}
 use mathlib.Core.List.{List, [], _∷_, _++_}

@@ -4,7 +4,6 @@
 --     table-3          3: no head and no buffers do
 --     table-0          0: some head and buffers of their lengths do
 --     only-table-3     so where none do, it is 3
--- Assumes nothing.
 use Prim.Native.Nat.{ℕ, zero, suc, _+_, _*_, _^_, _≤_}
 use mathlib.Core.Bool.{Bool, true, false, _&&_, cond}
 use mathlib.Core.List.{List, [], _∷_}

@@ -2,7 +2,6 @@
 --     formed-whole     the table of a well-formed state
 --     run-whole        the table of any list of calls from the fresh state: its accounts
 --     run-lookup       so the writer lookup after it names the first instance of those accounts that the writer writes
--- Assumes nothing.
 use Prim.Native.Nat.{ℕ, _*_}
 use mathlib.Core.Bool.{true}
 use mathlib.Core.List.{List}

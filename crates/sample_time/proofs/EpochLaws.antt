@@ -1,4 +1,4 @@
--- The tests on times beside document 01's, which are the Rust's. Assumes nothing.
+-- The tests on times beside document 01's, which are the Rust's.
 --     value-same                              at seconds that are not negative the value is document 01's,
 --     later-same, gap-same                    so it orders and subtracts as before,
 --     filter-same, order-same, purge-same     and the three tests are document 01's

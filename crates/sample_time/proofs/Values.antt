@@ -1,5 +1,4 @@
--- The nanosecond value of a time as a difference of naturals: nanoseconds since -2^31 seconds, less 2^31 × 10^9. Assumes
--- nothing.
+-- The nanosecond value of a time as a difference of naturals: nanoseconds since -2^31 seconds, less 2^31 × 10^9.
 --     seconds-are, nanos-are               the value of seconds alone, and of a time
 --     later-is, gap-is                     of two values
 --     seconds-fit, nanos-fit, gap-fits     64 bits hold it

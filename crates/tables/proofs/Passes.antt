@@ -5,7 +5,6 @@
 --     length-midway                                    as long as it was
 --     midway-get                                       record i is as it was
 --     midway-keep, midway-drop            a turn: what is left is written; nothing is left; nothing changes
--- Assumes nothing.
 use Prim.Native.Nat.{ℕ, suc, _+_, _-_, _≤_, _<_}
 use mathlib.Core.List.{List, [], _∷_, _++_, append-nil}
 use mathlib.Core.Option.{Option, none, some}

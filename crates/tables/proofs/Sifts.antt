@@ -4,7 +4,6 @@
 --     sift-same, sift-nowhere     nothing changes
 --     sift-set, sift-only         one record changes: `set`
 --     sift-cut                    one record is taken out
--- Assumes nothing.
 use Prim.Native.Nat.{ℕ, zero, suc, _+_, _<_}
 use mathlib.Core.Bool.{Bool, false}
 use mathlib.Core.List.{List, [], _∷_, _++_}

@@ -4,7 +4,6 @@
 --     takes-judged       code 38
 --     keeps-judged       a call by value, codes 39 and 40; status-same, acknowledge-same say that these leave the writers
 --     refuses-judged     a call that its sheet refuses
--- Assumes nothing.
 use Prim.Native.Nat.{ℕ}
 use mathlib.Core.Bool.{true}
 use mathlib.Core.List.{List, []}

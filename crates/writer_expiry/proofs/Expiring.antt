@@ -4,7 +4,6 @@
 --     lost-laid, lost-few                         a well-formed Lost is its GUIDs, laid out
 --     gone-alive, gone-room, gone-fits            no more expire than there are alive, and the counts hold them
 --     expire-leaves, expire-full                  what the call leaves is model's turn, and refusal 12
--- Assumes nothing.
 use Prim.Native.Nat.{ℕ, _+_, _-_, _*_, _≤_, _<_}
 use mathlib.Core.Bool.{Bool, true, false, not, cond}
 use mathlib.Core.Path.{_≡_, refl, sym, ap, _∙_}

@@ -5,7 +5,6 @@
 --     part-touched, part-kept        the assertion at one record, from what its callees ensure
 --     moves-not-alive                who moves to the alive ones was not among them
 --     tally-moved, tally-stays       the tally of one record, where its writer moves and where not
--- Assumes nothing.
 use Prim.Native.Nat.{ℕ, suc, _+_, _-_, _*_, _≤_, _<_, _^_}
 use mathlib.Core.Bool.{Bool, true, false, not, _&&_, cond}
 use mathlib.Core.Path.{_≡_, refl, sym, ap, _∙_}

@@ -3,7 +3,6 @@
 --     midway, mid-split, mid-next, mid-rest, mid-length     the writers, the first i of them turned by f
 --     Amid                            the table with the first i of its writers turned; amid-from, amid-read, amid-bounded,
 --                                     amid-forth, amid-put, amid-kept, amid-rest and amid-end are its laws
--- Assumes nothing.
 use Prim.Native.Nat.{ℕ, suc, _+_, _*_, _≤_, _<_}
 use mathlib.Core.Path.{_≡_, sym, ap, _∙_}
 use mathlib.Core.List.{List, [], _∷_, _++_, map, map-append, append-assoc}

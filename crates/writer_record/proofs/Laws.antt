@@ -3,7 +3,6 @@
 --     record-put, guid-put      fields put one after the other are the record's bytes
 --     whole                     a record written over all of its bytes
 --     part-size                 a record's part of its table
--- Assumes nothing.
 use Prim.Native.Nat.{ℕ, zero, suc, _+_, _-_, _≤_}
 use mathlib.Core.Path.{_≡_, refl}
 use mathlib.Core.List.{List, [], _∷_, append-nil}

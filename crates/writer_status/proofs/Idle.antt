@@ -4,7 +4,6 @@
 --     acknowledge-kept      code 40
 --     take-after, take-who  the writers and the movers of code 38
 --     head-within, as-lent  the bounds of a head, and a change lent as its bits
--- Assumes nothing.
 use Prim.Native.Nat.{ℕ, _+_, _%_, _^_, _≤_, _<_}
 use mathlib.Core.Bool.{true, _&&_}
 use mathlib.Core.Path.{_≡_, refl, sym, ap, _∙_}

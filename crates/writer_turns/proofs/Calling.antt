@@ -4,7 +4,6 @@
 --     room-pass, room-still, room-gone, room-departs      the tallies fit the head
 --     alive-there, not-alive-there          a writer that is there is counted
 --     pass-settles                          a call that passes over every writer leaves model's turn
--- Assumes nothing.
 use Prim.Native.Nat.{ℕ, suc, _+_, _-_, _*_, _≤_, _<_}
 use mathlib.Core.Bool.{true, cond}
 use mathlib.Core.Path.{_≡_, refl, sym, ap, _∙_}

@@ -6,7 +6,6 @@
 --     leave-missing                                   both, where the GUID has no record
 --     asserting, not-asserting                        a match asserts, or not
 --     again-put, again-tracked, again-after, first-put, first-full, first-after     code 32
--- Assumes nothing.
 use Prim.Native.Nat.{ℕ, _+_, _-_, _*_, _≤_, _<_}
 use mathlib.Core.Bool.{Bool, true, false, cond, and-false, and-true}
 use mathlib.Core.Path.{_≡_, refl, sym, ap, _∙_}

@@ -5,7 +5,6 @@
 --     few-alive, few-not-alive                    at most 128 are counted
 --     count-set, count-out                        how many are picked with one record changed, or taken out
 --     all-put, all-in       what holds of all holds with one writer changed, or put in
--- Assumes nothing.
 use Prim.Native.Nat.{ℕ, suc, _+_, _*_, _≤_, _<_, _^_}
 use mathlib.Core.Bool.{Bool, true, _&&_}
 use mathlib.Core.Path.{_≡_, ap, _∙_}

@@ -1,7 +1,6 @@
 -- The signed changes of a turn, over plain variables.
 --     changed           the change that is returned, read back from its bits
 --     settled           the head that is put together
--- Assumes nothing.
 use Prim.Native.Nat.{ℕ, _+_, _≤_, _%_, _^_}
 use mathlib.Core.Bool.{true}
 use mathlib.Core.Path.{_≡_, ap, _∙_}

@@ -3,7 +3,6 @@
 --     Put                                       a table with the matched record in its place
 --     put-again, put-first                      it, where the GUID has a record and where it has none
 --     match-asserted, match-kept                what the call leaves is model's turn, with an assertion and without
--- Assumes nothing.
 use Prim.Native.Nat.{ℕ, _+_, _*_, _≤_, _<_, _^_}
 use mathlib.Core.Bool.{Bool, true, false, not, _&&_, cond, and-true}
 use mathlib.Core.Path.{_≡_, refl, sym, ap, _∙_}

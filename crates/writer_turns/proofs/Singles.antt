@@ -4,7 +4,6 @@
 --     Tallied                               a tally is that of the writers and the movers
 --     gone-tallied, departs-tallied         the tallies of a record taken out, and of one that departs
 --     single-gone, single-departs, single-stays, single-missing     what the call leaves is model's turn
--- Assumes nothing.
 use Prim.Native.Nat.{ℕ, suc, _+_, _-_, _*_, _<_}
 use mathlib.Core.Bool.{Bool, true, false, not, cond}
 use mathlib.Core.Path.{_≡_, refl, sym, ap, _∙_}

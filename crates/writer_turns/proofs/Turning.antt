@@ -3,7 +3,6 @@
 --     sift-map, sift-same, pick-same        a table taken through a function that removes nothing
 --     Plain, turn-settles                   a call on the writers alone, from its writers and its movers
 --     assert-turn, match-turn, match-still  the writers and the movers of assertions and of matches
--- Assumes nothing.
 use Prim.Native.Nat.{ℕ, suc}
 use mathlib.Core.Bool.{Bool, true, false, not}
 use mathlib.Core.Path.{_≡_, refl, sym, ap, _∙_}

@@ -3,7 +3,6 @@
 --     acknowledged-as                    what was acknowledged of a count, the change read from its bits
 --     status-made                        the status that is put together
 --     lost-by                            of Lost
--- Assumes nothing.
 use Prim.Native.Nat.{ℕ, _+_, _*_}
 use mathlib.Core.Bool.{Bool, _&&_}
 use mathlib.Core.List.{List}

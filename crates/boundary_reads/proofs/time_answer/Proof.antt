@@ -1,25 +1,10 @@
--- `boundary_reads::time_answer` meets its contract. Assumes nothing.
+-- `boundary_reads::time_answer` meets its contract.
 use mir.Facts.{toZ-ofZ}
 use mir.Syntax.{w32}
 use mir.Val.{SFits}
 use borrow.Author.Needs.{needs}
 use Rattle.boundary_reads.proofs.time_answer.Statement.{statement}
 use Rattle.boundary_reads.proofs.time_answer.Tie as tie
-
-enum-known-f : tie.Need-enum-known-f
-enum-known-f c = search needs
-
-refused-answer-requires : tie.Need-refused-answer-requires
-refused-answer-requires c κs = search needs
-
-enum-told : tie.Need-enum-told
-enum-told c = search needs
-
-refused-answer-requires-2 : tie.Need-refused-answer-requires-2
-refused-answer-requires-2 c κs = search needs
-
-enum-known-f-2 : tie.Need-enum-known-f-2
-enum-known-f-2 c = search needs
 
 returns : tie.Need-returns
 returns c = rw (c .refused-answer .ensures, c .before .before .f .given .1)
@@ -36,12 +21,5 @@ returns-3 c =
 pub time-answer-spec : {M : Type 1} → statement M
 time-answer-spec =
     tie.close
-    (tie.spec
-    enum-known-f
-    refused-answer-requires
-    enum-told
-    refused-answer-requires-2
-    enum-known-f-2
-    returns
-    returns-2
-    returns-3)
+    (tie.spec (λ c. search needs) (λ c κs. search needs) (λ c. search needs) (λ c κs. search needs)
+    (λ c. search needs) returns returns-2 returns-3)

@@ -1,4 +1,4 @@
--- `settle` meets its contract. Assumes nothing.
+-- `settle` meets its contract.
 use mathlib.Core.Logic.{⊎-elim}
 use native.Mathlib.Omega.{arith}
 use Rattle.instance_edits.proofs.RecordEdits.{settled-left, settled-less, settled-same}
@@ -23,42 +23,8 @@ returns-3 c =
     (λ z. ⊎-elim (λ t. omega (arith, t .1 .left)) (λ t. absurd (t .left z)) (c .before .before .before .before .if2 .came))
     (c .before .before .put-u16 .ensures)
 
-get-u16-requires : tie.Need-get-u16-requires
-get-u16-requires c κs = search needs
-
-sub-g : tie.Need-sub-g
-sub-g c = search needs
-
-cast-g : tie.Need-cast-g
-cast-g c = search needs
-
-sub-g-2 : tie.Need-sub-g-2
-sub-g-2 c = search needs
-
-leave-writerless-requires : tie.Need-leave-writerless-requires
-leave-writerless-requires c κs = search needs
-
-same-length : tie.Need-same-length
-same-length c = search needs
-
-put-u16-requires : tie.Need-put-u16-requires
-put-u16-requires c κs = search needs
-
-same-length-2 : tie.Need-same-length-2
-same-length-2 c = search needs
-
 pub settle-spec : {M : Type 1} → statement M
 settle-spec =
     tie.close
-    (tie.spec
-    returns
-    get-u16-requires
-    sub-g
-    cast-g
-    sub-g-2
-    leave-writerless-requires
-    same-length
-    returns-2
-    put-u16-requires
-    same-length-2
-    returns-3)
+    (tie.spec returns (λ c κs. search needs) (λ c. search needs) (λ c. search needs) (λ c. search needs)
+    (λ c κs. search needs) (λ c. search needs) returns-2 (λ c κs. search needs) (λ c. search needs) returns-3)

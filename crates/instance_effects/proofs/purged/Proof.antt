@@ -1,23 +1,8 @@
--- Code 21. Assumes nothing.
+-- Code 21.
 use Rattle.model.specs.Instances.{purged}
 use borrow.Author.Needs.{needs}
 use Rattle.instance_effects.proofs.purged.Statement.{statement}
 use Rattle.instance_effects.proofs.purged.Tie as tie
-
-enum-told : tie.Need-enum-told
-enum-told c = search needs
-
-enum-told-2 : tie.Need-enum-told-2
-enum-told-2 c = search needs
-
-purge-due-requires : tie.Need-purge-due-requires
-purge-due-requires c κs = search needs
-
-enum-told-3 : tie.Need-enum-told-3
-enum-told-3 c = search needs
-
-purge-due-requires-2 : tie.Need-purge-due-requires-2
-purge-due-requires-2 c κs = search needs
 
 returns : tie.Need-returns
 unfolding purged
@@ -34,12 +19,5 @@ returns-3 c = rw (c .before .enum-told3 .given .1) (c .purge-due2 .ensures)
 pub purged-spec : {M : Type 1} → statement M
 purged-spec =
     tie.close
-    (tie.spec
-    enum-told
-    enum-told-2
-    purge-due-requires
-    enum-told-3
-    purge-due-requires-2
-    returns
-    returns-2
-    returns-3)
+    (tie.spec (λ c. search needs) (λ c. search needs) (λ c κs. search needs) (λ c. search needs)
+    (λ c κs. search needs) returns returns-2 returns-3)

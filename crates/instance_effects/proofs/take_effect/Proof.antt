@@ -1,4 +1,4 @@
--- The table of the calls, call by call. Assumes nothing.
+-- The table of the calls, call by call.
 use mathlib.Core.Path.{ap, _∙_}
 use mathlib.Core.Option.{some}
 use Rattle.instance_effects.proofs.StepLaws.{left-unless}
@@ -6,209 +6,11 @@ use borrow.Author.Needs.{needs}
 use Rattle.instance_effects.proofs.take_effect.Statement.{statement}
 use Rattle.instance_effects.proofs.take_effect.Tie as tie
 
-enum-told : tie.Need-enum-told
-enum-told c = search needs
-
-registered-requires : tie.Need-registered-requires
-registered-requires c κs = search needs
-
-kept-requires : tie.Need-kept-requires
-kept-requires c κs = search needs
-
-enum-told-2 : tie.Need-enum-told-2
-enum-told-2 c = search needs
-
-ensured-requires : tie.Need-ensured-requires
-ensured-requires c κs = search needs
-
-kept-requires-2 : tie.Need-kept-requires-2
-kept-requires-2 c κs = search needs
-
-enum-told-3 : tie.Need-enum-told-3
-enum-told-3 c = search needs
-
-if-present-requires : tie.Need-if-present-requires
-if-present-requires c κs = search needs
-
-disposed-requires : tie.Need-disposed-requires
-disposed-requires c κs = search needs
-
-kept-requires-3 : tie.Need-kept-requires-3
-kept-requires-3 c κs = search needs
-
-enum-told-4 : tie.Need-enum-told-4
-enum-told-4 c = search needs
-
-if-present-requires-2 : tie.Need-if-present-requires-2
-if-present-requires-2 c κs = search needs
-
-unregistered-requires : tie.Need-unregistered-requires
-unregistered-requires c κs = search needs
-
-kept-requires-4 : tie.Need-kept-requires-4
-kept-requires-4 c κs = search needs
-
-enum-told-5 : tie.Need-enum-told-5
-enum-told-5 c = search needs
-
-if-present-requires-3 : tie.Need-if-present-requires-3
-if-present-requires-3 c κs = search needs
-
-writer-unregistered-requires : tie.Need-writer-unregistered-requires
-writer-unregistered-requires c κs = search needs
-
-kept-requires-5 : tie.Need-kept-requires-5
-kept-requires-5 c κs = search needs
-
-enum-told-6 : tie.Need-enum-told-6
-enum-told-6 c = search needs
-
 writer-noted-requires : tie.Need-writer-noted-requires
 writer-noted-requires c κs = let s = c .before .before .before .before in (s .pre .0 .writers, s .pre .1 (rw (c .enum-told6 .given .1)))
 
-kept-requires-6 : tie.Need-kept-requires-6
-kept-requires-6 c κs = search needs
-
-enum-told-7 : tie.Need-enum-told-7
-enum-told-7 c = search needs
-
-if-present-requires-4 : tie.Need-if-present-requires-4
-if-present-requires-4 c κs = search needs
-
-writer-dropped-requires : tie.Need-writer-dropped-requires
-writer-dropped-requires c κs = search needs
-
-kept-requires-7 : tie.Need-kept-requires-7
-kept-requires-7 c κs = search needs
-
-enum-told-8 : tie.Need-enum-told-8
-enum-told-8 c = search needs
-
-lifecycle-observed-requires : tie.Need-lifecycle-observed-requires
-lifecycle-observed-requires c κs = search needs
-
-kept-requires-8 : tie.Need-kept-requires-8
-kept-requires-8 c κs = search needs
-
-enum-told-9 : tie.Need-enum-told-9
-enum-told-9 c = search needs
-
-admitted-observed-requires : tie.Need-admitted-observed-requires
-admitted-observed-requires c κs = search needs
-
-kept-requires-9 : tie.Need-kept-requires-9
-kept-requires-9 c κs = search needs
-
-enum-told-10 : tie.Need-enum-told-10
-enum-told-10 c = search needs
-
 admitted-noted-requires : tie.Need-admitted-noted-requires
 admitted-noted-requires c κs = let s = c .before .before .before .before in (s .pre .0 .writers, s .pre .1 (rw (c .enum-told10 .given .1)))
-
-kept-requires-10 : tie.Need-kept-requires-10
-kept-requires-10 c κs = search needs
-
-enum-told-11 : tie.Need-enum-told-11
-enum-told-11 c = search needs
-
-always-requires : tie.Need-always-requires
-always-requires c κs = search needs
-
-delivery-recorded-requires : tie.Need-delivery-recorded-requires
-delivery-recorded-requires c κs = search needs
-
-kept-requires-11 : tie.Need-kept-requires-11
-kept-requires-11 c κs = search needs
-
-enum-told-12 : tie.Need-enum-told-12
-enum-told-12 c = search needs
-
-drained-requires : tie.Need-drained-requires
-drained-requires c κs = search needs
-
-viewed-requires : tie.Need-viewed-requires
-viewed-requires c κs = search needs
-
-kept-requires-12 : tie.Need-kept-requires-12
-kept-requires-12 c κs = search needs
-
-enum-told-13 : tie.Need-enum-told-13
-enum-told-13 c = search needs
-
-viewed-requires-2 : tie.Need-viewed-requires-2
-viewed-requires-2 c κs = search needs
-
-kept-requires-13 : tie.Need-kept-requires-13
-kept-requires-13 c κs = search needs
-
-enum-told-14 : tie.Need-enum-told-14
-enum-told-14 c = search needs
-
-viewed-requires-3 : tie.Need-viewed-requires-3
-viewed-requires-3 c κs = search needs
-
-kept-requires-14 : tie.Need-kept-requires-14
-kept-requires-14 c κs = search needs
-
-enum-told-15 : tie.Need-enum-told-15
-enum-told-15 c = search needs
-
-drained-requires-2 : tie.Need-drained-requires-2
-drained-requires-2 c κs = search needs
-
-kept-requires-15 : tie.Need-kept-requires-15
-kept-requires-15 c κs = search needs
-
-enum-told-16 : tie.Need-enum-told-16
-enum-told-16 c = search needs
-
-ownership-tried-requires : tie.Need-ownership-tried-requires
-ownership-tried-requires c κs = search needs
-
-kept-requires-16 : tie.Need-kept-requires-16
-kept-requires-16 c κs = search needs
-
-enum-told-17 : tie.Need-enum-told-17
-enum-told-17 c = search needs
-
-strength-updated-requires : tie.Need-strength-updated-requires
-strength-updated-requires c κs = search needs
-
-kept-requires-17 : tie.Need-kept-requires-17
-kept-requires-17 c κs = search needs
-
-enum-told-18 : tie.Need-enum-told-18
-enum-told-18 c = search needs
-
-owner-cleared-requires : tie.Need-owner-cleared-requires
-owner-cleared-requires c κs = search needs
-
-kept-requires-18 : tie.Need-kept-requires-18
-kept-requires-18 c κs = search needs
-
-enum-told-19 : tie.Need-enum-told-19
-enum-told-19 c = search needs
-
-prefix-cleared-requires : tie.Need-prefix-cleared-requires
-prefix-cleared-requires c κs = search needs
-
-kept-requires-19 : tie.Need-kept-requires-19
-kept-requires-19 c κs = search needs
-
-enum-told-20 : tie.Need-enum-told-20
-enum-told-20 c = search needs
-
-owner-cleared-requires-2 : tie.Need-owner-cleared-requires-2
-owner-cleared-requires-2 c κs = search needs
-
-kept-requires-20 : tie.Need-kept-requires-20
-kept-requires-20 c κs = search needs
-
-enum-told-21 : tie.Need-enum-told-21
-enum-told-21 c = search needs
-
-purged-requires : tie.Need-purged-requires
-purged-requires c κs = search needs
 
 returns : tie.Need-returns
 returns c = rw (c .before .before .enum-told .given .1) (c .kept .ensures ∙ ap some (c .before .registered .ensures))
@@ -290,93 +92,19 @@ returns-21 c =
 pub take-effect-spec : {M : Type 1} → statement M
 take-effect-spec =
     tie.close
-    (tie.spec
-    enum-told
-    registered-requires
-    kept-requires
-    enum-told-2
-    ensured-requires
-    kept-requires-2
-    enum-told-3
-    if-present-requires
-    disposed-requires
-    kept-requires-3
-    enum-told-4
-    if-present-requires-2
-    unregistered-requires
-    kept-requires-4
-    enum-told-5
-    if-present-requires-3
-    writer-unregistered-requires
-    kept-requires-5
-    enum-told-6
-    writer-noted-requires
-    kept-requires-6
-    enum-told-7
-    if-present-requires-4
-    writer-dropped-requires
-    kept-requires-7
-    enum-told-8
-    lifecycle-observed-requires
-    kept-requires-8
-    enum-told-9
-    admitted-observed-requires
-    kept-requires-9
-    enum-told-10
-    admitted-noted-requires
-    kept-requires-10
-    enum-told-11
-    always-requires
-    delivery-recorded-requires
-    kept-requires-11
-    enum-told-12
-    drained-requires
-    viewed-requires
-    kept-requires-12
-    enum-told-13
-    viewed-requires-2
-    kept-requires-13
-    enum-told-14
-    viewed-requires-3
-    kept-requires-14
-    enum-told-15
-    drained-requires-2
-    kept-requires-15
-    enum-told-16
-    ownership-tried-requires
-    kept-requires-16
-    enum-told-17
-    strength-updated-requires
-    kept-requires-17
-    enum-told-18
-    owner-cleared-requires
-    kept-requires-18
-    enum-told-19
-    prefix-cleared-requires
-    kept-requires-19
-    enum-told-20
-    owner-cleared-requires-2
-    kept-requires-20
-    enum-told-21
-    purged-requires
-    returns
-    returns-2
-    returns-3
-    returns-4
-    returns-5
-    returns-6
-    returns-7
-    returns-8
-    returns-9
-    returns-10
-    returns-11
-    returns-12
-    returns-13
-    returns-14
-    returns-15
-    returns-16
-    returns-17
-    returns-18
-    returns-19
-    returns-20
-    returns-21)
+    (tie.spec (λ c. search needs) (λ c κs. search needs) (λ c κs. search needs) (λ c. search needs)
+    (λ c κs. search needs) (λ c κs. search needs) (λ c. search needs) (λ c κs. search needs) (λ c κs. search needs)
+    (λ c κs. search needs) (λ c. search needs) (λ c κs. search needs) (λ c κs. search needs) (λ c κs. search needs)
+    (λ c. search needs) (λ c κs. search needs) (λ c κs. search needs) (λ c κs. search needs) (λ c. search needs)
+    writer-noted-requires (λ c κs. search needs) (λ c. search needs) (λ c κs. search needs) (λ c κs. search needs)
+    (λ c κs. search needs) (λ c. search needs) (λ c κs. search needs) (λ c κs. search needs) (λ c. search needs)
+    (λ c κs. search needs) (λ c κs. search needs) (λ c. search needs) admitted-noted-requires (λ c κs. search needs)
+    (λ c. search needs) (λ c κs. search needs) (λ c κs. search needs) (λ c κs. search needs) (λ c. search needs)
+    (λ c κs. search needs) (λ c κs. search needs) (λ c κs. search needs) (λ c. search needs) (λ c κs. search needs)
+    (λ c κs. search needs) (λ c. search needs) (λ c κs. search needs) (λ c κs. search needs) (λ c. search needs)
+    (λ c κs. search needs) (λ c κs. search needs) (λ c. search needs) (λ c κs. search needs) (λ c κs. search needs)
+    (λ c. search needs) (λ c κs. search needs) (λ c κs. search needs) (λ c. search needs) (λ c κs. search needs)
+    (λ c κs. search needs) (λ c. search needs) (λ c κs. search needs) (λ c κs. search needs) (λ c. search needs)
+    (λ c κs. search needs) (λ c κs. search needs) (λ c. search needs) (λ c κs. search needs) returns returns-2
+    returns-3 returns-4 returns-5 returns-6 returns-7 returns-8 returns-9 returns-10 returns-11 returns-12 returns-13
+    returns-14 returns-15 returns-16 returns-17 returns-18 returns-19 returns-20 returns-21)

@@ -1,4 +1,4 @@
--- `instance_handle::not_nil` meets its contract, by the test on the way. Assumes nothing.
+-- `instance_handle::not_nil` meets its contract, by the test on the way.
 use borrow.Author.Tests.{eq-eqb, ne-eqb}
 use Rattle.instance_handle.proofs.not_nil.Statement.{statement}
 use Rattle.instance_handle.proofs.not_nil.Tie as tie

@@ -1,4 +1,4 @@
--- The loss of its only writer leaves an alive instance writerless. Assumes nothing.
+-- The loss of its only writer leaves an alive instance writerless.
 use mathlib.Core.Path.{sym, _∙_}
 use Rattle.instance_lifecycle.proofs.StepLaws.{left-only, left-unheld, left-more}
 use borrow.Author.Needs.{needs}
@@ -9,12 +9,6 @@ returns : tie.Need-returns
 returns c =
     let s = c .before .before .before .before in
     left-more (s .args .g) (s .args .x) (s .pre) (c .if1 .taken)
-
-holds-requires : tie.Need-holds-requires
-holds-requires c κs = search needs
-
-is-alive-requires : tie.Need-is-alive-requires
-is-alive-requires c κs = search needs
 
 returns-2 : tie.Need-returns-2
 returns-2 c =
@@ -28,4 +22,4 @@ returns-3 c =
     left-unheld (s .args .g) (s .args .x) (s .pre) (sym (c .before .holds .ensures) ∙ c .if2 .left)
 
 pub left-by-spec : {M : Type 1} → statement M
-left-by-spec = tie.close (tie.spec returns holds-requires is-alive-requires returns-2 returns-3)
+left-by-spec = tie.close (tie.spec returns (λ c κs. search needs) (λ c κs. search needs) returns-2 returns-3)

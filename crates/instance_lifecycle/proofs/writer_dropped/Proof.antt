@@ -1,22 +1,10 @@
--- Code 7. Assumes nothing.
+-- Code 7.
 use mathlib.Core.Path.{sym, _∙_}
 use Rattle.model.specs.Instances.{writerDropped}
 use Rattle.instance_lifecycle.proofs.StepLaws.{dropped-rest}
 use borrow.Author.Needs.{needs}
 use Rattle.instance_lifecycle.proofs.writer_dropped.Statement.{statement}
 use Rattle.instance_lifecycle.proofs.writer_dropped.Tie as tie
-
-without-requires : tie.Need-without-requires
-without-requires c κs = search needs
-
-left-by-requires : tie.Need-left-by-requires
-left-by-requires c κs = search needs
-
-writerless-requires : tie.Need-writerless-requires
-writerless-requires c κs = search needs
-
-sampled-at-requires : tie.Need-sampled-at-requires
-sampled-at-requires c κs = search needs
 
 returns : tie.Need-returns
 unfolding writerDropped
@@ -33,10 +21,5 @@ returns-2 c =
 pub writer-dropped-spec : {M : Type 1} → statement M
 writer-dropped-spec =
     tie.close
-    (tie.spec
-    without-requires
-    left-by-requires
-    writerless-requires
-    sampled-at-requires
-    returns
+    (tie.spec (λ c κs. search needs) (λ c κs. search needs) (λ c κs. search needs) (λ c κs. search needs) returns
     returns-2)

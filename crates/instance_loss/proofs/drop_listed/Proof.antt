@@ -1,4 +1,4 @@
--- The set without the writers of the list, then the flags. Assumes nothing.
+-- The set without the writers of the list, then the flags.
 use Prim.Native.Nat.{ℕ, _%_}
 use mathlib.Core.Path.{ap}
 use native.Mathlib.Omega.{arith}
@@ -17,21 +17,6 @@ returns c =
     let t = c .before .before .settle in
     dropped-left (a .s .now) (λ j. c .before .before .before .before .before .before .before .before .before .before .before .slice-known .given j .fits) (s .pre .0) (v .result) (k .result) (gonesIn (a .gone .now)) (k .last .0) (v .ensures) (k .ensures .0) (k .ensures .1) (a .at) (t .last .0) (t .result) (t .ensures)
 
-get-u16-requires : tie.Need-get-u16-requires
-get-u16-requires c κs = search needs
-
-cast-n : tie.Need-cast-n
-cast-n c = search needs
-
-sub-keep-others : tie.Need-sub-keep-others
-sub-keep-others c = search needs
-
-part-keep-others-start : tie.Need-part-keep-others-start
-part-keep-others-start c = search needs
-
-part-keep-others-end : tie.Need-part-keep-others-end
-part-keep-others-end c = search needs
-
 keep-others-requires : tie.Need-keep-others-requires
 keep-others-requires c κs =
     let s = c .before .before .before .before .before in
@@ -49,19 +34,8 @@ settle-requires c κs =
       count-few (a .s .now) (λ j. c .before .before .before .before .before .before .before .before .slice-known .given j .fits) (s .pre .0) (v .result) (k .result) g (k .last .0) (v .ensures) (k .ensures .0) (k .ensures .1),
     )
 
-same-length : tie.Need-same-length
-same-length c = search needs
-
 pub drop-listed-spec : {M : Type 1} → statement M
 drop-listed-spec =
     tie.close
-    (tie.spec
-    get-u16-requires
-    cast-n
-    sub-keep-others
-    part-keep-others-start
-    part-keep-others-end
-    keep-others-requires
-    settle-requires
-    same-length
-    returns)
+    (tie.spec (λ c κs. search needs) (λ c. search needs) (λ c. search needs) (λ c. search needs) (λ c. search needs)
+    keep-others-requires settle-requires (λ c. search needs) returns)

@@ -1,10 +1,7 @@
--- An absent owner is nobody. Assumes nothing.
+-- An absent owner is nobody.
 use borrow.Author.Needs.{needs}
 use Rattle.instance_ownership.proofs.owns_prefix.Statement.{statement}
 use Rattle.instance_ownership.proofs.owns_prefix.Tie as tie
-
-same-prefix-requires : tie.Need-same-prefix-requires
-same-prefix-requires c κs = search needs
 
 returns : tie.Need-returns
 returns c = rw (c .before .if1 .taken) (c .same-prefix .ensures)
@@ -13,4 +10,4 @@ returns-2 : tie.Need-returns-2
 returns-2 c = rw (c .if1 .left)
 
 pub owns-prefix-spec : {M : Type 1} → statement M
-owns-prefix-spec = tie.close (tie.spec same-prefix-requires returns returns-2)
+owns-prefix-spec = tie.close (tie.spec (λ c κs. search needs) returns returns-2)

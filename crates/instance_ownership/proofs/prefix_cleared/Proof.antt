@@ -1,15 +1,9 @@
--- Code 19. Assumes nothing.
+-- Code 19.
 use mathlib.Core.Path.{sym, _∙_}
 use Rattle.model.specs.Instances.{prefixCleared}
 use borrow.Author.Needs.{needs}
 use Rattle.instance_ownership.proofs.prefix_cleared.Statement.{statement}
 use Rattle.instance_ownership.proofs.prefix_cleared.Tie as tie
-
-owns-prefix-requires : tie.Need-owns-prefix-requires
-owns-prefix-requires c κs = search needs
-
-unowned-requires : tie.Need-unowned-requires
-unowned-requires c κs = search needs
 
 returns : tie.Need-returns
 unfolding prefixCleared
@@ -20,4 +14,4 @@ unfolding prefixCleared
 returns-2 c = rw (sym (c .before .owns-prefix .ensures) ∙ c .if1 .left)
 
 pub prefix-cleared-spec : {M : Type 1} → statement M
-prefix-cleared-spec = tie.close (tie.spec owns-prefix-requires unowned-requires returns returns-2)
+prefix-cleared-spec = tie.close (tie.spec (λ c κs. search needs) (λ c κs. search needs) returns returns-2)

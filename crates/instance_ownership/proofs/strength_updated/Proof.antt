@@ -1,15 +1,9 @@
--- Code 17. Assumes nothing.
+-- Code 17.
 use mathlib.Core.Path.{sym, _∙_}
 use Rattle.model.specs.Instances.{strengthUpdated}
 use borrow.Author.Needs.{needs}
 use Rattle.instance_ownership.proofs.strength_updated.Statement.{statement}
 use Rattle.instance_ownership.proofs.strength_updated.Tie as tie
-
-owns-requires : tie.Need-owns-requires
-owns-requires c κs = search needs
-
-with-owner-requires : tie.Need-with-owner-requires
-with-owner-requires c κs = search needs
 
 returns : tie.Need-returns
 unfolding strengthUpdated
@@ -20,4 +14,4 @@ unfolding strengthUpdated
 returns-2 c = rw (sym (c .before .owns .ensures) ∙ c .if1 .left)
 
 pub strength-updated-spec : {M : Type 1} → statement M
-strength-updated-spec = tie.close (tie.spec owns-requires with-owner-requires returns returns-2)
+strength-updated-spec = tie.close (tie.spec (λ c κs. search needs) (λ c κs. search needs) returns returns-2)

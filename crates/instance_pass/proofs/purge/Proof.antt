@@ -1,4 +1,4 @@
--- The pass. The measure is how many are left. Assumes nothing.
+-- The pass. The measure is how many are left.
 use Prim.Native.Nat.{_-_, _≤_}
 use mathlib.Core.Path.{_≡_, refl}
 use native.Mathlib.Omega.{arith}
@@ -23,12 +23,6 @@ loop-holds c =
 purge-at-requires : tie.Need-purge-at-requires Inv-loop μ-loop
 purge-at-requires c κs = (omega arith, omega arith, omega arith)
 
-add-i : tie.Need-add-i Inv-loop μ-loop
-add-i c = omega arith
-
-loop-less : tie.Need-loop-less Inv-loop μ-loop
-loop-less c = omega arith
-
 loop-again : tie.Need-loop-again Inv-loop μ-loop
 loop-again c =
     let start = c .before .before .before .before .before .before .before .before in
@@ -45,12 +39,6 @@ loop-again c =
 truncate-requires : tie.Need-truncate-requires Inv-loop μ-loop
 truncate-requires c κs = (omega arith, omega arith)
 
-sub-t15 : tie.Need-sub-t15 Inv-loop μ-loop
-sub-t15 c = omega arith
-
-same-length : tie.Need-same-length Inv-loop μ-loop
-same-length c = omega arith
-
 returns : tie.Need-returns Inv-loop μ-loop
 returns c =
     let start = c .before .before .before .before .before .before .before .before in
@@ -63,15 +51,5 @@ returns c =
 pub purge-spec : {M : Type 1} → statement M
 purge-spec =
     tie.close
-    (tie.spec
-    Inv-loop
-    μ-loop
-    loop-holds
-    purge-at-requires
-    add-i
-    loop-less
-    loop-again
-    truncate-requires
-    sub-t15
-    same-length
-    returns)
+    (tie.spec Inv-loop μ-loop loop-holds purge-at-requires (λ c. omega arith) (λ c. omega arith) loop-again
+    truncate-requires (λ c. omega arith) (λ c. omega arith) returns)

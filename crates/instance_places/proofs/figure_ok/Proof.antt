@@ -1,4 +1,4 @@
--- `figure_ok` meets its contract. Assumes nothing.
+-- `figure_ok` meets its contract.
 use borrow.Author.Tests.{eq-eqb, ne-eqb}
 use Rattle.instance_places.proofs.figure_ok.Statement.{statement}
 use Rattle.instance_places.proofs.figure_ok.Tie as tie

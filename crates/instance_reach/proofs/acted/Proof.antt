@@ -1,11 +1,8 @@
--- What the effect leaves, with the key and the handle that were there. Assumes nothing.
+-- What the effect leaves, with the key and the handle that were there.
 use Rattle.instance_reach.proofs.Acting.{acted-of}
 use borrow.Author.Needs.{needs}
 use Rattle.instance_reach.proofs.acted.Statement.{statement}
 use Rattle.instance_reach.proofs.acted.Tie as tie
-
-take-effect-requires : tie.Need-take-effect-requires
-take-effect-requires c κs = search needs
 
 returns : tie.Need-returns
 returns c =
@@ -14,4 +11,4 @@ returns c =
     acted-of (a .args .c) (a .args .s) (a .args .x) (e .take-effect .result) (a .pre .0) (a .pre .1) (a .pre .2) (e .take-effect .ensures)
 
 pub acted-spec : {M : Type 1} → statement M
-acted-spec = tie.close (tie.spec take-effect-requires returns)
+acted-spec = tie.close (tie.spec (λ c κs. search needs) returns)

@@ -1,4 +1,4 @@
--- The limit, test by test. Assumes nothing.
+-- The limit, test by test.
 use borrow.Author.Tests.{le-leb, lt-leb}
 use Rattle.instance_reach.proofs.at_limit.Statement.{statement}
 use Rattle.instance_reach.proofs.at_limit.Tie as tie

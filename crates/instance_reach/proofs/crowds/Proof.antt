@@ -1,12 +1,9 @@
--- The writer is new, and 16 are there. Assumes nothing.
+-- The writer is new, and 16 are there.
 use mathlib.Core.Path.{sym, _∙_}
 use Rattle.instance_reach.proofs.Acting.{crowds-full}
 use borrow.Author.Needs.{needs}
 use Rattle.instance_reach.proofs.crowds.Statement.{statement}
 use Rattle.instance_reach.proofs.crowds.Tie as tie
-
-holds-requires : tie.Need-holds-requires
-holds-requires c κs = search needs
 
 returns : tie.Need-returns
 returns c = rw (sym (c .before .holds .ensures) ∙ c .if1 .taken)
@@ -18,4 +15,4 @@ returns-2 c =
     sym (crowds-full (a .args .s) (a .args .x) (a .pre) (sym (c .before .before .holds .ensures) ∙ c .before .if1 .left))
 
 pub crowds-spec : {M : Type 1} → statement M
-crowds-spec = tie.close (tie.spec holds-requires returns returns-2)
+crowds-spec = tie.close (tie.spec (λ c κs. search needs) returns returns-2)

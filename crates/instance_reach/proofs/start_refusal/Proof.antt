@@ -1,4 +1,4 @@
--- The places, then the handles. Assumes nothing.
+-- The places, then the handles.
 use borrow.Author.Tests.{le-leb, lt-leb}
 use Rattle.instance_reach.proofs.start_refusal.Statement.{statement}
 use Rattle.instance_reach.proofs.start_refusal.Tie as tie

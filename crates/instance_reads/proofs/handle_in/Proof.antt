@@ -1,4 +1,4 @@
--- `handle_in` meets its contract: the record at the position is the table's instance there. Assumes nothing.
+-- `handle_in` meets its contract: the record at the position is the table's instance there.
 use native.Mathlib.Omega.{arith}
 use Rattle.instance_reads.proofs.Table.{whole, room-at}
 use Rattle.instance_reads.proofs.Walks.{handle-here, handle-past}

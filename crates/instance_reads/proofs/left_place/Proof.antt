@@ -1,4 +1,4 @@
--- `left_place` meets its contract: none of the instances that were passed is left. Assumes nothing.
+-- `left_place` meets its contract: none of the instances that were passed is left.
 use Prim.Native.Nat.{ℕ, _-_, _≤_, _<_}
 use mathlib.Core.Bool.{false}
 use mathlib.Core.Path.{_≡_, _∙_}
@@ -28,12 +28,6 @@ mul-o c = let s = c .before .before .before .before in omega (arith, whole _ _ (
 add-e : tie.Need-add-e Inv-loop μ-loop
 add-e c = let s = c .before .before .before .before in omega (arith, whole _ _ (s .pre .0) .room, s .pre .1)
 
-sub-left-with : tie.Need-sub-left-with Inv-loop μ-loop
-sub-left-with c = omega arith
-
-part-left-with-start : tie.Need-part-left-with-start Inv-loop μ-loop
-part-left-with-start c = omega arith
-
 part-left-with-end : tie.Need-part-left-with-end Inv-loop μ-loop
 part-left-with-end c = let s = c .before .before .before .before in omega (arith, whole _ _ (s .pre .0) .room, s .pre .1)
 
@@ -53,12 +47,6 @@ returns c =
     place-table _ _ p _ (l .i) (s .pre .1) (l .inv .0) (l .inv .1)
     (λ m. part-told p _ (l .i) _ (c .before .left-with .ensures) ∙ c .if1 .taken)
 
-add-i : tie.Need-add-i Inv-loop μ-loop
-add-i c = omega arith
-
-loop-less : tie.Need-loop-less Inv-loop μ-loop
-loop-less c = omega arith
-
 loop-again : tie.Need-loop-again Inv-loop μ-loop
 loop-again c =
     let s = c .before .before .before .before .before .before .before in
@@ -76,18 +64,5 @@ returns-2 c =
 pub left-place-spec : {M : Type 1} → statement M
 left-place-spec =
     tie.close
-    (tie.spec
-    Inv-loop
-    μ-loop
-    loop-holds
-    mul-o
-    add-e
-    sub-left-with
-    part-left-with-start
-    part-left-with-end
-    left-with-requires
-    returns
-    add-i
-    loop-less
-    loop-again
-    returns-2)
+    (tie.spec Inv-loop μ-loop loop-holds mul-o add-e (λ c. omega arith) (λ c. omega arith) part-left-with-end
+    left-with-requires returns (λ c. omega arith) (λ c. omega arith) loop-again returns-2)

@@ -1,4 +1,4 @@
--- `list_all_left` meets its contract: after i instances those of them that are left are listed. Assumes nothing.
+-- `list_all_left` meets its contract: after i instances those of them that are left are listed.
 use Prim.Native.Nat.{_-_, _≤_, _<_}
 use mathlib.Core.List.{[]}
 use mathlib.Core.Path.{sym}
@@ -43,12 +43,6 @@ list-left-requires c κs =
       listed-room (tableOf (s .args .places) (s .args .pens .now)) i (k .loop .inv .1) (omega arith) (s .args .places) (omega arith) (s .pre .2),
     )
 
-add-i : tie.Need-add-i Inv-loop μ-loop
-add-i c = omega arith
-
-loop-less : tie.Need-loop-less Inv-loop μ-loop
-loop-less c = omega arith
-
 loop-again : tie.Need-loop-again Inv-loop μ-loop
 loop-again c =
     let k = c .before .before .before .before .before in
@@ -87,14 +81,5 @@ returns c =
 pub list-all-left-spec : {M : Type 1} → statement M
 list-all-left-spec =
     tie.close
-    (tie.spec
-    Inv-loop
-    μ-loop
-    used-requires
-    loop-holds
-    list-left-requires
-    add-i
-    loop-less
-    loop-again
-    same-length
-    returns)
+    (tie.spec Inv-loop μ-loop used-requires loop-holds list-left-requires (λ c. omega arith) (λ c. omega arith)
+    loop-again same-length returns)

@@ -1,4 +1,4 @@
--- `locate` meets its contract: the used records are the table's instances, and their keys rise. Assumes nothing.
+-- `locate` meets its contract: the used records are the table's instances, and their keys rise.
 use native.Mathlib.Omega.{arith}
 use Rattle.model.specs.Reads.{tableOf}
 use Rattle.instance_reads.proofs.Table.{whole, located}

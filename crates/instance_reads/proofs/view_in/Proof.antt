@@ -1,4 +1,4 @@
--- `view_in` meets its contract, by its test. Assumes nothing.
+-- `view_in` meets its contract, by its test.
 use Rattle.instance_reads.proofs.view_in.Statement.{statement}
 use Rattle.instance_reads.proofs.view_in.Tie as tie
 

@@ -1,4 +1,4 @@
--- `writer_place` meets its contract: none of the instances that were passed has the writer. Assumes nothing.
+-- `writer_place` meets its contract: none of the instances that were passed has the writer.
 use Prim.Native.Nat.{ℕ, _-_, _≤_, _<_}
 use mathlib.Core.Bool.{false}
 use mathlib.Core.Path.{_≡_, _∙_}
@@ -27,12 +27,6 @@ mul-o c = let s = c .before .before .before in omega (arith, whole _ _ (s .pre .
 add-e : tie.Need-add-e Inv-loop μ-loop
 add-e c = let s = c .before .before .before in omega (arith, whole _ _ (s .pre .0) .room, s .pre .1)
 
-sub-writes : tie.Need-sub-writes Inv-loop μ-loop
-sub-writes c = omega arith
-
-part-writes-start : tie.Need-part-writes-start Inv-loop μ-loop
-part-writes-start c = omega arith
-
 part-writes-end : tie.Need-part-writes-end Inv-loop μ-loop
 part-writes-end c = let s = c .before .before .before in omega (arith, whole _ _ (s .pre .0) .room, s .pre .1)
 
@@ -50,12 +44,6 @@ returns c =
     place-table _ _ (writes (s .args .g)) _ (l .i) (s .pre .1) (l .inv .0) (l .inv .1)
     (λ m. part-told (writes (s .args .g)) _ (l .i) _ (c .before .writes .ensures) ∙ c .if1 .taken)
 
-add-i : tie.Need-add-i Inv-loop μ-loop
-add-i c = omega arith
-
-loop-less : tie.Need-loop-less Inv-loop μ-loop
-loop-less c = omega arith
-
 loop-again : tie.Need-loop-again Inv-loop μ-loop
 loop-again c =
     let s = c .before .before .before .before .before .before in
@@ -71,18 +59,5 @@ returns-2 c =
 pub writer-place-spec : {M : Type 1} → statement M
 writer-place-spec =
     tie.close
-    (tie.spec
-    Inv-loop
-    μ-loop
-    loop-holds
-    mul-o
-    add-e
-    sub-writes
-    part-writes-start
-    part-writes-end
-    writes-requires
-    returns
-    add-i
-    loop-less
-    loop-again
-    returns-2)
+    (tie.spec Inv-loop μ-loop loop-holds mul-o add-e (λ c. omega arith) (λ c. omega arith) part-writes-end
+    writes-requires returns (λ c. omega arith) (λ c. omega arith) loop-again returns-2)

@@ -1,4 +1,4 @@
--- `handle_at` meets its contract: the part that is lent is the record. Assumes nothing.
+-- `handle_at` meets its contract: the part that is lent is the record.
 use mathlib.Core.Path.{ap, _∙_}
 use Prim.Native.Nat.{ℕ, _*_}
 use mathlib.Core.List.{List}
@@ -8,24 +8,6 @@ use borrow.Author.Needs.{needs}
 use Rattle.instance_record.proofs.handle_at.Statement.{statement}
 use Rattle.instance_record.proofs.handle_at.Tie as tie
 
-mul-o : tie.Need-mul-o
-mul-o c = search needs
-
-add-e : tie.Need-add-e
-add-e c = search needs
-
-sub-read-handle : tie.Need-sub-read-handle
-sub-read-handle c = search needs
-
-part-read-handle-start : tie.Need-part-read-handle-start
-part-read-handle-start c = search needs
-
-part-read-handle-end : tie.Need-part-read-handle-end
-part-read-handle-end c = search needs
-
-read-handle-requires : tie.Need-read-handle-requires
-read-handle-requires c κs = search needs
-
 returns : tie.Need-returns
 returns c =
     let a = c .before .before .before .args in
@@ -34,11 +16,5 @@ returns c =
 pub handle-at-spec : {M : Type 1} → statement M
 handle-at-spec =
     tie.close
-    (tie.spec
-    mul-o
-    add-e
-    sub-read-handle
-    part-read-handle-start
-    part-read-handle-end
-    read-handle-requires
-    returns)
+    (tie.spec (λ c. search needs) (λ c. search needs) (λ c. search needs) (λ c. search needs) (λ c. search needs)
+    (λ c κs. search needs) returns)

@@ -1,19 +1,10 @@
--- `read_time` meets its contract: its callees' equations say so. Assumes nothing.
+-- `read_time` meets its contract: its callees' equations say so.
 use borrow.Author.Needs.{needs}
 use Rattle.instance_record.proofs.read_time.Statement.{statement}
 use Rattle.instance_record.proofs.read_time.Tie as tie
-
-get-u32-requires : tie.Need-get-u32-requires
-get-u32-requires c κs = search needs
-
-add-get-u32 : tie.Need-add-get-u32
-add-get-u32 c = search needs
-
-get-u32-requires-2 : tie.Need-get-u32-requires-2
-get-u32-requires-2 c κs = search needs
 
 returns : tie.Need-returns
 returns c = cc
 
 pub read-time-spec : {M : Type 1} → statement M
-read-time-spec = tie.close (tie.spec get-u32-requires add-get-u32 get-u32-requires-2 returns)
+read-time-spec = tie.close (tie.spec (λ c κs. search needs) (λ c. search needs) (λ c κs. search needs) returns)

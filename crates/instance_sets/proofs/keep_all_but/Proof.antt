@@ -1,4 +1,4 @@
--- One GUID taken out, or none. Assumes nothing.
+-- One GUID taken out, or none.
 use native.Mathlib.Omega.{arith}
 use Rattle.instance_sets.proofs.WalkLaws.{filled-long}
 use Rattle.instance_sets.proofs.OneOut.{place-few, gone-none, gone-one}
@@ -11,9 +11,6 @@ place-of-requires c κs =
     let s = c .before .before in
     let l = filled-long (s .args .n) (s .args .set .now) (s .pre) in
     (omega (arith, s .pre .few), omega (arith, s .pre .few, l))
-
-same-length : tie.Need-same-length
-same-length c = search needs
 
 returns : tie.Need-returns
 returns c =
@@ -32,9 +29,6 @@ sub-result c =
     let s = c .before .before .before .before .before .before .before .before in
     omega (arith, place-few (s .args .n) (s .args .set .now) (s .args .g) (s .pre) _ (c .before .before .before .before .before .place-of .ensures))
 
-same-length-2 : tie.Need-same-length-2
-same-length-2 c = search needs
-
 returns-2 : tie.Need-returns-2
 returns-2 c =
     let s = c .before .before .before .before .before .before .before .before in
@@ -43,11 +37,5 @@ returns-2 c =
 pub keep-all-but-spec : {M : Type 1} → statement M
 keep-all-but-spec =
     tie.close
-    (tie.spec
-    place-of-requires
-    same-length
-    returns
-    close-gap-requires
-    sub-result
-    same-length-2
+    (tie.spec place-of-requires (λ c. search needs) returns close-gap-requires sub-result (λ c. search needs)
     returns-2)

@@ -1,19 +1,10 @@
--- A list of one, or a walk from the place of the first of the set on. Assumes nothing.
+-- A list of one, or a walk from the place of the first of the set on.
 use native.Mathlib.Omega.{arith}
 use Rattle.instance_sets.proofs.Starts.{one-listed, start-few, start-after}
 use Rattle.instance_sets.proofs.WalkLaws.{filled-long}
 use borrow.Author.Needs.{needs}
 use Rattle.instance_sets.proofs.keep_others.Statement.{statement}
 use Rattle.instance_sets.proofs.keep_others.Tie as tie
-
-guid-at-requires : tie.Need-guid-at-requires
-guid-at-requires c κs = search needs
-
-keep-all-but-requires : tie.Need-keep-all-but-requires
-keep-all-but-requires c κs = search needs
-
-same-length : tie.Need-same-length
-same-length c = search needs
 
 returns : tie.Need-returns
 returns c =
@@ -27,9 +18,6 @@ guid-at-requires-2 c κs =
     let s = c .before .before .before .before in
     omega (arith, filled-long (s .args .n) (s .args .set .now) (s .pre .0))
 
-lower-listed-requires : tie.Need-lower-listed-requires
-lower-listed-requires c κs = search needs
-
 walk-through-requires : tie.Need-walk-through-requires
 walk-through-requires c κs =
     let s = c .before .before .before .before .before .before .before in
@@ -42,22 +30,8 @@ walk-through-requires c κs =
       start-after (a .gone .now) (a .set .now) (a .n) (g .result) (r .result) (g .ensures) (r .ensures) (s .pre .0),
     )
 
-same-length-2 : tie.Need-same-length-2
-same-length-2 c = search needs
-
-returns-2 : tie.Need-returns-2
-returns-2 c = search needs
-
 pub keep-others-spec : {M : Type 1} → statement M
 keep-others-spec =
     tie.close
-    (tie.spec
-    guid-at-requires
-    keep-all-but-requires
-    same-length
-    returns
-    guid-at-requires-2
-    lower-listed-requires
-    walk-through-requires
-    same-length-2
-    returns-2)
+    (tie.spec (λ c κs. search needs) (λ c κs. search needs) (λ c. search needs) returns guid-at-requires-2
+    (λ c κs. search needs) walk-through-requires (λ c. search needs) (λ c. search needs))

@@ -1,4 +1,4 @@
--- None that was passed is g. Assumes nothing.
+-- None that was passed is g.
 use Prim.Native.Nat.{ℕ, _-_, _*_, _≤_, _<_}
 use mathlib.Core.Bool.{false}
 use mathlib.Core.Path.{_≡_, sym, _∙_}
@@ -27,12 +27,6 @@ returns c =
     let l = c .before .before .before .loop in
     guid-place (a .n) (a .set .now) (a .g) (l .i) (l .inv .0) (l .inv .1) (λ m. sym (c .before .is-at .ensures) ∙ c .if1 .taken)
 
-add-i : tie.Need-add-i Inv-loop μ-loop
-add-i c = omega arith
-
-loop-less : tie.Need-loop-less Inv-loop μ-loop
-loop-less c = omega arith
-
 loop-again : tie.Need-loop-again Inv-loop μ-loop
 loop-again c =
     let l = c .before .before .before .loop in
@@ -47,13 +41,5 @@ returns-2 c =
 pub place-of-spec : {M : Type 1} → statement M
 place-of-spec =
     tie.close
-    (tie.spec
-    Inv-loop
-    μ-loop
-    loop-holds
-    is-at-requires
-    returns
-    add-i
-    loop-less
-    loop-again
+    (tie.spec Inv-loop μ-loop loop-holds is-at-requires returns (λ c. omega arith) (λ c. omega arith) loop-again
     returns-2)

@@ -1,4 +1,4 @@
--- Where a GUID of the list stands. Assumes nothing.
+-- Where a GUID of the list stands.
 use native.Mathlib.Omega.{arith}
 use Rattle.instance_sets.proofs.WalkLaws.{stands-end, stands-at, stand-same, stand-before, stand-behind}
 use Rattle.instance_sets.specs.declared.Beside.the-variants.{Before, Same, Behind}
@@ -9,23 +9,11 @@ use Rattle.instance_sets.proofs.stands.Tie as tie
 returns : tie.Need-returns
 returns c = let a = c .before .before .args in stands-end (a .gone .now) (a .j) (a .g) (omega arith)
 
-mul-guid-at : tie.Need-mul-guid-at
-mul-guid-at c = search needs
-
-guid-at-requires : tie.Need-guid-at-requires
-guid-at-requires c κs = search needs
-
-is-same-requires : tie.Need-is-same-requires
-is-same-requires c κs = search needs
-
 returns-2 : tie.Need-returns-2
 returns-2 c =
     let a = c .before .before .before .before .before .args in
     let x = c .before .before .guid-at in
     stands-at (a .gone .now) (a .j) (a .g) (x .result) Same (omega arith) (x .ensures) (stand-same (x .result) (a .g) _ (c .before .is-same .ensures) (c .if2 .taken))
-
-is-less-requires : tie.Need-is-less-requires
-is-less-requires c κs = search needs
 
 returns-3 : tie.Need-returns-3
 returns-3 c =
@@ -44,12 +32,5 @@ returns-4 c =
 pub stands-spec : {M : Type 1} → statement M
 stands-spec =
     tie.close
-    (tie.spec
-    returns
-    mul-guid-at
-    guid-at-requires
-    is-same-requires
-    returns-2
-    is-less-requires
-    returns-3
-    returns-4)
+    (tie.spec returns (λ c. search needs) (λ c κs. search needs) (λ c κs. search needs) returns-2
+    (λ c κs. search needs) returns-3 returns-4)

@@ -1,4 +1,4 @@
--- A GUID goes to its place, where it may stand already. Assumes nothing.
+-- A GUID goes to its place, where it may stand already.
 use Prim.Native.Nat.{_*_}
 use mathlib.Core.Path.{_∙_}
 use native.Mathlib.Omega.{arith}
@@ -6,15 +6,6 @@ use Rattle.instance_sets.proofs.WalkLaws.{stay-put, stay-stood}
 use borrow.Author.Needs.{needs}
 use Rattle.instance_sets.proofs.stay.Statement.{statement}
 use Rattle.instance_sets.proofs.stay.Tie as tie
-
-mul-put-guid : tie.Need-mul-put-guid
-mul-put-guid c = search needs
-
-put-guid-requires : tie.Need-put-guid-requires
-put-guid-requires c κs = search needs
-
-same-length : tie.Need-same-length
-same-length c = search needs
 
 returns : tie.Need-returns
 returns c =
@@ -27,4 +18,4 @@ returns-2 c =
     stay-stood (a .set .now) (a .i) (a .k) (a .g) (λ j. c .before .slice-known .given j .fits) (omega arith) (c .before .before .pre .1) (c .before .before .pre .2)
 
 pub stay-spec : {M : Type 1} → statement M
-stay-spec = tie.close (tie.spec mul-put-guid put-guid-requires same-length returns returns-2)
+stay-spec = tie.close (tie.spec (λ c. search needs) (λ c κs. search needs) (λ c. search needs) returns returns-2)

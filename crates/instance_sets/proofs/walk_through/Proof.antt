@@ -1,4 +1,4 @@
--- The walk: those that stay so far, and what is left of both. Assumes nothing.
+-- The walk: those that stay so far, and what is left of both.
 use Prim.Native.Nat.{_+_, _-_, _/_}
 use native.Mathlib.Omega.{arith}
 use lib.ListN.{length}
@@ -65,16 +65,5 @@ returns c =
 pub walk-through-spec : {M : Type 1} → statement M
 walk-through-spec =
     tie.close
-    (tie.spec
-    Inv-loop
-    μ-loop
-    loop-holds
-    walk-on-requires
-    loop-less
-    loop-again
-    mul-clear
-    sub-clear
-    mul-clear-2
-    clear-requires
-    same-length
-    returns)
+    (tie.spec Inv-loop μ-loop loop-holds walk-on-requires loop-less loop-again mul-clear sub-clear mul-clear-2
+    clear-requires same-length returns)

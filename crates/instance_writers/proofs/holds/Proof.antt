@@ -1,13 +1,10 @@
--- A GUID is a member where a scan for it stops before the end. Assumes nothing.
+-- A GUID is a member where a scan for it stops before the end.
 use mathlib.Core.Path.{_≡_}
 use lib.ListN.{length, length-map}
 use Rattle.instance_writers.proofs.PlaceLaws.{found-by}
 use borrow.Author.Needs.{needs}
 use Rattle.instance_writers.proofs.holds.Statement.{statement}
 use Rattle.instance_writers.proofs.holds.Tie as tie
-
-place-requires : tie.Need-place-requires
-place-requires c κs = search needs
 
 returns : tie.Need-returns
 returns c =
@@ -16,4 +13,4 @@ returns c =
     found-by (s .args .w) (s .args .g) (c .place .result) size (s .pre) (c .place .ensures)
 
 pub holds-spec : {M : Type 1} → statement M
-holds-spec = tie.close (tie.spec place-requires returns)
+holds-spec = tie.close (tie.spec (λ c κs. search needs) returns)

@@ -1,4 +1,4 @@
--- Room is made from the end down to the place. The invariant: up to k as it was, and from there one on. Assumes nothing.
+-- Room is made from the end down to the place. The invariant: up to k as it was, and from there one on.
 use Prim.Native.Nat.{_≤_, _<_}
 use mathlib.Core.Path.{_≡_}
 use native.Mathlib.Omega.{arith}
@@ -15,37 +15,10 @@ abbrev μ-loop : tie.MeasureT-loop
 loop-holds : tie.Need-loop-holds Inv-loop μ-loop
 loop-holds c = (omega arith, omega arith, shifted-start (c .args .items) (omega arith))
 
-sub-y : tie.Need-sub-y Inv-loop μ-loop
-sub-y c = omega arith
-
-mul-y : tie.Need-mul-y Inv-loop μ-loop
-mul-y c = omega arith
-
-array-copy-out-y : tie.Need-array-copy-out-y Inv-loop μ-loop
-array-copy-out-y c = omega arith
-
-mul-r : tie.Need-mul-r Inv-loop μ-loop
-mul-r c = omega arith
-
-array-set-from-r : tie.Need-array-set-from-r Inv-loop μ-loop
-array-set-from-r c = omega arith
-
-sub-k : tie.Need-sub-k Inv-loop μ-loop
-sub-k c = omega arith
-
-loop-less : tie.Need-loop-less Inv-loop μ-loop
-loop-less c = omega arith
-
 loop-again : tie.Need-loop-again Inv-loop μ-loop
 loop-again c =
     let l = c .before .before .loop in
     (omega arith, omega arith, shifted-step (c .before .before .before .args .items) (omega arith) (l .r) (l .k) (omega arith) (omega arith) (l .inv .2))
-
-mul-r-2 : tie.Need-mul-r-2 Inv-loop μ-loop
-mul-r-2 c = omega arith
-
-array-set-from-r-2 : tie.Need-array-set-from-r-2 Inv-loop μ-loop
-array-set-from-r-2 c = omega arith
 
 returns : tie.Need-returns Inv-loop μ-loop
 returns c =
@@ -58,18 +31,5 @@ returns c =
 pub inserted-at-spec : {M : Type 1} → statement M
 inserted-at-spec =
     tie.close
-    (tie.spec
-    Inv-loop
-    μ-loop
-    loop-holds
-    sub-y
-    mul-y
-    array-copy-out-y
-    mul-r
-    array-set-from-r
-    sub-k
-    loop-less
-    loop-again
-    mul-r-2
-    array-set-from-r-2
-    returns)
+    (tie.spec Inv-loop μ-loop loop-holds (λ c. omega arith) (λ c. omega arith) (λ c. omega arith) (λ c. omega arith)
+    (λ c. omega arith) (λ c. omega arith) (λ c. omega arith) loop-again (λ c. omega arith) (λ c. omega arith) returns)

@@ -1,4 +1,4 @@
--- A set is empty where its length is 0. Assumes nothing.
+-- A set is empty where its length is 0.
 use Rattle.instance_writers.proofs.PlaceLaws.{empty-members}
 use Rattle.instance_writers.proofs.is_empty.Statement.{statement}
 use Rattle.instance_writers.proofs.is_empty.Tie as tie

@@ -1,4 +1,4 @@
--- The gap is closed from the place up. The invariant: from the place to k one back, and from k as it was. Assumes nothing.
+-- The gap is closed from the place up. The invariant: from the place to k one back, and from k as it was.
 use Prim.Native.Nat.{_-_, _≤_, _<_}
 use mathlib.Core.Path.{_≡_}
 use native.Mathlib.Omega.{arith}
@@ -16,38 +16,11 @@ abbrev μ-loop : tie.MeasureT-loop
 loop-holds : tie.Need-loop-holds Inv-loop μ-loop
 loop-holds c = (omega arith, omega arith, closed-start (c .args .items) (c .args .p) (omega arith) (omega arith))
 
-add-y : tie.Need-add-y Inv-loop μ-loop
-add-y c = omega arith
-
-mul-y : tie.Need-mul-y Inv-loop μ-loop
-mul-y c = omega arith
-
-array-copy-out-y : tie.Need-array-copy-out-y Inv-loop μ-loop
-array-copy-out-y c = omega arith
-
-mul-r : tie.Need-mul-r Inv-loop μ-loop
-mul-r c = omega arith
-
-array-set-from-r : tie.Need-array-set-from-r Inv-loop μ-loop
-array-set-from-r c = omega arith
-
-add-k : tie.Need-add-k Inv-loop μ-loop
-add-k c = omega arith
-
-loop-less : tie.Need-loop-less Inv-loop μ-loop
-loop-less c = omega arith
-
 loop-again : tie.Need-loop-again Inv-loop μ-loop
 loop-again c =
     let a = c .before .before .before .args in
     let l = c .before .before .loop in
     (omega arith, omega arith, closed-step (a .items) (a .p) (omega arith) (omega arith) (l .r) (l .k) (omega arith) (omega arith) (l .inv .2))
-
-nil-requires : tie.Need-nil-requires Inv-loop μ-loop
-nil-requires c κs = search needs
-
-array-set-from-r-2 : tie.Need-array-set-from-r-2 Inv-loop μ-loop
-array-set-from-r-2 c = omega arith
 
 returns : tie.Need-returns Inv-loop μ-loop
 returns c =
@@ -60,18 +33,6 @@ returns c =
 pub removed-at-spec : {M : Type 1} → statement M
 removed-at-spec =
     tie.close
-    (tie.spec
-    Inv-loop
-    μ-loop
-    loop-holds
-    add-y
-    mul-y
-    array-copy-out-y
-    mul-r
-    array-set-from-r
-    add-k
-    loop-less
-    loop-again
-    nil-requires
-    array-set-from-r-2
+    (tie.spec Inv-loop μ-loop loop-holds (λ c. omega arith) (λ c. omega arith) (λ c. omega arith) (λ c. omega arith)
+    (λ c. omega arith) (λ c. omega arith) (λ c. omega arith) loop-again (λ c κs. search needs) (λ c. omega arith)
     returns)

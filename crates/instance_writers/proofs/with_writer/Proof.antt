@@ -1,4 +1,4 @@
--- A GUID put in its place, or there already. Assumes nothing.
+-- A GUID put in its place, or there already.
 use Prim.Native.Nat.{_<_}
 use mathlib.Core.Path.{_≡_, sym, _∙_}
 use mathlib.Core.Bool.{false}
@@ -11,18 +11,6 @@ use Rattle.instance_writers.proofs.SetLaws.{sound-size}
 use borrow.Author.Needs.{needs}
 use Rattle.instance_writers.proofs.with_writer.Statement.{statement}
 use Rattle.instance_writers.proofs.with_writer.Tie as tie
-
-place-requires : tie.Need-place-requires
-place-requires c κs = search needs
-
-mul-x : tie.Need-mul-x
-mul-x c = search needs
-
-array-copy-out-x : tie.Need-array-copy-out-x
-array-copy-out-x c = search needs
-
-is-same-requires : tie.Need-is-same-requires
-is-same-requires c κs = search needs
 
 returns : tie.Need-returns
 returns c =
@@ -42,9 +30,6 @@ inserted-at-requires c κs =
     omega
     (arith, place-few w (s .args .g) (p .result) size (s .pre .0) (p .ensures), with-room w (s .args .g) (p .result) size (s .pre .0) (p .ensures) other (s .pre .1))
 
-add-t15 : tie.Need-add-t15
-add-t15 c = search needs
-
 returns-2 : tie.Need-returns-2
 returns-2 c =
     let s = c .before .before .before .before in
@@ -58,12 +43,5 @@ returns-2 c =
 pub with-writer-spec : {M : Type 1} → statement M
 with-writer-spec =
     tie.close
-    (tie.spec
-    place-requires
-    mul-x
-    array-copy-out-x
-    is-same-requires
-    returns
-    inserted-at-requires
-    add-t15
-    returns-2)
+    (tie.spec (λ c κs. search needs) (λ c. search needs) (λ c. search needs) (λ c κs. search needs) returns
+    inserted-at-requires (λ c. search needs) returns-2)

@@ -1,19 +1,10 @@
--- A GUID taken out, where there is one. Assumes nothing.
+-- A GUID taken out, where there is one.
 use native.Mathlib.Omega.{arith}
 use Rattle.instance_writers.proofs.PlaceLaws.{without-none, without-found}
 use Rattle.instance_writers.proofs.SetLaws.{sound-size}
 use borrow.Author.Needs.{needs}
 use Rattle.instance_writers.proofs.without_writer.Statement.{statement}
 use Rattle.instance_writers.proofs.without_writer.Tie as tie
-
-place-requires : tie.Need-place-requires
-place-requires c κs = search needs
-
-removed-at-requires : tie.Need-removed-at-requires
-removed-at-requires c κs = search needs
-
-sub-t8 : tie.Need-sub-t8
-sub-t8 c = search needs
 
 returns : tie.Need-returns
 returns c =
@@ -30,4 +21,4 @@ returns-2 c =
 
 pub without-writer-spec : {M : Type 1} → statement M
 without-writer-spec =
-    tie.close (tie.spec place-requires removed-at-requires sub-t8 returns returns-2)
+    tie.close (tie.spec (λ c κs. search needs) (λ c κs. search needs) (λ c. search needs) returns returns-2)

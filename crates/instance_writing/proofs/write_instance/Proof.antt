@@ -1,23 +1,8 @@
--- `write_instance` meets its contract: fields, holder and set make the record. Assumes nothing.
+-- `write_instance` meets its contract: fields, holder and set make the record.
 use Rattle.instance_writing.proofs.Writes.{written}
 use borrow.Author.Needs.{needs}
 use Rattle.instance_writing.proofs.write_instance.Statement.{statement}
 use Rattle.instance_writing.proofs.write_instance.Tie as tie
-
-flags-of-requires : tie.Need-flags-of-requires
-flags-of-requires c κs = search needs
-
-write-fields-requires : tie.Need-write-fields-requires
-write-fields-requires c κs = search needs
-
-write-holder-requires : tie.Need-write-holder-requires
-write-holder-requires c κs = search needs
-
-write-guids-requires : tie.Need-write-guids-requires
-write-guids-requires c κs = search needs
-
-same-length : tie.Need-same-length
-same-length c = search needs
 
 returns : tie.Need-returns
 returns c =
@@ -27,10 +12,5 @@ returns c =
 pub write-instance-spec : {M : Type 1} → statement M
 write-instance-spec =
     tie.close
-    (tie.spec
-    flags-of-requires
-    write-fields-requires
-    write-holder-requires
-    write-guids-requires
-    same-length
-    returns)
+    (tie.spec (λ c κs. search needs) (λ c κs. search needs) (λ c κs. search needs) (λ c κs. search needs)
+    (λ c. search needs) returns)

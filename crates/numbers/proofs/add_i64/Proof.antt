@@ -1,4 +1,4 @@
--- `numbers::add_i64` meets its contract: each part is read back as it was. Assumes nothing.
+-- `numbers::add_i64` meets its contract: each part is read back as it was.
 use mathlib.Core.Path.{ap₂}
 use lib.IntN.{_+ℤ_}
 use mir.Facts.{sfits-widen, toZ-ofZ}

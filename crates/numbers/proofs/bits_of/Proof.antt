@@ -1,5 +1,4 @@
 -- `numbers::bits_of` meets its contract: the number plus 2^31 is its raised bits, and bits raised twice are as they were.
--- Assumes nothing.
 use Prim.Native.Nat.{_^_, _<_}
 use mathlib.Core.Path.{_≡_, ap, _∙_}
 use native.Mathlib.Omega.{arith}
@@ -30,12 +29,9 @@ read c = back (c .add-i64 .ensures ∙ raised-sum (small (c .before))) (raised-f
 cast-raise : tie.Need-cast-raise
 cast-raise c = cast-as (read c) (omega arith)
 
-raise-requires : tie.Need-raise-requires
-raise-requires c κs = search needs
-
 returns : tie.Need-returns
 returns c =
     c .raise .ensures ∙ ap (λ (z : ℤ). raised (natAbs z)) (read (c .before)) ∙ raised-raised _ (small (c .before .before))
 
 pub bits-of-spec : {M : Type 1} → statement M
-bits-of-spec = tie.close (tie.spec add-i64-requires cast-raise raise-requires returns)
+bits-of-spec = tie.close (tie.spec add-i64-requires cast-raise (λ c κs. search needs) returns)

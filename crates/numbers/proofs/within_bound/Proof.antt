@@ -1,4 +1,4 @@
--- `numbers::within_bound` meets its contract: the two tests are the definition's. Assumes nothing.
+-- `numbers::within_bound` meets its contract: the two tests are the definition's.
 use mir.Facts.{toZ-ofZ}
 use Rattle.numbers.proofs.Signed.{bound-high, bound-low}
 use Rattle.numbers.proofs.within_bound.Statement.{statement}

@@ -1,4 +1,4 @@
--- `sample_time::elapsed` meets its contract, by the sign of the gap. Assumes nothing.
+-- `sample_time::elapsed` meets its contract, by the sign of the gap.
 use mir.Facts.{toZ-ofZ}
 use Rattle.sample_time.proofs.Gaps.{none-elapsed, elapsed-is, cast-fits}
 use Rattle.sample_time.proofs.elapsed.Statement.{statement}

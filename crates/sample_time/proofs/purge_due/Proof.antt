@@ -1,4 +1,4 @@
--- `sample_time::purge_due` meets its contract, by its tests and what it calls ensures. Assumes nothing.
+-- `sample_time::purge_due` meets its contract, by its tests and what it calls ensures.
 use mathlib.Core.Path.{ap, _∙_}
 use lib.Dec.{leb}
 use borrow.Author.Needs.{needs}
@@ -12,19 +12,10 @@ returns : tie.Need-returns
 unfolding purgeDue
 returns c = rw (c .before .if1 .taken, eq-eqb _ _ (c .if2 .taken))
 
-nanos-requires : tie.Need-nanos-requires
-nanos-requires c κs = search needs
-
-nanos-requires-2 : tie.Need-nanos-requires-2
-nanos-requires-2 c κs = search needs
-
 gap-requires : tie.Need-gap-requires
 gap-requires c κs =
     let a = c .before .before .before .before .args in
     gap-asked (a .since) (a .now) (search needs) (search needs) (search needs) (search needs) (c .before .nanos .ensures) (c .nanos2 .ensures)
-
-elapsed-requires : tie.Need-elapsed-requires
-elapsed-requires c κs = search needs
 
 returns-2 : tie.Need-returns-2
 unfolding purgeDue nanosOf
@@ -45,4 +36,5 @@ returns-3 c = rw (c .if1 .left)
 pub purge-due-spec : {M : Type 1} → statement M
 purge-due-spec =
     tie.close
-    (tie.spec returns nanos-requires nanos-requires-2 gap-requires elapsed-requires returns-2 returns-3)
+    (tie.spec returns (λ c κs. search needs) (λ c κs. search needs) gap-requires (λ c κs. search needs) returns-2
+    returns-3)

@@ -1,4 +1,4 @@
--- `close_gap` meets its contract. Assumes nothing.
+-- `close_gap` meets its contract.
 use Prim.Native.Nat.{_+_, _-_, _*_}
 use mathlib.Core.Path.{_≡_, sym}
 use native.Mathlib.Omega.{arith}
@@ -25,20 +25,11 @@ mul-move-down-2 c = omega (arith, rest (c .before .before))
 add-move-down : tie.Need-add-move-down
 add-move-down c = omega (arith, rest (c .before .before))
 
-add-move-down-2 : tie.Need-add-move-down-2
-add-move-down-2 c = search needs
-
-sub-move-down : tie.Need-sub-move-down
-sub-move-down c = search needs
-
 mul-move-down-3 : tie.Need-mul-move-down-3
 mul-move-down-3 c = omega (arith, rest (c .before .before))
 
 move-down-requires : tie.Need-move-down-requires
 move-down-requires c κs = omega (arith, rest (c .before .before))
-
-sub-clear : tie.Need-sub-clear
-sub-clear c = search needs
 
 mul-clear : tie.Need-mul-clear
 mul-clear c = omega (arith, end (c .before .before .before .before .before .before))
@@ -46,25 +37,11 @@ mul-clear c = omega (arith, end (c .before .before .before .before .before .befo
 clear-requires : tie.Need-clear-requires
 clear-requires c κs = omega (arith, end (c .before .before .before .before .before .before))
 
-same-length : tie.Need-same-length
-same-length c = search needs
-
 returns : tie.Need-returns
 returns c = cc
 
 pub close-gap-spec : {M : Type 1} → statement M
 close-gap-spec =
     tie.close
-    (tie.spec
-    mul-move-down
-    mul-move-down-2
-    add-move-down
-    add-move-down-2
-    sub-move-down
-    mul-move-down-3
-    move-down-requires
-    sub-clear
-    mul-clear
-    clear-requires
-    same-length
-    returns)
+    (tie.spec mul-move-down mul-move-down-2 add-move-down (λ c. search needs) (λ c. search needs) mul-move-down-3
+    move-down-requires (λ c. search needs) mul-clear clear-requires (λ c. search needs) returns)

@@ -1,4 +1,4 @@
--- `wire_time::fractions` meets its contract: antt computes the table and compares. Assumes nothing.
+-- `wire_time::fractions` meets its contract: antt computes the table and compares.
 use mathlib.Core.Path.{refl}
 use Rattle.wire_time.proofs.fractions.Statement.{statement}
 use Rattle.wire_time.proofs.fractions.Tie as tie

@@ -1,4 +1,4 @@
--- `writer_calls::turn` meets its contract: one law a kind of call. Assumes nothing.
+-- `writer_calls::turn` meets its contract: one law a kind of call.
 use mathlib.Core.List.{[]}
 use mathlib.Core.Path.{refl}
 use Rattle.model.specs.declared.TrackerCall.the-variants.{Matched, Unmatched, LostWithParticipant, WriterAsserted, ParticipantAsserted, TakeStatus, Acknowledge}
@@ -10,58 +10,25 @@ use borrow.Author.Needs.{needs}
 use Rattle.writer_calls.proofs.turn.Statement.{statement}
 use Rattle.writer_calls.proofs.turn.Tie as tie
 
-enum-told : tie.Need-enum-told
-enum-told c = search needs
-
 matched-requires : tie.Need-matched-requires
 matched-requires c κs =
     let x = c .before .before .before .before .before .before in
     (x .pre .0, clocks-fine (x .args .c) Matched (c .before .enum-told .given .1) (x .args .s) (heldBy (x .args .head) [] [] []) (x .pre .4 [] [] []))
 
-enum-told-2 : tie.Need-enum-told-2
-enum-told-2 c = search needs
-
 leave-requires : tie.Need-leave-requires
 leave-requires c κs = c .before .before .before .before .before .before .pre .0
-
-enum-told-3 : tie.Need-enum-told-3
-enum-told-3 c = search needs
 
 leave-requires-2 : tie.Need-leave-requires-2
 leave-requires-2 c κs = c .before .before .before .before .before .before .pre .0
 
-enum-told-4 : tie.Need-enum-told-4
-enum-told-4 c = search needs
-
 writer-asserted-requires : tie.Need-writer-asserted-requires
 writer-asserted-requires c κs = c .before .before .before .before .before .before .pre .0
-
-enum-told-5 : tie.Need-enum-told-5
-enum-told-5 c = search needs
 
 participant-asserted-requires : tie.Need-participant-asserted-requires
 participant-asserted-requires c κs = c .before .before .before .before .before .before .pre .0
 
-enum-told-6 : tie.Need-enum-told-6
-enum-told-6 c = search needs
-
 expire-requires : tie.Need-expire-requires
 expire-requires c κs = let x = c .before .before .before .before .before .before .before in (x .pre .0, x .pre .1, x .pre .2)
-
-enum-told-7 : tie.Need-enum-told-7
-enum-told-7 c = search needs
-
-take-lost-requires : tie.Need-take-lost-requires
-take-lost-requires c κs = search needs
-
-enum-told-8 : tie.Need-enum-told-8
-enum-told-8 c = search needs
-
-take-status-requires : tie.Need-take-status-requires
-take-status-requires c κs = search needs
-
-enum-told-9 : tie.Need-enum-told-9
-enum-told-9 c = search needs
 
 acknowledge-requires : tie.Need-acknowledge-requires
 acknowledge-requires c κs =
@@ -74,18 +41,12 @@ acknowledge-requires c κs =
           (heldBy (x .args .head) pens writers lost) (x .pre .4 pens writers lost),
     )
 
-same-length : tie.Need-same-length
-same-length c = search needs
-
 returns : tie.Need-returns
 returns c =
     let k = c .before .before in
     let x = k .before .before .before .before .before .before .before in
     turns-judged (x .args .c) (x .args .s) (x .args .head) (x .args .writers .now) (x .args .lost .now) (x .args .out .now) (x .pre .4)
     (k .matched .result) Matched (c .before .before .before .before .enum-told .given .1) (λ gone lost. refl) (λ st. refl) _ (k .matched .ensures)
-
-same-length-2 : tie.Need-same-length-2
-same-length-2 c = search needs
 
 returns-2 : tie.Need-returns-2
 returns-2 c =
@@ -95,9 +56,6 @@ returns-2 c =
     (k .leave .result) Unmatched (c .before .before .before .before .enum-told2 .given .1) (λ gone lost. refl) (λ st. refl) _
     (k .leave .ensures)
 
-same-length-3 : tie.Need-same-length-3
-same-length-3 c = search needs
-
 returns-3 : tie.Need-returns-3
 returns-3 c =
     let k = c .before .before in
@@ -105,9 +63,6 @@ returns-3 c =
     turns-judged (x .args .c) (x .args .s) (x .args .head) (x .args .writers .now) (x .args .lost .now) (x .args .out .now) (x .pre .4)
     (k .leave2 .result) LostWithParticipant (c .before .before .before .before .enum-told3 .given .1) (λ gone lost. refl) (λ st. refl)
     _ (k .leave2 .ensures)
-
-same-length-4 : tie.Need-same-length-4
-same-length-4 c = search needs
 
 returns-4 : tie.Need-returns-4
 returns-4 c =
@@ -117,9 +72,6 @@ returns-4 c =
     (k .writer-asserted .result) WriterAsserted (c .before .before .before .before .enum-told4 .given .1) (λ gone lost. refl) (λ st. refl) _
     (k .writer-asserted .ensures)
 
-same-length-5 : tie.Need-same-length-5
-same-length-5 c = search needs
-
 returns-5 : tie.Need-returns-5
 returns-5 c =
     let k = c .before .before in
@@ -128,12 +80,6 @@ returns-5 c =
     (k .participant-asserted .result) ParticipantAsserted (c .before .before .before .before .enum-told5 .given .1) (λ gone lost. refl) (λ st. refl) _
     (k .participant-asserted .ensures)
 
-same-length-6 : tie.Need-same-length-6
-same-length-6 c = search needs
-
-same-length-7 : tie.Need-same-length-7
-same-length-7 c = search needs
-
 returns-6 : tie.Need-returns-6
 returns-6 c =
     let k = c .before .before .before .before in
@@ -141,12 +87,6 @@ returns-6 c =
     let x = l .before .before .before .before .before in
     expires-judged (x .args .c) (x .args .s) (x .args .head) (x .args .writers .now) (x .args .lost .now) (x .args .out .now) (x .pre .4)
     (k .expire .result) (l .enum-told6 .given .1) _ _ (k .expire .ensures)
-
-same-length-8 : tie.Need-same-length-8
-same-length-8 c = search needs
-
-same-length-9 : tie.Need-same-length-9
-same-length-9 c = search needs
 
 returns-7 : tie.Need-returns-7
 returns-7 c =
@@ -173,40 +113,10 @@ returns-9 c =
 pub turn-spec : {M : Type 1} → statement M
 turn-spec =
     tie.close
-    (tie.spec
-    enum-told
-    matched-requires
-    enum-told-2
-    leave-requires
-    enum-told-3
-    leave-requires-2
-    enum-told-4
-    writer-asserted-requires
-    enum-told-5
-    participant-asserted-requires
-    enum-told-6
-    expire-requires
-    enum-told-7
-    take-lost-requires
-    enum-told-8
-    take-status-requires
-    enum-told-9
-    acknowledge-requires
-    same-length
-    returns
-    same-length-2
-    returns-2
-    same-length-3
-    returns-3
-    same-length-4
-    returns-4
-    same-length-5
-    returns-5
-    same-length-6
-    same-length-7
-    returns-6
-    same-length-8
-    same-length-9
-    returns-7
-    returns-8
+    (tie.spec (λ c. search needs) matched-requires (λ c. search needs) leave-requires (λ c. search needs)
+    leave-requires-2 (λ c. search needs) writer-asserted-requires (λ c. search needs) participant-asserted-requires
+    (λ c. search needs) expire-requires (λ c. search needs) (λ c κs. search needs) (λ c. search needs)
+    (λ c κs. search needs) (λ c. search needs) acknowledge-requires (λ c. search needs) returns (λ c. search needs)
+    returns-2 (λ c. search needs) returns-3 (λ c. search needs) returns-4 (λ c. search needs) returns-5
+    (λ c. search needs) (λ c. search needs) returns-6 (λ c. search needs) (λ c. search needs) returns-7 returns-8
     returns-9)

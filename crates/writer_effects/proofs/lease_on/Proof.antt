@@ -1,4 +1,4 @@
--- `writer_effects::lease_on` meets its contract. Assumes nothing.
+-- `writer_effects::lease_on` meets its contract.
 use Rattle.writer_effects.proofs.lease_on.Statement.{statement}
 use Rattle.writer_effects.proofs.lease_on.Tie as tie
 

@@ -1,4 +1,4 @@
--- `writer_expiry::expire_within` meets its contract. Assumes nothing.
+-- `writer_expiry::expire_within` meets its contract.
 use Prim.Native.Nat.{_+_}
 use mathlib.Core.Path.{_∙_, ap}
 use Rattle.writer_pass.specs.declared.Dues.{Dues}
@@ -8,12 +8,6 @@ use Rattle.writer_expiry.proofs.Expiring.{lost-laid, gone-alive, gone-r
 use borrow.Author.Needs.{needs}
 use Rattle.writer_expiry.proofs.expire_within.Statement.{statement}
 use Rattle.writer_expiry.proofs.expire_within.Tie as tie
-
-cast-count : tie.Need-cast-count
-cast-count c = search needs
-
-cast-declare : tie.Need-cast-declare
-cast-declare c = search needs
 
 declare-requires : tie.Need-declare-requires
 declare-requires c κs =
@@ -40,9 +34,6 @@ tally-of-requires c κs =
           (a .args .dues) (a .pre .3),
     )
 
-add-settle : tie.Need-add-settle
-add-settle c = search needs
-
 settle-requires : tie.Need-settle-requires
 settle-requires c κs =
     let m = c .before .before .before .before .before .before .before .before .before .before in
@@ -51,15 +42,6 @@ settle-requires c κs =
     gone-fits (a .args .sheet) (a .args .head) (a .args .writers .now) (a .args .lost .now) (λ j. (n .slice-known .given) j .fits) (a .pre .0)
     (λ j. (m .slice-known2 .given) j .fits) (a .pre .1) (a .pre .2)
     (a .args .dues) (a .pre .3) (c .before .before .before .before .before .declare .result) (c .tally-of .result) (c .tally-of .ensures)
-
-saying-due-requires : tie.Need-saying-due-requires
-saying-due-requires c κs = search needs
-
-same-length : tie.Need-same-length
-same-length c = search needs
-
-same-length-2 : tie.Need-same-length-2
-same-length-2 c = search needs
 
 returns : tie.Need-returns
 returns c =
@@ -76,14 +58,5 @@ returns c =
 pub expire-within-spec : {M : Type 1} → statement M
 expire-within-spec =
     tie.close
-    (tie.spec
-    cast-count
-    cast-declare
-    declare-requires
-    tally-of-requires
-    add-settle
-    settle-requires
-    saying-due-requires
-    same-length
-    same-length-2
-    returns)
+    (tie.spec (λ c. search needs) (λ c. search needs) declare-requires tally-of-requires (λ c. search needs)
+    settle-requires (λ c κs. search needs) (λ c. search needs) (λ c. search needs) returns)

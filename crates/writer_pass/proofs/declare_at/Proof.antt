@@ -1,4 +1,4 @@
--- `writer_pass::declare_at` meets its contract. Assumes nothing.
+-- `writer_pass::declare_at` meets its contract.
 use Prim.Native.Nat.{_*_}
 use mathlib.Core.Path.{ap, _∙_}
 use Rattle.octets.specs.Patch.{patch}
@@ -9,27 +9,6 @@ use Rattle.writer_pass.proofs.Declaring.{guid-in}
 use borrow.Author.Needs.{needs}
 use Rattle.writer_pass.proofs.declare_at.Statement.{statement}
 use Rattle.writer_pass.proofs.declare_at.Tie as tie
-
-mul-guid-at : tie.Need-mul-guid-at
-mul-guid-at c = search needs
-
-guid-at-requires : tie.Need-guid-at-requires
-guid-at-requires c κs = search needs
-
-expire-at-requires : tie.Need-expire-at-requires
-expire-at-requires c κs = search needs
-
-mul-put-guid : tie.Need-mul-put-guid
-mul-put-guid c = search needs
-
-put-guid-requires : tie.Need-put-guid-requires
-put-guid-requires c κs = search needs
-
-same-length : tie.Need-same-length
-same-length c = search needs
-
-same-length-2 : tie.Need-same-length-2
-same-length-2 c = search needs
 
 returns : tie.Need-returns
 returns c =
@@ -46,12 +25,5 @@ returns c =
 pub declare-at-spec : {M : Type 1} → statement M
 declare-at-spec =
     tie.close
-    (tie.spec
-    mul-guid-at
-    guid-at-requires
-    expire-at-requires
-    mul-put-guid
-    put-guid-requires
-    same-length
-    same-length-2
-    returns)
+    (tie.spec (λ c. search needs) (λ c κs. search needs) (λ c κs. search needs) (λ c. search needs)
+    (λ c κs. search needs) (λ c. search needs) (λ c. search needs) returns)

@@ -1,4 +1,4 @@
--- `writer_pass::sooner_of` meets its contract. Assumes nothing.
+-- `writer_pass::sooner_of` meets its contract.
 use Prim.Native.Nat.{_≤_}
 use native.Mathlib.Nat.{min-eq-left, min-eq-right}
 use native.Mathlib.Omega.{arith}

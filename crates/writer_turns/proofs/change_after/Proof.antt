@@ -1,4 +1,4 @@
--- `writer_turns::change_after` meets its contract. Assumes nothing.
+-- `writer_turns::change_after` meets its contract.
 use mathlib.Core.Path.{_≡_, ap, _∙_}
 use borrow.Author.Needs.{needs}
 use lib.IntN.{ℤ, pos, _-ℤ_}
@@ -9,9 +9,6 @@ use Rattle.numbers.proofs.Signed.{back, fits-as}
 use Rattle.numbers.proofs.Signs.{change-fits, difference-fits}
 use Rattle.writer_turns.proofs.change_after.Statement.{statement}
 use Rattle.writer_turns.proofs.change_after.Tie as tie
-
-acknowledged-requires : tie.Need-acknowledged-requires
-acknowledged-requires c κs = search needs
 
 read : (c : tie.After-acknowledged) → toZ w64 (ofZ w64 (c .acknowledged .result)) ≡ pos (c .before .args .count) -ℤ c .before .args .change
 read c =
@@ -30,4 +27,4 @@ returns c =
     (change-fits (a .args .after) _ (a .pre .0) (a .pre .1))
 
 pub change-after-spec : {M : Type 1} → statement M
-change-after-spec = tie.close (tie.spec acknowledged-requires change-of-requires returns)
+change-after-spec = tie.close (tie.spec (λ c κs. search needs) change-of-requires returns)

@@ -1,22 +1,10 @@
--- `writer_turns::settle` meets its contract. Assumes nothing.
+-- `writer_turns::settle` meets its contract.
 use borrow.Author.Needs.{needs}
 use mir.Syntax.{w32}
 use mir.Val.{SFits}
 use Rattle.writer_turns.proofs.Laws.{changed, settled}
 use Rattle.writer_turns.proofs.settle.Statement.{statement}
 use Rattle.writer_turns.proofs.settle.Tie as tie
-
-change-after-requires : tie.Need-change-after-requires
-change-after-requires c κs = search needs
-
-change-after-requires-2 : tie.Need-change-after-requires-2
-change-after-requires-2 c κs = search needs
-
-cast-wrapping-add-u64 : tie.Need-cast-wrapping-add-u64
-cast-wrapping-add-u64 c = search needs
-
-wrapping-add-u64-requires : tie.Need-wrapping-add-u64-requires
-wrapping-add-u64-requires c κs = search needs
 
 returns : tie.Need-returns
 returns c =
@@ -32,9 +20,4 @@ returns c =
 pub settle-spec : {M : Type 1} → statement M
 settle-spec =
     tie.close
-    (tie.spec
-    change-after-requires
-    change-after-requires-2
-    cast-wrapping-add-u64
-    wrapping-add-u64-requires
-    returns)
+    (tie.spec (λ c κs. search needs) (λ c κs. search needs) (λ c. search needs) (λ c κs. search needs) returns)

@@ -1,13 +1,10 @@
--- `changes` meets its contract. Assumes nothing.
+-- `changes` meets its contract.
 use mathlib.Core.Path.{sym, _∙_}
 use borrow.Author.Needs.{needs}
 use borrow.Author.Tests.{not-true, not-false}
 use Rattle.model.specs.Reads.{changesRead}
 use Rattle.writer_validity.proofs.changes.Statement.{statement}
 use Rattle.writer_validity.proofs.changes.Tie as tie
-
-head-alone-requires : tie.Need-head-alone-requires
-head-alone-requires c κs = search needs
 
 returns : tie.Need-returns
 unfolding changesRead
@@ -18,4 +15,4 @@ unfolding changesRead
 returns-2 c = rw (sym (c .before .head-alone .ensures) ∙ not-false _ (c .if1 .left))
 
 pub changes-spec : {M : Type 1} → statement M
-changes-spec = tie.close (tie.spec head-alone-requires returns returns-2)
+changes-spec = tie.close (tie.spec (λ c κs. search needs) returns returns-2)

@@ -1,4 +1,4 @@
--- `head_alone` meets its contract. Assumes nothing.
+-- `head_alone` meets its contract.
 use mathlib.Core.Path.{refl, sym, _∙_}
 use borrow.Author.Needs.{needs}
 use borrow.Author.Tests.{not-true, not-false}
@@ -6,23 +6,14 @@ use Rattle.writer_validity.proofs.Heads.{alone-by}
 use Rattle.writer_validity.proofs.head_alone.Statement.{statement}
 use Rattle.writer_validity.proofs.head_alone.Tie as tie
 
-figure-ok-requires : tie.Need-figure-ok-requires
-figure-ok-requires c κs = search needs
-
 returns : tie.Need-returns
 returns c = alone-by (c .before .before .args .h) (sym (c .before .figure-ok .ensures) ∙ not-true _ (c .if1 .taken)) refl refl
-
-head-ok-requires : tie.Need-head-ok-requires
-head-ok-requires c κs = search needs
 
 returns-2 : tie.Need-returns-2
 returns-2 c =
     let d = c .before .before in
     alone-by (d .before .before .args .h) (sym (d .before .figure-ok .ensures) ∙ not-false _ (d .if1 .left))
     (sym (c .before .head-ok .ensures) ∙ not-true _ (c .if2 .taken)) refl
-
-sizes-ok-requires : tie.Need-sizes-ok-requires
-sizes-ok-requires c κs = search needs
 
 returns-3 : tie.Need-returns-3
 returns-3 c =
@@ -32,4 +23,4 @@ returns-3 c =
     (sym (e .before .head-ok .ensures) ∙ not-false _ (e .if2 .left)) (sym (c .sizes-ok .ensures))
 
 pub head-alone-spec : {M : Type 1} → statement M
-head-alone-spec = tie.close (tie.spec figure-ok-requires returns head-ok-requires returns-2 sizes-ok-requires returns-3)
+head-alone-spec = tie.close (tie.spec (λ c κs. search needs) returns (λ c κs. search needs) returns-2 (λ c κs. search needs) returns-3)

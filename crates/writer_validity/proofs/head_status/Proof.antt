@@ -1,4 +1,4 @@
--- `head_status` meets its contract. Assumes nothing.
+-- `head_status` meets its contract.
 use borrow.Author.Needs.{needs}
 use mir.Facts.{toZ-ofZ}
 use mir.Syntax.{w32}
@@ -6,9 +6,6 @@ use mir.Val.{SFits}
 use Rattle.writer_validity.proofs.Heads.{status-made}
 use Rattle.writer_validity.proofs.head_status.Statement.{statement}
 use Rattle.writer_validity.proofs.head_status.Tie as tie
-
-publication-handle-requires : tie.Need-publication-handle-requires
-publication-handle-requires c κs = search needs
 
 returns : tie.Need-returns
 returns c =
@@ -18,4 +15,4 @@ returns c =
     status-made h _ _ _ (toZ-ofZ f) (toZ-ofZ g) (c .before .publication-handle .ensures)
 
 pub head-status-spec : {M : Type 1} → statement M
-head-status-spec = tie.close (tie.spec publication-handle-requires returns)
+head-status-spec = tie.close (tie.spec (λ c κs. search needs) returns)

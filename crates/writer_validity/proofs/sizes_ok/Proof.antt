@@ -1,4 +1,4 @@
--- `sizes_ok` meets its contract: the first part of the test that fails makes the whole fail. Assumes nothing.
+-- `sizes_ok` meets its contract: the first part of the test that fails makes the whole fail.
 use mathlib.Core.Path.{refl}
 use borrow.Author.Needs.{needs}
 use borrow.Author.Tests.{le-leb, lt-leb, le-ltb, lt-ltb}
@@ -6,14 +6,8 @@ use Rattle.writer_validity.proofs.Heads.{sizes-by}
 use Rattle.writer_validity.proofs.sizes_ok.Statement.{statement}
 use Rattle.writer_validity.proofs.sizes_ok.Tie as tie
 
-cast-places : tie.Need-cast-places
-cast-places c = search needs
-
 returns : tie.Need-returns
 returns c = sizes-by (c .before .before .args .h) (lt-leb _ _ (c .if1 .taken)) refl refl refl refl
-
-cast-if2 : tie.Need-cast-if2
-cast-if2 c = search needs
 
 returns-2 : tie.Need-returns-2
 returns-2 c =
@@ -24,18 +18,6 @@ returns-3 c =
     let d = c .before in
     sizes-by (d .before .before .before .before .args .h) (le-leb _ _ (d .before .before .if1 .left)) (lt-ltb _ _ (d .if2 .left))
     (lt-leb _ _ (c .if3 .taken)) refl refl
-
-cast-if4 : tie.Need-cast-if4
-cast-if4 c = search needs
-
-cast-if4-2 : tie.Need-cast-if4-2
-cast-if4-2 c = search needs
-
-cast-if4-3 : tie.Need-cast-if4-3
-cast-if4-3 c = search needs
-
-add-if4 : tie.Need-add-if4
-add-if4 c = search needs
 
 returns-4 : tie.Need-returns-4
 returns-4 c =
@@ -54,15 +36,5 @@ returns-5 c =
 pub sizes-ok-spec : {M : Type 1} → statement M
 sizes-ok-spec =
     tie.close
-    (tie.spec
-    cast-places
-    returns
-    cast-if2
-    returns-2
-    returns-3
-    cast-if4
-    cast-if4-2
-    cast-if4-3
-    add-if4
-    returns-4
-    returns-5)
+    (tie.spec (λ c. search needs) returns (λ c. search needs) returns-2 returns-3 (λ c. search needs)
+    (λ c. search needs) (λ c. search needs) (λ c. search needs) returns-4 returns-5)

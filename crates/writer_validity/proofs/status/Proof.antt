@@ -1,4 +1,4 @@
--- `status` meets its contract. Assumes nothing.
+-- `status` meets its contract.
 use mathlib.Core.Path.{sym, ap, _∙_}
 use borrow.Author.Needs.{needs}
 use borrow.Author.Tests.{not-true, not-false}
@@ -7,15 +7,9 @@ use Rattle.model.specs.Reads.{statusRead}
 use Rattle.writer_validity.proofs.status.Statement.{statement}
 use Rattle.writer_validity.proofs.status.Tie as tie
 
-head-alone-requires : tie.Need-head-alone-requires
-head-alone-requires c κs = search needs
-
 returns : tie.Need-returns
 unfolding statusRead
 returns c = rw (sym (c .before .head-alone .ensures) ∙ not-true _ (c .if1 .taken))
-
-head-status-requires : tie.Need-head-status-requires
-head-status-requires c κs = search needs
 
 returns-2 : tie.Need-returns-2
 unfolding statusRead
@@ -23,4 +17,4 @@ returns-2 c =
     rw (sym (c .before .before .head-alone .ensures) ∙ not-false _ (c .before .if1 .left)) (ap Is (c .head-status .ensures))
 
 pub status-spec : {M : Type 1} → statement M
-status-spec = tie.close (tie.spec head-alone-requires returns head-status-requires returns-2)
+status-spec = tie.close (tie.spec (λ c κs. search needs) returns (λ c κs. search needs) returns-2)
