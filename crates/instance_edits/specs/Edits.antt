@@ -57,8 +57,12 @@ emptiedTo o x = not (isEmpty (writersIn x)) && (isEmpty o && isAlive (x .life .k
 abbrev pub leftAt : MaybeTime → InstanceState → InstanceState
 leftAt at x = sampledAt at (writerless at x)
 
+-- with the set o; e tells whether it is left writerless
+abbrev pub settledIf : Bool → List Guid → MaybeTime → InstanceState → InstanceState
+settledIf e o at x = cond e (leftAt at (withSet o x)) (withSet o x)
+
 unfoldable pub settled : List Guid → MaybeTime → InstanceState → InstanceState
-settled o at x = cond (emptiedTo o x) (leftAt at (withSet o x)) (withSet o x)
+settled o at x = settledIf (emptiedTo o x) o at x
 
 -- ---- what an edit makes of the bytes of an instance
 

@@ -17,7 +17,6 @@ use Rattle.octets.specs.Patch.{fields}
 use Rattle.octets.proofs.PatchLaws.{length-fields}
 use Rattle.model.specs.declared.Guid.{Guid}
 use Rattle.model.specs.declared.Instance.{Instance}
-use Rattle.model.specs.declared.InstanceState.{InstanceState}
 use Rattle.model.specs.declared.MaybeTime.{MaybeTime}
 use Rattle.model.specs.Guids.{guidOf, guidsIn, guidsBytes}
 use Rattle.model.specs.InstanceRecord.{flagsAt, instanceOf, instanceBytes, instanceValues, instanceWidths}
@@ -30,9 +29,9 @@ use Rattle.instance_writers.specs.Places.{padded}
 use Rattle.instance_sets.specs.Others.{others}
 use Rattle.instance_sets.specs.Walks.{Filled}
 use Rattle.instance_sets.proofs.SideBySide.{length-others}
-use Rattle.instance_edits.specs.Edits.{changed, Formed, Settled, settled, unsettled}
+use Rattle.instance_edits.specs.Edits.{changed, Formed, Settled, unsettled}
 use Rattle.instance_edits.specs.Losses.{emptiedBy, droppedOf}
-use Rattle.instance_edits.proofs.RecordEdits.{dropped-form, emptied-form, flags-in, flags-old}
+use Rattle.instance_edits.proofs.RecordEdits.{flags-in, flags-old}
 
 module _ (r : List ℕ) (bytes : Bytes r) (f : Formed r) where
   abbrev x : Instance
@@ -120,7 +119,4 @@ module _ (r : List ℕ) (bytes : Bytes r) (f : Formed r) where
     pub dropped-left : (at : MaybeTime) (s : List ℕ) (left : Bool) → Settled (v % 32) k at (putMid 256 256 r set′) s left →
         (s ≡ instanceBytes (changed (droppedOf gone at) x)) × (left ≡ emptiedBy gone (x .state))
     dropped-left at s left t =
-        let u = t x o is-unsettled (f .sound) (len-is ∙ rw e) (sym (c ∙ ap length others-are)) in (
-          u .0 ∙ ap (λ (y : InstanceState). instanceBytes record { key = x .key; handle = x .handle; state = y }) (sym (dropped-form gone at (x .state))),
-          u .1 ∙ sym (emptied-form gone (x .state)),
-        )
+        t x o is-unsettled (f .sound) (len-is ∙ rw e) (sym (c ∙ ap length others-are))
