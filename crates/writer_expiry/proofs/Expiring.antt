@@ -43,7 +43,8 @@ use Rattle.writer_turns.specs.Turns.{CountsFit, settledHead}
 use Rattle.writer_turns.specs.WriterCalls.{WritersFormed, heldBy}
 use Rattle.writer_turns.proofs.Calling.{both-few}
 use Rattle.writer_turns.proofs.Holding.{Good, good, head-same, few-alive}
-use Rattle.writer_turns.proofs.Turning.{moved-is, sift-map, turn-head}
+use Rattle.tables.proofs.Sifts.{sift-map}
+use Rattle.writer_turns.proofs.Turning.{moved-is, turn-head}
 use Rattle.writer_expiry.specs.Losing.{expiryTally, Expires}
 
 -- ---- those that expire change class, and no other

@@ -1,6 +1,6 @@
 -- The turns of model's tracker calls, over plain variables.
 --     moved-is                              whether a class changed, by the number that did
---     sift-map, sift-same, pick-same        a table taken through a function that removes nothing
+--     sift-same, pick-same        a table taken through a function that removes nothing
 --     Plain, turn-settles                   a call on the writers alone, from its writers and its movers
 --     assert-turn, match-turn, match-still  the writers and the movers of assertions and of matches
 use Prim.Native.Nat.{ℕ, suc}
@@ -27,6 +27,7 @@ use Rattle.model.specs.State.{State, classOf, aliveCount, notAliveCount, stateO
 use Rattle.model.specs.Tables.{pick, sift, find, put}
 use Rattle.model.specs.Writers.{assertion, asserted, moves, moved, movers, guidIn, lastAfter, hasGuid, matchedWriter, matchAsserts, writersAfter, writerActs, lostAfter, acknowledgedAfter, trackerLate, trackerTold, trackerState, trackerTurn, trackerCall}
 use Rattle.model.proofs.RowLaws.{length-read}
+use Rattle.tables.proofs.Sifts.{sift-map}
 use Rattle.writer_pass.specs.declared.Tally.{Tally}
 use Rattle.writer_pass.specs.Passes.{countsOf, shiftsBy}
 use Rattle.writer_pass.proofs.Picks.{same-self}
@@ -38,11 +39,6 @@ use Rattle.writer_turns.specs.WriterCalls.{heldBy, Settles}
 pub moved-is : (gs : List Guid) → not (eqb (length gs) 0) ≡ moved gs
 moved-is [] = refl
 moved-is (g ∷ gs) = rw (ne-eqb (suc (length gs)) 0 (λ e. omega arith))
-
-pub sift-map : (g : Writer → Writer) (ws : List Writer) → sift (λ (w : Writer). some (g w)) ws ≡ map g ws
-unfolding sift
-sift-map g [] = refl
-sift-map g (w ∷ ws) = ap (λ (l : List Writer). g w ∷ l) (sift-map g ws)
 
 pub sift-same : (ws : List Writer) → sift (λ (w : Writer). some w) ws ≡ ws
 unfolding sift
