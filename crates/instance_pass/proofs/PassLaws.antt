@@ -29,10 +29,8 @@ use Rattle.model.specs.InstanceRecord.{bit, instanceOf, instanceBytes}
 use Rattle.model.specs.State.{instancesIn}
 use Rattle.model.specs.Tables.{isSome, pick, sift}
 use Rattle.model.proofs.RowLaws.{length-read, get-read}
-use Rattle.tables.proofs.Passes.{survivors}
-use Rattle.tables.proofs.Passes.{midway}
 use Rattle.tables.proofs.Finds.{pick-take, pick-more}
-use Rattle.tables.proofs.Passes.{survivors-keep, survivors-drop, midway-start, midway-end, length-midway, midway-keep, midway-drop, midway-get}
+use Rattle.tables.proofs.Passes.{survivors, survivors-keep, survivors-drop, midway, midway-start, midway-end, length-midway, midway-keep, midway-drop, midway-get}
 use Rattle.instance_table.specs.Laid.{Wide, Laid}
 use Rattle.instance_table.proofs.LaidOut.{patch-width, replaced}
 use Rattle.instance_record.specs.Parts.{recordAt}
@@ -153,6 +151,27 @@ module _ (act : Act) (count : ℕ) (t₀ out₀ : List ℕ) where
       onward : drop ((i + 1) * 512) t ≡ drop ((i + 1) * 512) t₀
       onward = drop-same (i * 512) ((i + 1) * 512) t t₀ (omega arith) (d .ahead)
 
+      -- z is left of x; it goes to its place as the bytes r, which are its layout where those of x were
+      edited : (x z : Instance) → x ≡ getD xs i x → f x ≡ some z → (r t′ : List ℕ) → t′ ≡ patch t (c .kept * 512) 512 r → length t′ ≡ length t →
+          (recordAt t i ≡ instanceBytes x → r ≡ instanceBytes z) → Behind (some z) t′
+      edited x z e g r t′ v n q =
+          let u : f (getD xs i x) ≡ some z = sym (ap f e) ∙ g in
+          let w : length r ≡ 512 = patch-width t (c .kept * 512) 512 r fits (sym (ap length v) ∙ n) in
+          let k : drop (c .kept * 512 + 512) t′ ≡ drop (c .kept * 512 + 512) t =
+          ap (drop (c .kept * 512 + 512)) v ∙ drop-patch t (c .kept * 512) 512 r (omega (arith, fits)) w in
+          let m : i < length (midway f xs i) = omega (arith, length-midway f xs i (omega (arith, size)), size) in
+          record {
+            kept = omega (arith, d .kept, survivors-keep f xs i x inside z u);
+            few = omega (arith, d .fewKept);
+            ahead = drop-same (c .kept * 512 + 512) ((i + 1) * 512) t′ t (omega (arith, d .fewKept)) k ∙ onward;
+            laid = λ places l.
+                let b : recordAt t i ≡ instanceBytes x =
+                bytes-of places (midway f xs i) t (d .laid places l) i x m ∙ ap instanceBytes (midway-get f xs i x (omega (arith, size)) ∙ sym e) in
+                rw (← midway-keep f xs i x inside z u, ← d .kept)
+                (replaced t t′ (c .kept) z (v ∙ ap (λ (h : List ℕ). patch t (c .kept * 512) 512 h) (q b)) n fits places (midway f xs i) (d .laid places l)
+                (omega (arith, d .fewKept, m)));
+          }
+
       behind : (x : Instance) → x ≡ getD xs i x → (o : Option Instance) → f x ≡ o → (t′ : List ℕ) → t′ ≡ keptAt t (c .kept) o → length t′ ≡ length t → Behind o t′
       behind x e none g t′ v n =
           let k : f (getD xs i x) ≡ none = sym (ap f e) ∙ g in
@@ -162,20 +181,7 @@ module _ (act : Act) (count : ℕ) (t₀ out₀ : List ℕ) where
             ahead = rw v onward;
             laid = λ places l. rw (v, midway-drop f xs i x inside k) (d .laid places l);
           }
-      behind x e (some y) g t′ v n =
-          let k : f (getD xs i x) ≡ some y = sym (ap f e) ∙ g in
-          let w : length (instanceBytes y) ≡ 512 = patch-width t (c .kept * 512) 512 (instanceBytes y) fits (sym (ap length v) ∙ n) in
-          let z : drop (c .kept * 512 + 512) t′ ≡ drop (c .kept * 512 + 512) t =
-          ap (drop (c .kept * 512 + 512)) v ∙ drop-patch t (c .kept * 512) 512 (instanceBytes y) (omega (arith, fits)) w in
-          record {
-            kept = omega (arith, d .kept, survivors-keep f xs i x inside y k);
-            few = omega (arith, d .fewKept);
-            ahead = drop-same (c .kept * 512 + 512) ((i + 1) * 512) t′ t (omega (arith, d .fewKept)) z ∙ onward;
-            laid = λ places l.
-                rw (← midway-keep f xs i x inside y k, ← d .kept)
-                (replaced t t′ (c .kept) y v n fits places (midway f xs i) (d .laid places l)
-                (omega (arith, d .fewKept, length-midway f xs i (omega (arith, size)), size)));
-          }
+      behind x e (some y) g t′ v n = edited x y e g (instanceBytes y) t′ v n (λ b. refl)
 
       -- Out behind x, which is listed where b says so
       noting : (x : Instance) → x ≡ getD xs i x → (b : Bool) → q x ≡ b → (out′ : List ℕ) → out′ ≡ cond b (put 8 out (c .listed * 8) (x .handle .0)) out →
@@ -225,28 +231,6 @@ module _ (act : Act) (count : ℕ) (t₀ out₀ : List ℕ) where
               told x e t′ out′ c′ n m (behind x e (f x) refl t′ (w .table) n)
               record { noted = w .list; kept = w .kept; listed = w .listed; counted = w .counted }
 
-      -- what is left of x goes to its place as the bytes r, which are its layout where those of x were
-      edited : (x z : Instance) → x ≡ getD xs i x → f x ≡ some z → (r t′ : List ℕ) → t′ ≡ patch t (c .kept * 512) 512 r → length t′ ≡ length t →
-          (recordAt t i ≡ instanceBytes x → r ≡ instanceBytes z) → Behind (f x) t′
-      edited x z e g r t′ v n q =
-          let u : f (getD xs i x) ≡ some z = sym (ap f e) ∙ g in
-          let w : length r ≡ 512 = patch-width t (c .kept * 512) 512 r fits (sym (ap length v) ∙ n) in
-          let k : drop (c .kept * 512 + 512) t′ ≡ drop (c .kept * 512 + 512) t =
-          ap (drop (c .kept * 512 + 512)) v ∙ drop-patch t (c .kept * 512) 512 r (omega (arith, fits)) w in
-          rw g
-          record {
-            kept = omega (arith, d .kept, survivors-keep f xs i x inside z u);
-            few = omega (arith, d .fewKept);
-            ahead = drop-same (c .kept * 512 + 512) ((i + 1) * 512) t′ t (omega (arith, d .fewKept)) k ∙ onward;
-            laid = λ places l.
-                let m : i < length (midway f xs i) = omega (arith, length-midway f xs i (omega (arith, size)), size) in
-                let b : recordAt t i ≡ instanceBytes x =
-                bytes-of places (midway f xs i) t (d .laid places l) i x m ∙ ap instanceBytes (midway-get f xs i x (omega (arith, size)) ∙ sym e) in
-                rw (← midway-keep f xs i x inside z u, ← d .kept)
-                (replaced t t′ (c .kept) z (v ∙ ap (λ (h : List ℕ). patch t (c .kept * 512) 512 h) (q b)) n fits places (midway f xs i) (d .laid places l)
-                (omega (arith, d .fewKept, length-midway f xs i (omega (arith, size)), size)));
-          }
-
       -- x stays at its place, changed by g
       pub during-edited : (g : InstanceState → InstanceState) (t′ out′ : List ℕ) (c′ : Tally) → length t′ ≡ length t → length out′ ≡ length out → c .kept ≡ i →
           act .left (instanceOf (recordAt t i) .state) ≡ some (g (instanceOf (recordAt t i) .state)) → EditedAt g i t t′ →
@@ -258,7 +242,7 @@ module _ (act : Act) (count : ℕ) (t₀ out₀ : List ℕ) where
           go x e v q p =
               let u : f x ≡ some (changed g x) = ap (λ (o : Option InstanceState). kept x o) v in
               let b : t′ ≡ patch t (c .kept * 512) 512 (recordAt t′ i) = w .table ∙ ap (λ (j : ℕ). patch t (j * 512) 512 (recordAt t′ i)) (sym k) in
-              told x e t′ out′ c′ n m (edited x (changed g x) e u (recordAt t′ i) t′ b n q) p
+              told x e t′ out′ c′ n m (rw u (edited x (changed g x) e u (recordAt t′ i) t′ b n q)) p
 
       during-spared : (t′ out′ : List ℕ) (c′ : Tally) → length t′ ≡ length t → length out′ ≡ length out →
           Spared act (instanceOf (recordAt t i)) i t out c t′ out′ c′ → During (i + 1) t′ out′ c′
@@ -267,7 +251,7 @@ module _ (act : Act) (count : ℕ) (t₀ out₀ : List ℕ) where
           go : (x : Instance) → x ≡ getD xs i x → Spared act x i t out c t′ out′ c′ → During (i + 1) t′ out′ c′
           go x e w =
               let g : f x ≡ some x = ap (λ (o : Option InstanceState). kept x o) (w .untouched .left) in
-              told x e t′ out′ c′ n m (edited x x e g (recordAt t i) t′ (w .table) n (λ b. b))
+              told x e t′ out′ c′ n m (rw g (edited x x e g (recordAt t i) t′ (w .table) n (λ b. b)))
               record {
                 noted = rw (w .untouched .unlisted) (w .list);
                 kept = rw (g, w .tally);
