@@ -226,7 +226,7 @@ pub fn status(head: Head) -> StatusRead
     ensures case { λ r. ⌜ r ≡ statusRead head ⌝ }
     ensures number { λ r. ⌜ statusAnswer r .number ≡ cond (headAlone head) 0 3 ⌝ }
 {
-    writer_validity::status(head)
+    head_reads::status(head)
 }
 
 // How many changes of class the head has counted.
@@ -234,7 +234,7 @@ pub fn changes(head: Head) -> ChangesRead
     ensures case { λ r. ⌜ r ≡ changesRead head ⌝ }
     ensures number { λ r. ⌜ changesAnswer r .number ≡ cond (headAlone head) 0 3 ⌝ }
 {
-    writer_validity::changes(head)
+    head_reads::changes(head)
 }
 
 // ---- keys

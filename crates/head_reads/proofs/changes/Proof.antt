@@ -3,8 +3,8 @@ use mathlib.Core.Path.{sym, _∙_}
 use borrow.Author.Needs.{needs}
 use borrow.Author.Tests.{not-true, not-false}
 use Rattle.model.specs.Reads.{changesRead}
-use Rattle.writer_validity.proofs.changes.Statement.{statement}
-use Rattle.writer_validity.proofs.changes.Tie as tie
+use Rattle.head_reads.proofs.changes.Statement.{statement}
+use Rattle.head_reads.proofs.changes.Tie as tie
 
 returns : tie.Need-returns
 unfolding changesRead

@@ -1,7 +1,7 @@
 -- `publication_handle` meets its contract.
 use borrow.Author.Needs.{needs}
-use Rattle.writer_validity.proofs.publication_handle.Statement.{statement}
-use Rattle.writer_validity.proofs.publication_handle.Tie as tie
+use Rattle.head_reads.proofs.publication_handle.Statement.{statement}
+use Rattle.head_reads.proofs.publication_handle.Tie as tie
 
 returns-2 : tie.Need-returns-2
 returns-2 c = cc

@@ -4,8 +4,8 @@ use borrow.Author.Needs.{needs}
 use borrow.Author.Tests.{not-true, not-false}
 use Rattle.model.specs.declared.StatusRead.the-variants.{Is}
 use Rattle.model.specs.Reads.{statusRead}
-use Rattle.writer_validity.proofs.status.Statement.{statement}
-use Rattle.writer_validity.proofs.status.Tie as tie
+use Rattle.head_reads.proofs.status.Statement.{statement}
+use Rattle.head_reads.proofs.status.Tie as tie
 
 returns : tie.Need-returns
 unfolding statusRead

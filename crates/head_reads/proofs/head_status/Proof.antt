@@ -3,9 +3,9 @@ use borrow.Author.Needs.{needs}
 use mir.Facts.{toZ-ofZ}
 use mir.Syntax.{w32}
 use mir.Val.{SFits}
-use Rattle.writer_validity.proofs.Heads.{status-made}
-use Rattle.writer_validity.proofs.head_status.Statement.{statement}
-use Rattle.writer_validity.proofs.head_status.Tie as tie
+use Rattle.head_reads.proofs.Heads.{status-made}
+use Rattle.head_reads.proofs.head_status.Statement.{statement}
+use Rattle.head_reads.proofs.head_status.Tie as tie
 
 returns : tie.Need-returns
 returns c =

@@ -2,9 +2,9 @@
 use mathlib.Core.Path.{refl, sym, _∙_}
 use borrow.Author.Needs.{needs}
 use borrow.Author.Tests.{not-true, not-false}
-use Rattle.writer_validity.proofs.Heads.{alone-by}
-use Rattle.writer_validity.proofs.head_alone.Statement.{statement}
-use Rattle.writer_validity.proofs.head_alone.Tie as tie
+use Rattle.head_reads.proofs.Heads.{alone-by}
+use Rattle.head_reads.proofs.head_alone.Statement.{statement}
+use Rattle.head_reads.proofs.head_alone.Tie as tie
 
 returns : tie.Need-returns
 returns c = alone-by (c .before .before .args .h) (sym (c .before .figure-ok .ensures) ∙ not-true _ (c .if1 .taken)) refl refl

@@ -2,9 +2,9 @@
 use mathlib.Core.Path.{refl}
 use borrow.Author.Needs.{needs}
 use borrow.Author.Tests.{le-leb, lt-leb, le-ltb, lt-ltb}
-use Rattle.writer_validity.proofs.Heads.{sizes-by}
-use Rattle.writer_validity.proofs.sizes_ok.Statement.{statement}
-use Rattle.writer_validity.proofs.sizes_ok.Tie as tie
+use Rattle.head_reads.proofs.Heads.{sizes-by}
+use Rattle.head_reads.proofs.sizes_ok.Statement.{statement}
+use Rattle.head_reads.proofs.sizes_ok.Tie as tie
 
 returns : tie.Need-returns
 returns c = sizes-by (c .before .before .args .h) (lt-leb _ _ (c .if1 .taken)) refl refl refl refl
