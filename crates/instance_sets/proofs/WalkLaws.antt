@@ -10,7 +10,6 @@ use mathlib.Core.Bool.{Bool, true, false}
 use mathlib.Core.List.{List, [], _∷_, _++_, append-nil, append-assoc}
 use mathlib.Core.Logic.{_⊎_, inl, inr, ⊎-elim}
 use mathlib.Core.Path.{_≡_, refl, sym, ap, _∙_}
-use native.Mathlib.Nat.{add-zero}
 use native.Mathlib.Omega.{arith}
 use borrow.Author.Tests.{lt-ltb, le-ltb, ltb-true, ltb-false, eqb-true, eqb-false}
 use lib.Dec.{ltb}
@@ -21,7 +20,7 @@ use Rattle.octets.specs.Lay.{rows}
 use Rattle.octets.specs.Octets.{put}
 use Rattle.octets.specs.Patch.{patch, digits}
 use Rattle.octets.proofs.LayLaws.{rows-append}
-use Rattle.octets.proofs.PatchLaws.{take-patch, drop-patch, length-patch, puts-patch}
+use Rattle.octets.proofs.PatchLaws.{take-patch, drop-patch, length-patch}
 use Rattle.model.specs.declared.Guid.{Guid}
 use Rattle.model.specs.Guids.{num, less, same, nil, guidOf, guidAt, guidsIn, guidBytes, guidsBytes}
 use Rattle.model.specs.Tables.{above, pick, rising}
@@ -63,10 +62,6 @@ stand-behind a g b c e h f k =
     let q : same a g ≡ false = sym e ∙ h in
     let r : less a g ≡ false = sym f ∙ k in
     rw (q, r)
-
-pub stay-put : (d : List ℕ) (at : ℕ) (g : Guid) → at + 16 ≤ length d → put 8 (put 8 d at (g .hi)) (at + 8) (g .lo) ≡ patch d at 16 (guidBytes g)
-unfolding guidBytes
-stay-put d at g h = rw (add-zero at) at (puts-patch (8 ∷ 8 ∷ []) (g .hi ∷ g .lo ∷ []) d at 0 (omega arith) tt)
 
 pub stay-stood : (d : List ℕ) (i k : ℕ) (g : Guid) → Bytes d → k ≡ i → i * 16 + 16 ≤ length d → g ≡ guidAt d (i * 16) → d ≡ patch d (k * 16) 16 (guidBytes g)
 stay-stood d i k g b e h q =

@@ -1,12 +1,10 @@
 -- An instance's record written part by part.
---     guid-patch                        the two halves of a GUID
 --     writtenTo                         the first i GUIDs of a writer set are written
 --     written-start, written-turn, written-end, length-written      the loop over them
 --     written                           fields, holder and set make the record
 use Prim.Native.Nat.{ℕ, _+_, _*_, _≤_, _<_}
 use mathlib.Core.Path.{_≡_, sym, ap, _∙_}
 use mathlib.Core.List.{List, [], _∷_, _++_, append-assoc, append-nil}
-use native.Mathlib.Nat.{add-zero}
 use native.Mathlib.Numerals.{add-one}
 use native.Mathlib.Omega.{arith}
 use lib.ListN.{length, take, drop, getD, length-append}
@@ -22,10 +20,7 @@ use Rattle.model.specs.declared.Instance.{Instance}
 use Rattle.model.specs.Guids.{nil, guidBytes, guidsBytes}
 use Rattle.model.specs.InstanceRecord.{instanceWidths, instanceValues, instanceBytes}
 use Rattle.model.proofs.GuidLaws.{length-guids}
-
-pub guid-patch : (d : List ℕ) (at : ℕ) (g : Guid) → at + 16 ≤ length d → put 8 (put 8 d at (g .hi)) (at + 8) (g .lo) ≡ patch d at 16 (guidBytes g)
-unfolding guidBytes
-guid-patch d at g h = rw (add-zero at) at (puts-patch (8 ∷ 8 ∷ []) (g .hi ∷ g .lo ∷ []) d at 0 (omega arith) tt)
+use Rattle.guid.proofs.Laws.{guid-patch}
 
 -- the first i GUIDs are written
 abbrev pub writtenTo : List ℕ → List Guid → ℕ → List ℕ

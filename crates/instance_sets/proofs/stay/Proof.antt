@@ -2,7 +2,8 @@
 use Prim.Native.Nat.{_*_}
 use mathlib.Core.Path.{_∙_}
 use native.Mathlib.Omega.{arith}
-use Rattle.instance_sets.proofs.WalkLaws.{stay-put, stay-stood}
+use Rattle.guid.proofs.Laws.{guid-patch}
+use Rattle.instance_sets.proofs.WalkLaws.{stay-stood}
 use borrow.Author.Needs.{needs}
 use Rattle.instance_sets.proofs.stay.Statement.{statement}
 use Rattle.instance_sets.proofs.stay.Tie as tie
@@ -10,7 +11,7 @@ use Rattle.instance_sets.proofs.stay.Tie as tie
 returns : tie.Need-returns
 returns c =
     let a = c .before .before .before .before .before .before .args in
-    c .before .before .put-guid .ensures ∙ stay-put (a .set .now) (a .k * 16) (a .g) (omega arith)
+    c .before .before .put-guid .ensures ∙ guid-patch (a .set .now) (a .k * 16) (a .g) (omega arith)
 
 returns-2 : tie.Need-returns-2
 returns-2 c =
