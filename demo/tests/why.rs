@@ -28,7 +28,7 @@ fn the_golden_files() {
 
 #[test]
 fn readme_shows_it() {
-    let readme = include_str!("../../README.md");
+    let readme = concat!(include_str!("../../README.md"), include_str!("../README.md"));
     let block = |text: &str| {
         text.lines()
             .map(|l| if l.is_empty() { "\n".into() } else { format!("    {l}\n") })
