@@ -227,8 +227,7 @@ fn acted(c: InstanceCall, s: Sheet, x: Instance) -> Instance
     let key = x.key;
     let handle = x.handle;
     let before = x.state;
-    let e = instance_effects::take_effect(c, s, before);
-    let after = e.state;
+    let after = instance_effects::take_effect(c, s, before);
     Instance {
         key: key,
         handle: handle,

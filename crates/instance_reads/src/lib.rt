@@ -48,7 +48,7 @@ pub struct HolderPlace {
 // ---- refusals
 
 // The number of the refusal for a table of so many places, 0 for none.
-fn refusal_of(pens: &[u8], places: usize) -> u8
+pub fn refusal_of(pens: &[u8], places: usize) -> u8
     requires { ⌜ places ≤ 128 ⌝ }
     ensures { λ r. ⌜ r ≡ tableRefusal places (now (pens .entry)) ⌝ }
 {

@@ -56,7 +56,7 @@ pub fn is_later(last: i64, candidate: i64) -> bool
 }
 
 // A gap as autopurge counts it: a negative one as 0.
-fn elapsed(gap: i64) -> u64
+pub fn elapsed(gap: i64) -> u64
     ensures { λ r. ⌜ r ≡ elapsed gap ⌝ }
 {
     if gap < 0 { 0 } else { gap as u64 }

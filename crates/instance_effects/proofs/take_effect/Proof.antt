@@ -1,110 +1,92 @@
--- The table of the calls, call by call.
-use mathlib.Core.Path.{ap, _∙_}
+-- The table of the calls, call by call. Those on every instance are shut out by what is required.
 use mathlib.Core.Option.{some}
-use Rattle.instance_effects.proofs.StepLaws.{left-unless}
+use mathlib.Core.Path.{sym, ap}
+use Rattle.model.specs.Instances.{onEvery}
+use Rattle.model.proofs.Tests.{clash}
 use borrow.Author.Needs.{needs}
 use Rattle.instance_effects.proofs.take_effect.Statement.{statement}
 use Rattle.instance_effects.proofs.take_effect.Tie as tie
 
 writer-noted-requires : tie.Need-writer-noted-requires
-writer-noted-requires c κs = let s = c .before .before .before .before in (s .pre .0 .writers, s .pre .1 (rw (c .enum-told6 .given .1)))
+writer-noted-requires c κs = let s = c .before .before .before .before in (s .pre .1 .writers, s .pre .2 (rw (c .enum-told6 .given .1)))
 
 admitted-noted-requires : tie.Need-admitted-noted-requires
-admitted-noted-requires c κs = let s = c .before .before .before .before in (s .pre .0 .writers, s .pre .1 (rw (c .enum-told10 .given .1)))
+admitted-noted-requires c κs = let s = c .before .before .before .before in (s .pre .1 .writers, s .pre .2 (rw (c .enum-told10 .given .1)))
 
 returns : tie.Need-returns
-returns c = rw (c .before .before .enum-told .given .1) (c .kept .ensures ∙ ap some (c .before .registered .ensures))
+returns c = rw (c .before .enum-told .given .1) (ap some (sym (c .registered .ensures)))
 
 returns-2 : tie.Need-returns-2
-returns-2 c = rw (c .before .before .enum-told2 .given .1) (c .kept2 .ensures ∙ ap some (c .before .ensured .ensures))
+returns-2 c = rw (c .before .enum-told2 .given .1) (ap some (sym (c .ensured .ensures)))
 
 returns-3 : tie.Need-returns-3
-returns-3 c =
-    rw (c .before .before .before .enum-told3 .given .1, ← c .before .before .if-present .ensures)
-    (c .kept3 .ensures ∙ ap some (c .before .disposed .ensures))
+returns-3 c = rw (c .before .before .enum-told3 .given .1, ← c .before .if-present .ensures) (ap some (sym (c .disposed .ensures)))
 
 returns-4 : tie.Need-returns-4
-returns-4 c =
-    rw (c .before .before .before .enum-told4 .given .1, ← c .before .before .if-present2 .ensures)
-    (c .kept4 .ensures ∙ ap some (c .before .unregistered .ensures))
+returns-4 c = rw (c .before .before .enum-told4 .given .1, ← c .before .if-present2 .ensures) (ap some (sym (c .unregistered .ensures)))
 
 returns-5 : tie.Need-returns-5
-returns-5 c =
-    rw (c .before .before .before .enum-told5 .given .1, ← c .before .before .if-present3 .ensures)
-    (c .kept5 .ensures ∙ ap some (c .before .writer-unregistered .ensures))
+returns-5 c = rw (c .before .before .enum-told5 .given .1, ← c .before .if-present3 .ensures) (ap some (sym (c .writer-unregistered .ensures)))
 
 returns-6 : tie.Need-returns-6
-returns-6 c = rw (c .before .before .enum-told6 .given .1) (c .kept6 .ensures ∙ ap some (c .before .writer-noted .ensures))
+returns-6 c = rw (c .before .enum-told6 .given .1) (ap some (sym (c .writer-noted .ensures)))
 
 returns-7 : tie.Need-returns-7
-returns-7 c =
-    rw (c .before .before .before .enum-told7 .given .1, ← c .before .before .if-present4 .ensures)
-    (c .kept7 .ensures ∙ ap some (c .before .writer-dropped .ensures))
+returns-7 c = let s = c .before .before .before .before in clash (onEvery (s .args .c)) (rw (c .enum-told7 .given .1)) (s .pre .0)
 
 returns-8 : tie.Need-returns-8
-returns-8 c = rw (c .before .before .enum-told8 .given .1) (c .kept8 .ensures ∙ ap some (c .before .lifecycle-observed .ensures))
+returns-8 c = rw (c .before .enum-told8 .given .1) (ap some (sym (c .lifecycle-observed .ensures)))
 
 returns-9 : tie.Need-returns-9
-returns-9 c = rw (c .before .before .enum-told9 .given .1) (c .kept9 .ensures ∙ ap some (c .before .admitted-observed .ensures))
+returns-9 c = rw (c .before .enum-told9 .given .1) (ap some (sym (c .admitted-observed .ensures)))
 
 returns-10 : tie.Need-returns-10
-returns-10 c = rw (c .before .before .enum-told10 .given .1) (c .kept10 .ensures ∙ ap some (c .before .admitted-noted .ensures))
+returns-10 c = rw (c .before .enum-told10 .given .1) (ap some (sym (c .admitted-noted .ensures)))
 
 returns-11 : tie.Need-returns-11
-returns-11 c =
-    rw (c .before .before .before .enum-told11 .given .1, ← c .before .before .always .ensures)
-    (c .kept11 .ensures ∙ ap some (c .before .delivery-recorded .ensures))
+returns-11 c = rw (c .before .before .enum-told11 .given .1, ← c .before .always .ensures) (ap some (sym (c .delivery-recorded .ensures)))
 
 returns-12 : tie.Need-returns-12
-returns-12 c =
-    rw (c .before .before .before .enum-told12 .given .1, ← c .before .before .drained .ensures)
-    (c .kept12 .ensures ∙ ap some (c .before .viewed .ensures))
+returns-12 c = rw (c .before .before .enum-told12 .given .1, ← c .before .drained .ensures) (ap some (sym (c .viewed .ensures)))
 
 returns-13 : tie.Need-returns-13
-returns-13 c = rw (c .before .before .enum-told13 .given .1) (c .kept13 .ensures ∙ ap some (c .before .viewed2 .ensures))
+returns-13 c = rw (c .before .enum-told13 .given .1) (ap some (sym (c .viewed2 .ensures)))
 
 returns-14 : tie.Need-returns-14
-returns-14 c = rw (c .before .before .enum-told14 .given .1) (c .kept14 .ensures ∙ ap some (c .before .viewed3 .ensures))
+returns-14 c = rw (c .before .enum-told14 .given .1) (ap some (sym (c .viewed3 .ensures)))
 
 returns-15 : tie.Need-returns-15
-returns-15 c = rw (c .before .before .enum-told15 .given .1) (c .kept15 .ensures ∙ ap some (c .before .drained2 .ensures))
+returns-15 c = rw (c .before .enum-told15 .given .1) (ap some (sym (c .drained2 .ensures)))
 
 returns-16 : tie.Need-returns-16
-returns-16 c = rw (c .before .before .enum-told16 .given .1) (c .kept16 .ensures ∙ ap some (c .before .ownership-tried .ensures))
+returns-16 c = rw (c .before .enum-told16 .given .1) (ap some (sym (c .ownership-tried .ensures)))
 
 returns-17 : tie.Need-returns-17
-returns-17 c = rw (c .before .before .enum-told17 .given .1) (c .kept17 .ensures ∙ ap some (c .before .strength-updated .ensures))
+returns-17 c = let s = c .before .before .before .before in clash (onEvery (s .args .c)) (rw (c .enum-told17 .given .1)) (s .pre .0)
 
 returns-18 : tie.Need-returns-18
-returns-18 c = rw (c .before .before .enum-told18 .given .1) (c .kept18 .ensures ∙ ap some (c .before .owner-cleared .ensures))
+returns-18 c = let s = c .before .before .before .before in clash (onEvery (s .args .c)) (rw (c .enum-told18 .given .1)) (s .pre .0)
 
 returns-19 : tie.Need-returns-19
-returns-19 c = rw (c .before .before .enum-told19 .given .1) (c .kept19 .ensures ∙ ap some (c .before .prefix-cleared .ensures))
+returns-19 c = let s = c .before .before .before .before in clash (onEvery (s .args .c)) (rw (c .enum-told19 .given .1)) (s .pre .0)
 
 returns-20 : tie.Need-returns-20
-returns-20 c = rw (c .before .before .enum-told20 .given .1) (c .kept20 .ensures ∙ ap some (c .before .owner-cleared2 .ensures))
+returns-20 c = rw (c .before .enum-told20 .given .1) (ap some (sym (c .owner-cleared .ensures)))
 
 returns-21 : tie.Need-returns-21
-returns-21 c =
-    let a = c .before .before .before .before .before .args in
-    rw (c .before .enum-told21 .given .1) (left-unless (c .purged .result) (a .s) (a .x) (c .purged .ensures))
+returns-21 c = let s = c .before .before .before .before in clash (onEvery (s .args .c)) (rw (c .enum-told21 .given .1)) (s .pre .0)
 
 pub take-effect-spec : {M : Type 1} → statement M
 take-effect-spec =
     tie.close
-    (tie.spec (λ c. search needs) (λ c κs. search needs) (λ c κs. search needs) (λ c. search needs)
-    (λ c κs. search needs) (λ c κs. search needs) (λ c. search needs) (λ c κs. search needs) (λ c κs. search needs)
-    (λ c κs. search needs) (λ c. search needs) (λ c κs. search needs) (λ c κs. search needs) (λ c κs. search needs)
-    (λ c. search needs) (λ c κs. search needs) (λ c κs. search needs) (λ c κs. search needs) (λ c. search needs)
-    writer-noted-requires (λ c κs. search needs) (λ c. search needs) (λ c κs. search needs) (λ c κs. search needs)
-    (λ c κs. search needs) (λ c. search needs) (λ c κs. search needs) (λ c κs. search needs) (λ c. search needs)
-    (λ c κs. search needs) (λ c κs. search needs) (λ c. search needs) admitted-noted-requires (λ c κs. search needs)
-    (λ c. search needs) (λ c κs. search needs) (λ c κs. search needs) (λ c κs. search needs) (λ c. search needs)
-    (λ c κs. search needs) (λ c κs. search needs) (λ c κs. search needs) (λ c. search needs) (λ c κs. search needs)
-    (λ c κs. search needs) (λ c. search needs) (λ c κs. search needs) (λ c κs. search needs) (λ c. search needs)
-    (λ c κs. search needs) (λ c κs. search needs) (λ c. search needs) (λ c κs. search needs) (λ c κs. search needs)
+    (tie.spec (λ c. search needs) (λ c κs. search needs) (λ c. search needs) (λ c κs. search needs)
     (λ c. search needs) (λ c κs. search needs) (λ c κs. search needs) (λ c. search needs) (λ c κs. search needs)
     (λ c κs. search needs) (λ c. search needs) (λ c κs. search needs) (λ c κs. search needs) (λ c. search needs)
-    (λ c κs. search needs) (λ c κs. search needs) (λ c. search needs) (λ c κs. search needs) returns returns-2
-    returns-3 returns-4 returns-5 returns-6 returns-7 returns-8 returns-9 returns-10 returns-11 returns-12 returns-13
-    returns-14 returns-15 returns-16 returns-17 returns-18 returns-19 returns-20 returns-21)
+    writer-noted-requires (λ c. search needs) (λ c. search needs) (λ c κs. search needs) (λ c. search needs)
+    (λ c κs. search needs) (λ c. search needs) admitted-noted-requires (λ c. search needs) (λ c κs. search needs)
+    (λ c κs. search needs) (λ c. search needs) (λ c κs. search needs) (λ c κs. search needs) (λ c. search needs)
+    (λ c κs. search needs) (λ c. search needs) (λ c κs. search needs) (λ c. search needs) (λ c κs. search needs)
+    (λ c. search needs) (λ c κs. search needs) (λ c. search needs) (λ c. search needs) (λ c. search needs)
+    (λ c. search needs) (λ c κs. search needs) (λ c. search needs) returns returns-2 returns-3 returns-4 returns-5
+    returns-6 returns-7 returns-8 returns-9 returns-10 returns-11 returns-12 returns-13 returns-14 returns-15
+    returns-16 returns-17 returns-18 returns-19 returns-20 returns-21)
