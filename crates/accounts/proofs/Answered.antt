@@ -18,13 +18,13 @@ use Rattle.model.specs.declared.Instance.{Instance}
 use Rattle.model.specs.declared.Sheet.{Sheet}
 use Rattle.model.specs.Call.{Left, refuse, turn, settle, judged, coded, callIn}
 use Rattle.model.specs.declared.InstanceCall.{InstanceCall}
-use Rattle.model.specs.declared.InstanceCall.the-variants.{Register as register, EnsureRegisteredLimited as ensureRegisteredLimited, Dispose as dispose, Unregister as unregister, UnregisterWriter as unregisterWriter, NoteWriter as noteWriter, DropWriter as dropWriter, ObserveLifecycle as observeLifecycle, ObserveAdmitted as observeAdmitted, NoteAdmitted as noteAdmitted, RecordDelivery as recordDelivery, NoteTaken as noteTaken, MarkViewSeen as markViewSeen, MarkViewNew as markViewNew, DrainSamples as drainSamples, AcceptUnderExclusiveOwnership as acceptUnderExclusiveOwnership, UpdateOwnerStrength as updateOwnerStrength, ClearOwnerForWriter as clearOwnerForWriter, ClearOwnerForWriterPrefix as clearOwnerForWriterPrefix, ReleaseOwnerOf as releaseOwnerOf, Autopurge as autopurge}
+use Rattle.model.specs.declared.InstanceCall.the-variants.{ObserveAdmitted as observeAdmitted, AcceptUnderExclusiveOwnership as acceptUnderExclusiveOwnership}
 use Rattle.model.specs.declared.TrackerCall.{TrackerCall}
-use Rattle.model.specs.declared.TrackerCall.the-variants.{Matched as matched, Unmatched as unmatched, LostWithParticipant as lostWithParticipant, WriterAsserted as writerAsserted, ParticipantAsserted as participantAsserted, Expire as expire, TakeLost as takeLost, TakeStatus as takeStatus, Acknowledge as acknowledge}
+use Rattle.model.specs.declared.TrackerCall.the-variants.{Unmatched as unmatched, LostWithParticipant as lostWithParticipant, Expire as expire}
 use Rattle.model.specs.declared.JoinedCall.the-variants.{Admit as admit, Lapse as lapse, Part as part, Depart as depart}
 use Rattle.model.specs.Calls.{Call, instances, tracker, joined, callOfCode}
 use Rattle.model.specs.Guids.{num}
-use Rattle.model.specs.InstanceCalls.{Turned, accepted as accepts, known, begins, spent, atLimit, infoAnswer, reached, told, lateRefusal, instanceTurn, instanceCall, instancesAfter}
+use Rattle.model.specs.InstanceCalls.{Turned, accepted as accepts, known, begins, spent, atLimit, lateRefusal, instanceTurn, instanceCall, instancesAfter}
 use Rattle.model.specs.Instances.{rule, startsBy, limitedBy, hasKey}
 use Rattle.model.specs.Joined.{sampled, admitted, afterLoss, lossCall}
 use Rattle.model.specs.Refusals.{lengthsOk, sheetRefusal}
@@ -32,7 +32,7 @@ use Rattle.model.specs.Sheets.{sheetOf}
 use Rattle.model.specs.State.{Lent, State, layOut, instanceKey}
 use Rattle.model.specs.Tables.{find, isSome}
 use Rattle.model.specs.WellFormed.{wellFormed}
-use Rattle.model.specs.Writers.{movers, trackerTold, trackerLate, trackerTurn, trackerCall}
+use Rattle.model.specs.Writers.{movers, trackerLate, trackerTurn, trackerCall}
 use Rattle.model.specs.InstanceRecord.{bit}
 use Rattle.model.proofs.Fits.{FitsGuid}
 use Rattle.model.proofs.Tests.{both, split}
@@ -42,7 +42,8 @@ use Rattle.accounts.specs.InstanceAccounts.{Event, InstanceAccounts, onI
 use Rattle.accounts.proofs.Basics.{either, never, missing}
 use Rattle.accounts.proofs.Demand3.{out-replaced, After}
 use Rattle.accounts.proofs.InStep.{InStep, held-fits}
-use Rattle.accounts.proofs.InstanceTurns.{InstanceSim, handleIn, samples-answer, eventBy, tried, observed, tried-next, tried-silent, instance-heard, known-is, next-is, begins-absent, tried-none}
+use Rattle.model.proofs.TrackerLaws.{tracker-unhanded}
+use Rattle.accounts.proofs.InstanceTurns.{InstanceSim, handleIn, told-silent, samples-answer, eventBy, tried, observed, tried-next, tried-silent, instance-heard, known-is, next-is, begins-absent, tried-none}
 use Rattle.accounts.proofs.SheetLaws.{SheetFits, sheet-fits}
 use Rattle.accounts.proofs.Steps.{admit-cases, handle-free}
 use Rattle.accounts.proofs.TurnLaws.{lookup}
@@ -118,45 +119,6 @@ starting (joined lapse) = false
 starting (joined part) = false
 starting (joined depart) = false
 
-info-silent : (o : Option Instance) → infoAnswer o .handle .0 ≡ 0
-info-silent none = refl
-info-silent (some x) = refl
-
-told-silent : (c : InstanceCall) (s : Sheet) (before after : List Instance) → startsBy (rule c .reach) ≡ false →
-    told c s before after .handle .0 ≡ 0
-told-silent register s before after e = never e
-told-silent ensureRegisteredLimited s before after e = never e
-told-silent dispose s before after e = refl
-told-silent unregister s before after e = refl
-told-silent unregisterWriter s before after e = refl
-told-silent noteWriter s before after e = refl
-told-silent dropWriter s before after e = refl
-told-silent observeLifecycle s before after e = never e
-told-silent observeAdmitted s before after e = never e
-told-silent noteAdmitted s before after e = info-silent (reached noteAdmitted s after)
-told-silent recordDelivery s before after e = refl
-told-silent noteTaken s before after e = refl
-told-silent markViewSeen s before after e = refl
-told-silent markViewNew s before after e = refl
-told-silent drainSamples s before after e = refl
-told-silent acceptUnderExclusiveOwnership s before after e = refl
-told-silent updateOwnerStrength s before after e = refl
-told-silent clearOwnerForWriter s before after e = refl
-told-silent clearOwnerForWriterPrefix s before after e = refl
-told-silent releaseOwnerOf s before after e = refl
-told-silent autopurge s before after e = refl
-
-tracker-silent : (c : TrackerCall) (s : Sheet) (st : State) → trackerTold c s st .handle .0 ≡ 0
-tracker-silent matched s st = refl
-tracker-silent unmatched s st = refl
-tracker-silent lostWithParticipant s st = refl
-tracker-silent writerAsserted s st = refl
-tracker-silent participantAsserted s st = refl
-tracker-silent expire s st = refl
-tracker-silent takeLost s st = refl
-tracker-silent takeStatus s st = refl
-tracker-silent acknowledge s st = refl
-
 abbrev Silent : Turned → Type 0
 Silent t = t .answer .handle .0 ≡ 0
 
@@ -175,7 +137,7 @@ turn-silent : (places : ℕ) (c : Call) (s : Sheet) (st : State) → starting c 
 unfolding trackerCall trackerTurn
 turn-silent places (instances c) s st e = instance-silent places c s st e
 turn-silent places (tracker c) s st e =
-    either Silent (eqb (trackerLate c s st) 0) _ _ (λ d. tracker-silent c s st) (λ d. refl)
+    either Silent (eqb (trackerLate c s st) 0) _ _ (λ d. tracker-unhanded c s st) (λ d. refl)
 turn-silent places (joined admit) s st e = never e
 turn-silent places (joined lapse) s st e = loss-silent expire (movers expire s (st .writers)) s st
 turn-silent places (joined part) s st e = loss-silent unmatched (s .guid ∷ []) s st

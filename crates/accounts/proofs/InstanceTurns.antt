@@ -1,4 +1,5 @@
 -- The instances' half of demand 3: a call turns the table of instances as section 6 moves each account.
+--     told-silent        a call that may start none answers no handle
 --     turned-at          what is found at a key after a call is the account's step of what was found there
 --     instance-heard     an instance call keeps table and accounts in step
 --     limit-heard        so does one that is stopped at its limit
@@ -222,6 +223,16 @@ acted-handle c s e none = refl
 acted-handle c s e (some x) =
     split (reaches c s x) (λ r. rw r (kept-handle x (effect c s (x .state)) (lasting c s (x .state) e))) (λ r. rw r)
 
+-- a call that may start none answers no handle
+pub told-silent : (c : InstanceCall) (s : Sheet) (before after : List Instance) → startsBy (rule c .reach) ≡ false → told c s before after .handle .0 ≡ 0
+told-silent c s before after e =
+    let none : hands (rule c .says) ≡ false = read c .handed ∙ e in
+    split (onEvery c)
+    (λ d. ap (λ (a : Answer). a .handle .0) (told-every c s before after d) ∙ report-handle (rule c .reports) s before)
+    (λ d. ap (λ (a : Answer). a .handle .0) (told-one c s before after d)
+    ∙ answer-handle (rule c .says) s (reached c s before) (reached c s after) (λ h. never (sym h ∙ none))
+    ∙ ap (λ (b : Bool). cond b (handleIn (reached c s before)) 0) none)
+
 module _ (c : InstanceCall) (s : Sheet) (before : List Instance) (w : Within instanceKey 0 bound before) where
   abbrev after : List Instance
   after = sift (acts c s) before
@@ -242,20 +253,13 @@ module _ (c : InstanceCall) (s : Sheet) (before : List Instance) (w : Within ins
 
   told-handle : told c s before after .handle .0
       ≡ cond (startsBy (rule c .reach)) (handleIn (lookup instanceKey (num (s .key)) before)) 0
-  told-handle = split (startsBy (rule c .reach)) (λ e. starting e) (λ e. idle e)
+  told-handle = split (startsBy (rule c .reach)) (λ e. starting e) (λ e. rw e (told-silent c s before after e))
     where
       starting : startsBy (rule c .reach) ≡ true →
           told c s before after .handle .0 ≡ cond (startsBy (rule c .reach)) (handleIn (lookup instanceKey (num (s .key)) before)) 0
       starting e =
           ap (λ (a : Answer). a .handle .0) (told-one c s before after (starting-one (rule c .reach) e)) ∙ answer-is
           ∙ ap (λ (o : Option Instance). cond (startsBy (rule c .reach)) (handleIn o) 0) (starting-find (rule c .reach) s before e)
-
-      idle : startsBy (rule c .reach) ≡ false →
-          told c s before after .handle .0 ≡ cond (startsBy (rule c .reach)) (handleIn (lookup instanceKey (num (s .key)) before)) 0
-      idle e =
-          split (onEvery c)
-          (λ d. rw e (ap (λ (a : Answer). a .handle .0) (told-every c s before after d) ∙ report-handle (rule c .reports) s before))
-          (λ d. rw e (ap (λ (a : Answer). a .handle .0) (told-one c s before after d) ∙ (rw e at answer-is)))
 
 -- a call that may start an instance, at its own key or not
 abbrev pub eventBy : Sheet → ℕ → ℕ → Event

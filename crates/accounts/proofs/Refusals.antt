@@ -16,8 +16,6 @@ use native.Mathlib.Omega.{arith}
 use borrow.Author.Tests.{eqb-true, eqb-false, eq-eqb}
 use lib.Dec.{eqb, leb}
 use lib.ListN.{length}
-use mir.Syntax.{w32}
-use mir.Val.{toZ}
 use Rattle.octets.specs.Bounds.{Bytes}
 use Rattle.octets.proofs.LayLaws.{length-lay}
 use Rattle.model.specs.declared.AcknowledgeUse.{AcknowledgeUse}
@@ -29,7 +27,7 @@ use Rattle.model.specs.Call.{Left, turn, settle, judged, coded, callIn, callOf}
 use Rattle.model.specs.declared.InstanceCall.{InstanceCall}
 use Rattle.model.specs.declared.TrackerCall.{TrackerCall}
 use Rattle.model.specs.declared.JoinedCall.{JoinedCall}
-use Rattle.model.specs.declared.TrackerCall.the-variants.{Unmatched as unmatched, LostWithParticipant as lostWithParticipant, Expire as expire, Acknowledge as acknowledge}
+use Rattle.model.specs.declared.TrackerCall.the-variants.{Unmatched as unmatched, LostWithParticipant as lostWithParticipant, Expire as expire}
 use Rattle.model.specs.declared.JoinedCall.the-variants.{Admit as admit, Lapse as lapse, Part as part, Depart as depart}
 use Rattle.model.specs.Calls.{Call, instances, tracker, joined, callOfCode}
 use Rattle.model.specs.Guids.{num, guidBytes}

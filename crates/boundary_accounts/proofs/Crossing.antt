@@ -28,7 +28,8 @@ use Rattle.accounts.specs.Accounts.{Accounts, Told, absent, accepted, advance, 
 use Rattle.accounts.specs.Accounts as A
 use Rattle.accounts.specs.Busy.{Ordered, busy}
 use Rattle.accounts.specs.InstanceAccounts.{Event}
-use Rattle.accounts.proofs.Basics.{split, either, never}
+use Rattle.model.proofs.Tests.{split}
+use Rattle.accounts.proofs.Basics.{either, never}
 use Rattle.accounts.proofs.Demand3.{After, after-list, after-fresh, told-after, out-replaced}
 use Rattle.accounts.proofs.Refusals.{call-other, held-busy}
 use Rattle.boundary.specs.Layouts.{headBytes, headIn}
