@@ -16,7 +16,7 @@ use Rattle.model.specs.declared.Answer.{Answer}
 use Rattle.model.specs.declared.Guid.{Guid}
 use Rattle.model.specs.declared.Instance.{Instance}
 use Rattle.model.specs.declared.Sheet.{Sheet}
-use Rattle.model.specs.Call.{Left, refuse, turn, settle, judged, coded, callIn}
+use Rattle.model.specs.Call.{Left, turn, callIn}
 use Rattle.model.specs.declared.InstanceCall.{InstanceCall}
 use Rattle.model.specs.declared.InstanceCall.the-variants.{ObserveAdmitted as observeAdmitted, AcceptUnderExclusiveOwnership as acceptUnderExclusiveOwnership}
 use Rattle.model.specs.declared.TrackerCall.{TrackerCall}
@@ -27,21 +27,18 @@ use Rattle.model.specs.Guids.{num}
 use Rattle.model.specs.InstanceCalls.{Turned, accepted as accepts, known, begins, spent, atLimit, lateRefusal, instanceTurn, instanceCall, instancesAfter}
 use Rattle.model.specs.Instances.{rule, startsBy, limitedBy, hasKey}
 use Rattle.model.specs.Joined.{sampled, admitted, afterLoss, lossCall}
-use Rattle.model.specs.Refusals.{lengthsOk, sheetRefusal}
 use Rattle.model.specs.Sheets.{sheetOf}
 use Rattle.model.specs.State.{Lent, State, layOut, instanceKey}
 use Rattle.model.specs.Tables.{find, isSome}
-use Rattle.model.specs.WellFormed.{wellFormed}
 use Rattle.model.specs.Writers.{movers, trackerLate, trackerTurn, trackerCall}
 use Rattle.model.specs.InstanceRecord.{bit}
 use Rattle.model.proofs.Fits.{FitsGuid}
-use Rattle.model.proofs.Tests.{both, split}
-use Rattle.model.proofs.StateLaws.{read-back}
-use Rattle.accounts.specs.Accounts.{Accounts, accepted, Lending, withOut, eventOf, next, SheetBytes}
+use Rattle.model.proofs.Tests.{split}
+use Rattle.accounts.specs.Accounts.{Accounts, accepted, Lending, eventOf, next, SheetBytes}
 use Rattle.accounts.specs.InstanceAccounts.{Event, InstanceAccounts, onInstance, startsAt, reach}
 use Rattle.accounts.proofs.Basics.{either, never, missing}
-use Rattle.accounts.proofs.Demand3.{out-replaced, After}
-use Rattle.accounts.proofs.InStep.{InStep, held-fits}
+use Rattle.accounts.proofs.Demand3.{call-cases, After, anew}
+use Rattle.accounts.proofs.InStep.{InStep}
 use Rattle.model.proofs.TrackerLaws.{tracker-unhanded}
 use Rattle.accounts.proofs.InstanceTurns.{InstanceSim, handleIn, told-silent, samples-answer, eventBy, tried, observed, tried-next, tried-silent, instance-heard, known-is, next-is, begins-absent, tried-none}
 use Rattle.accounts.proofs.SheetLaws.{SheetFits, sheet-fits}
@@ -57,57 +54,15 @@ pub record Answered (places : ℕ) (sheet : List ℕ) (st : State) (c : Call) (a
 
 module _ (places : ℕ) (sheet : List ℕ) (st : State) (out : List ℕ) (acc : Accounts) (bytes : Bytes sheet)
     (held : InStep places st acc) (c : Call) where
-  abbrev l : Lent
-  l = layOut places st out
-
-  abbrev So : Left → Type 0
-  So r = accepted (eventOf sheet (r .answer)) ≡ some c → Answered places sheet st c (r .answer)
-
-  refused-so : (n : ℕ) → eqb n 0 ≡ false → So (refuse n l)
-  refused-so n e d = missing (sym (ap (λ (b : Bool). cond b (callOfCode (sheetOf sheet .code)) none) e) ∙ d)
-
-  settled-so : (d : Call) → length sheet ≡ 256 → callOfCode (sheetOf sheet .code) ≡ some d →
-      So (settle places (turn places d (sheetOf sheet) st) l)
-  unfolding settle
-  settled-so d n q =
-      either So (eqb (turn places d (sheetOf sheet) st .answer .number) 0) _ _
-      (λ e f. done e (rw (e, q) at f))
-      (λ e. refused-so (turn places d (sheetOf sheet) st .answer .number) e)
-    where
-      done : eqb (turn places d (sheetOf sheet) st .answer .number) 0 ≡ true → some d ≡ some c →
-          Answered places sheet st c (turn places d (sheetOf sheet) st .answer)
-      done e f =
-          let p : d ≡ c = cc in
-          record {
-            fits = sheet-fits sheet bytes n;
-            is = ap (λ (b : Call). turn places b (sheetOf sheet) st .answer) p;
-            number = e;
-          }
-
-  judged-so : (d : Call) → length sheet ≡ 256 → callOfCode (sheetOf sheet .code) ≡ some d →
-      So (judged places d (sheetOf sheet) l)
-  unfolding judged
-  judged-so d n q =
-      rw (read-back places st out (held-fits places st acc held))
-      (either So (eqb (sheetRefusal d (sheetOf sheet) st) 0) _ _
-      (λ e. settled-so d n q)
-      (λ e. refused-so (sheetRefusal d (sheetOf sheet) st) e))
-
-  coded-so : (o : Option Call) → length sheet ≡ 256 → callOfCode (sheetOf sheet .code) ≡ o →
-      So (coded places o (sheetOf sheet) l)
-  coded-so none n q = refused-so 2 refl
-  coded-so (some d) n q =
-      either So (wellFormed places l) _ _ (λ e. judged-so d n q) (λ e. refused-so 3 refl)
-
-  pub answered : So (callIn places sheet l)
-  unfolding callIn
+  pub answered : accepted (eventOf sheet (callIn places sheet (layOut places st out) .answer)) ≡ some c →
+      Answered places sheet st c (callIn places sheet (layOut places st out) .answer)
   answered =
-      either So (lengthsOk places sheet l) _ _
-      (λ e. coded-so (callOfCode (sheetOf sheet .code)) (size e) refl)
-      (λ e. refused-so 1 refl)
-    where
-      size : lengthsOk places sheet l ≡ true → length sheet ≡ 256
-      size e = unfold lengthsOk in eqb-true (length sheet) 256 (both _ _ e .0)
+      call-cases (λ (r : Left). accepted (eventOf sheet (r .answer)) ≡ some c → Answered places sheet st c (r .answer)) places sheet st out acc held
+      (λ n e d. missing (sym (ap (λ (b : Bool). cond b (callOfCode (sheetOf sheet .code)) none) e) ∙ d))
+      (λ d n q a e f.
+      let s : some d ≡ some c = rw (e, q) at f in
+      let p : d ≡ c = cc in
+      record { fits = sheet-fits sheet bytes n; is = ap (λ (b : Call). turn places b (sheetOf sheet) st .answer) p; number = e })
 
 -- ---- calls that answer no handle
 
@@ -303,8 +258,5 @@ module _ (places : ℕ) (i : Lending) (before : Lent) (acc : Accounts) (bytes : 
   pub real-next : (c : Call) → accepted e ≡ some c → Real c e acc
   real-next c is =
       subst (λ (m : Lent). accepted (eventOf (i .sheet) (callIn places (i .sheet) m .answer)) ≡ some c →
-      Real c (eventOf (i .sheet) (callIn places (i .sheet) m .answer)) acc) (sym lent)
+      Real c (eventOf (i .sheet) (callIn places (i .sheet) m .answer)) acc) (sym (anew places (i .out) at))
       (real places (i .sheet) (at .state) (i .out) acc c bytes (at .held)) is
-    where
-      lent : withOut (i .out) before ≡ layOut places (at .state) (i .out)
-      lent = ap (withOut (i .out)) (at .laid) ∙ out-replaced places (at .state) (before .out) (i .out)
