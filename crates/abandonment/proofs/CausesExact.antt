@@ -29,7 +29,7 @@ use Rattle.accounts.specs.Accounts.{Accounts, accepted, goneBy, advance, accoun
 use Rattle.accounts.specs.InstanceAccounts.{Event, wayOf, reachedBy, isKeyed, onPresent}
 use Rattle.accounts.specs.Ranges.{bound}
 use Rattle.accounts.specs.WriterAccounts.{Writers, expiredAt, expiredIn}
-use Rattle.accounts.proofs.Basics.{never, missing, eqb-sym}
+use Rattle.accounts.proofs.Basics.{never, missing}
 use Rattle.accounts.proofs.Demand3.{After, after-fresh}
 use Rattle.accounts.proofs.Sound.{SoundState}
 use Rattle.accounts.proofs.TurnLaws.{Within}
@@ -39,6 +39,7 @@ use Rattle.abandonment.specs.Claims.{ran, left, after, lastEvent, ExactC
 use Rattle.abandonment.proofs.SetLaws.{has-expired, has-within}
 use Rattle.abandonment.proofs.KindLaws.{Quiet, quiet-delivery, quiet-taken, quiet-seen, quiet-new, quiet-drained, quiet-tried, quiet-strength, quiet-cleared, quiet-prefix, quiet-released, alive-registered, alive-ensured, alive-lifecycle, alive-observed, admittedly-kind, noted-kind, admitted-alive, dropped-kind, sound-set}
 use Rattle.abandonment.proofs.CauseLaws.{is, isIn, empty-removed, leaves-one, told-kind, all-same, lost-abandoned, counted-out, unregistered-kind, unregistered-writer-kind}
+use Rattle.abandonment.proofs.OnInstance.{one-gone as named-gone}
 use Rattle.abandonment.proofs.Steps.{_⨾_, by-code, apart, onWriters, test, NoneOf, none-of, none-known}
 use Rattle.abandonment.proofs.Abandonment.{pen-after, sound-at, after-one}
 
@@ -158,12 +159,7 @@ module _ (e : Event) (before after : Writers) (k : ℕ) (x : Instance) (alive : 
   one-gone : isNoWriters (leftWithoutAll (e .sheet .guid ∷ []) at (x .state) .life .kind) ≡ namedOnly e x
   one-gone =
       lost-abandoned (e .sheet .guid ∷ []) at (x .state) rises alive
-      ∙ ap (λ (b : Bool). not (isEmpty set) && b) (all-same (isIn (e .sheet .guid ∷ [])) (named e) set (λ m h. only m))
-    where
-      only : (m : Guid) → has m (e .sheet .guid ∷ []) ≡ named e m
-      only m =
-          unfold has in
-          rw (eqb-sym (num (e .sheet .guid)) (num m)) (split (named e m) (λ d. rw d) (λ d. rw d))
+      ∙ ap (λ (b : Bool). not (isEmpty set) && b) (all-same (isIn (e .sheet .guid ∷ [])) (named e) set (λ m h. named-gone e m))
 
   parts : Step 50 (joined part)
   parts d z = unfold causes in rw (z, test e 50 4 d, test e 50 5 d, test e 50 7 d, test e 50 50 d) one-gone

@@ -29,7 +29,7 @@ use Rattle.accounts.proofs.Sound.{SoundState}
 use Rattle.abandonment.specs.Standing.{Stand, someone, isCode, standAfter}
 use Rattle.abandonment.specs.Console.{among, AtStanding, Fits, skipped, free, noting, keyed}
 use Rattle.abandonment.proofs.KindLaws.{Quiet, quiet-delivery, quiet-taken, quiet-seen, quiet-new, quiet-drained, quiet-tried, quiet-strength, quiet-cleared, quiet-prefix, quiet-released, alive-registered, alive-ensured, alive-lifecycle, alive-observed}
-use Rattle.abandonment.proofs.OnInstance.{Agrees, quiet-on, keyed-on, note-on, purge-on, tracker-on, stopped-on, admit-on, lapse-on, part-on, depart-on}
+use Rattle.abandonment.proofs.OnInstance.{Agrees, quiet-on, keyed-on, note-on, purge-on, tracker-on, stopped-on, admit-on, lapse-on, leave-on}
 use Rattle.accounts.proofs.Answered.{Real}
 
 infixr 1 _⨾_
@@ -183,8 +183,8 @@ module _ (e : Event) (acc : Accounts) (stands : ℕ → Stand) (m : (k : ℕ) �
       (split (eqb (e .outcome) 0)
       (λ t.
       admit-on e [] k (acc .instances .at k) (stands k) t
-      (λ f o. r .admitted .2 t (at-key f ∙ o)) (λ f i o. r .admitted .1 t i (at-key f ∙ o)) (m k))
-      (λ t. stopped-on e [] k (acc .instances .at k) (stands k) t (r .admitted .0 t) (m k)))
+      (λ f o. r .admitted .absent t (at-key f ∙ o)) (λ f i o. r .admitted .present t i (at-key f ∙ o)) (m k))
+      (λ t. stopped-on e [] k (acc .instances .at k) (stands k) t (r .admitted .stopped t) (m k)))
     where
       at-key : isKeyed (e .sheet) k ≡ true → acc .instances .at (num (e .sheet .key)) ≡ acc .instances .at k
       at-key f = ap (acc .instances .at) (sym (eqb-true k (num (e .sheet .key)) f))
@@ -199,13 +199,13 @@ module _ (e : Event) (acc : Accounts) (stands : ℕ → Stand) (m : (k : ℕ) �
   part-step d is r fits k =
       unfold standAfter in
       rw (r .number, test e 50 48 d, test e 50 6 d, test e 50 49 d, test e 50 50 d)
-      (part-on e k (acc .instances .at k) (stands k) (r .silent refl) (sound k) (m k))
+      (leave-on part e k (acc .instances .at k) (stands k) (λ j. refl) (r .silent refl) (sound k) (m k))
 
   depart-step : Step 51 (joined depart)
   depart-step d is r fits k =
       unfold standAfter in
       rw (r .number, test e 51 48 d, test e 51 6 d, test e 51 49 d, test e 51 50 d, test e 51 51 d)
-      (depart-on e k (acc .instances .at k) (stands k) (r .silent refl) (sound k) (m k))
+      (leave-on depart e k (acc .instances .at k) (stands k) (λ j. refl) (r .silent refl) (sound k) (m k))
 
   -- but for those on writers, in the order of the codes
   steps : All (λ n. Step (n .code) (n .call)) (pick (λ n. not (onWriters standing (n .code) (n .call))) calls)

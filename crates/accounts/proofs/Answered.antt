@@ -4,13 +4,11 @@
 --     real-next        the same of the next call of a list
 use mathlib.Core.Bool.{Bool, true, false, not, _&&_, cond}
 use mathlib.Core.List.{List, [], _∷_}
-use mathlib.Core.Option.{Option, none, some}
+use mathlib.Core.Option.{none, some}
 use mathlib.Core.Path.{_≡_, refl, sym, ap, _∙_, subst}
-use Prim.Native.Nat.{ℕ, _+_, _^_, _<_}
-use native.Mathlib.Omega.{arith}
-use borrow.Author.Tests.{eqb-true, not-false}
+use Prim.Native.Nat.{ℕ}
+use borrow.Author.Tests.{not-false}
 use lib.Dec.{eqb}
-use lib.ListN.{length, length-append}
 use Rattle.octets.specs.Bounds.{Bytes}
 use Rattle.model.specs.declared.Answer.{Answer}
 use Rattle.model.specs.declared.Guid.{Guid}
@@ -18,32 +16,28 @@ use Rattle.model.specs.declared.Instance.{Instance}
 use Rattle.model.specs.declared.Sheet.{Sheet}
 use Rattle.model.specs.Call.{Left, turn, callIn}
 use Rattle.model.specs.declared.InstanceCall.{InstanceCall}
-use Rattle.model.specs.declared.InstanceCall.the-variants.{ObserveAdmitted as observeAdmitted, AcceptUnderExclusiveOwnership as acceptUnderExclusiveOwnership}
 use Rattle.model.specs.declared.TrackerCall.{TrackerCall}
 use Rattle.model.specs.declared.TrackerCall.the-variants.{Unmatched as unmatched, LostWithParticipant as lostWithParticipant, Expire as expire}
 use Rattle.model.specs.declared.JoinedCall.the-variants.{Admit as admit, Lapse as lapse, Part as part, Depart as depart}
 use Rattle.model.specs.Calls.{Call, instances, tracker, joined, callOfCode}
 use Rattle.model.specs.Guids.{num}
-use Rattle.model.specs.InstanceCalls.{Turned, accepted as accepts, known, begins, spent, atLimit, lateRefusal, instanceTurn, instanceCall, instancesAfter}
+use Rattle.model.specs.InstanceCalls.{Turned, accepted as accepts, known, spent, atLimit, lateRefusal, instanceTurn, instanceCall}
 use Rattle.model.specs.Instances.{rule, startsBy, limitedBy, hasKey}
 use Rattle.model.specs.Joined.{sampled, admitted, afterLoss, lossCall}
 use Rattle.model.specs.Sheets.{sheetOf}
-use Rattle.model.specs.State.{Lent, State, layOut, instanceKey}
-use Rattle.model.specs.Tables.{find, isSome}
+use Rattle.model.specs.State.{Lent, State, layOut}
+use Rattle.model.specs.Tables.{find}
 use Rattle.model.specs.Writers.{movers, trackerLate, trackerTurn, trackerCall}
-use Rattle.model.specs.InstanceRecord.{bit}
 use Rattle.model.proofs.Fits.{FitsGuid}
-use Rattle.model.proofs.Tests.{split}
 use Rattle.accounts.specs.Accounts.{Accounts, accepted, Lending, eventOf, next, SheetBytes}
-use Rattle.accounts.specs.InstanceAccounts.{Event, InstanceAccounts, onInstance, startsAt, reach}
+use Rattle.accounts.specs.InstanceAccounts.{Event, reach}
 use Rattle.accounts.proofs.Basics.{either, never, missing}
 use Rattle.accounts.proofs.Demand3.{call-cases, After, anew}
 use Rattle.accounts.proofs.InStep.{InStep}
 use Rattle.model.proofs.TrackerLaws.{tracker-unhanded}
-use Rattle.accounts.proofs.InstanceTurns.{InstanceSim, handleIn, told-silent, samples-answer, eventBy, tried, observed, tried-next, tried-silent, instance-heard, known-is, next-is, begins-absent, tried-none}
+use Rattle.accounts.proofs.InstanceTurns.{InstanceSim, handle-there, handle-new, told-silent}
 use Rattle.accounts.proofs.SheetLaws.{SheetFits, sheet-fits}
 use Rattle.accounts.proofs.Steps.{admit-cases, handle-free}
-use Rattle.accounts.proofs.TurnLaws.{lookup}
 
 -- ---- an accepted call's answer is that of its turn
 
@@ -101,89 +95,21 @@ turn-silent places (joined depart) s st e = loss-silent lostWithParticipant (s .
 -- ---- admit
 
 -- with outcome 0 it answers the handle of the instance of its key, which it starts where there is none, and code 16 let it through
-pub record Admits (a : Answer) (s : Sheet) (acc : Accounts) : Type 0 where
-  pub stopped : eqb (a .outcome) 0 ≡ false → a .handle .0 ≡ 0
-  pub present : eqb (a .outcome) 0 ≡ true → (x : Instance) → acc .instances .at (num (s .key)) ≡ some x → x .handle .0 ≡ a .handle .0
-  pub absent : eqb (a .outcome) 0 ≡ true → acc .instances .at (num (s .key)) ≡ none → eqb (a .handle .0) 0 ≡ false
-  pub takes : eqb (a .outcome) 0 ≡ true → accepts s (acc .instances .at (num (s .key))) ≡ true
+pub record Admits (s : Sheet) (outcome handle : ℕ) (acc : Accounts) : Type 0 where
+  pub stopped : eqb outcome 0 ≡ false → handle ≡ 0
+  pub present : eqb outcome 0 ≡ true → (x : Instance) → acc .instances .at (num (s .key)) ≡ some x → x .handle .0 ≡ handle
+  pub absent : eqb outcome 0 ≡ true → acc .instances .at (num (s .key)) ≡ none → eqb handle 0 ≡ false
+  pub takes : eqb outcome 0 ≡ true → accepts s (acc .instances .at (num (s .key))) ≡ true
 
-module _ (s : Sheet) (st : State) (acc : InstanceAccounts) (fits : FitsGuid (s .key)) (m : InstanceSim st acc)
-    (room : lookup instanceKey (num (s .key)) (st .instances) ≡ none → st .nextHandle < 2 ^ 63) where
-  abbrev k : ℕ
-  k = num (s .key)
-
-  abbrev h1 : ℕ
-  h1 = instanceTurn acceptUnderExclusiveOwnership s st .answer .handle .0
-
-  abbrev h2 : ℕ
-  h2 = instanceTurn observeAdmitted s (tried s st) .answer .handle .0
-
-  abbrev acc1 : InstanceAccounts
-  acc1 = reach (some (instances acceptUnderExclusiveOwnership)) (eventBy s h1 0) [] acc
-
-  abbrev acc2 : InstanceAccounts
-  acc2 = reach (some (instances observeAdmitted)) (eventBy s h2 0) [] acc1
-
-  m1 : InstanceSim (tried s st) acc1
-  m1 = instance-heard st acc acceptUnderExclusiveOwnership s [] 0 fits (λ e. never (sym e)) m
-
-  room1 : begins observeAdmitted s (tried s st) ≡ true → tried s st .nextHandle < 2 ^ 63
-  room1 e =
-      rw (tried-next s st)
-      (room (m .agree k ∙ tried-none s k h1 (acc .at k) (tried-silent s st)
-      (sym (m1 .agree k) ∙ begins-absent observeAdmitted s (tried s st) e .1)))
-
-  m2 : InstanceSim (observed s st) acc2
-  m2 = instance-heard (tried s st) acc1 observeAdmitted s [] 0 fits room1 m1
-
-  -- the handle answered is that of the instance found
-  answered-found : h2 ≡ handleIn (acc2 .at k)
-  answered-found = found ∙ ap handleIn (m2 .agree k)
-    where
-      found : h2 ≡ handleIn (lookup instanceKey k (observed s st .instances))
-      found = unfold instanceTurn in samples-answer (lookup instanceKey k (instancesAfter observeAdmitted s (tried s st)))
-
-  tried-there : (x : Instance) → acc .at k ≡ some x →
-      handleIn (onInstance (instances observeAdmitted) (eventBy s h2 0) [] k
-      (onInstance (instances acceptUnderExclusiveOwnership) (eventBy s h1 0) [] k (acc .at k))) ≡ x .handle .0
-  tried-there x e = rw e (split (eqb k k) (λ d. rw (d, d)) (λ d. rw (d, d)))
-
-  pub handle-there : (x : Instance) → acc .at k ≡ some x → h2 ≡ x .handle .0
-  handle-there x e = answered-found ∙ tried-there x e
-
-  unknown : acc .at k ≡ none → known s (tried s st) ≡ false
-  unknown e = known-is s (tried s st) ∙ ap isSome (m1 .agree k ∙ gone)
-    where
-      gone : acc1 .at k ≡ none
-      gone = rw (e, tried-silent s st) (split (eqb k k) (λ d. rw d) (λ d. rw d))
-
-  more : acc .at k ≡ none → observed s st .nextHandle ≡ tried s st .nextHandle + 1
-  more e =
-      unfold instanceTurn in
-      next-is observeAdmitted s (tried s st) (omega (arith, m1 .next)) room1
-      ∙ ap (λ (b : Bool). tried s st .nextHandle + bit (not b)) (unknown e)
-
-  startless : h2 ≡ 0 → (o : Option Instance) → startsAt (eventBy s h2 0) o ≡ []
-  startless z none = rw z
-  startless z (some x) = refl
-
-  pub handle-new : acc .at k ≡ none → eqb h2 0 ≡ false
-  handle-new e =
-      split (eqb h2 0)
-      (λ d.
-      let z : h2 ≡ 0 = eqb-true h2 0 d in
-      let n : length (acc2 .handles) ≡ length (acc1 .handles) + length (startsAt (eventBy s h2 0) (acc1 .at k)) =
-      length-append (acc1 .handles) (startsAt (eventBy s h2 0) (acc1 .at k)) in
-      let q : length (startsAt (eventBy s h2 0) (acc1 .at k)) ≡ 0 = ap length (startless z (acc1 .at k)) in
-      absurd (omega (arith, n, q, more e, m2 .next, m1 .next)))
-      (λ d. d)
+abbrev AdmitsBy : Answer → Sheet → Accounts → Type 0
+AdmitsBy a s acc = Admits s (a .outcome) (a .handle .0) acc
 
 admit-real : (places : ℕ) (s : Sheet) (st : State) (acc : Accounts) → FitsGuid (s .key) →
     InstanceSim st (acc .instances) →
     eqb (turn places (joined admit) s st .answer .number) 0 ≡ true →
-    Admits (turn places (joined admit) s st .answer) s acc
+    AdmitsBy (turn places (joined admit) s st .answer) s acc
 admit-real places s st acc fits m =
-    admit-cases (λ (t : Turned). eqb (t .answer .number) 0 ≡ true → Admits (t .answer) s acc) places s st
+    admit-cases (λ (t : Turned). eqb (t .answer .number) 0 ≡ true → AdmitsBy (t .answer) s acc) places s st
     (find (hasKey (s .key)) (st .instances))
     (λ n e ok. record {
       stopped = λ d. refl;
@@ -195,7 +121,7 @@ admit-real places s st acc fits m =
     (λ e4 e5 e6 e7 ok. taken e5 e7)
   where
     taken : (not (known s st) && spent st) ≡ false → not (accepts s (find (hasKey (s .key)) (st .instances))) ≡ false →
-        Admits (admitted s st .answer) s acc
+        AdmitsBy (admitted s st .answer) s acc
     taken e f =
         unfold admitted sampled in
         record {
@@ -210,11 +136,7 @@ admit-real places s st acc fits m =
 abbrev pub Admitting : Call → Event → Accounts → Type 0
 Admitting (instances c) e acc = Unit {0}
 Admitting (tracker c) e acc = Unit {0}
-Admitting (joined admit) e acc =
-    (eqb (e .outcome) 0 ≡ false → e .handle ≡ 0)
-    × (eqb (e .outcome) 0 ≡ true → (x : Instance) → acc .instances .at (num (e .sheet .key)) ≡ some x → x .handle .0 ≡ e .handle)
-    × (eqb (e .outcome) 0 ≡ true → acc .instances .at (num (e .sheet .key)) ≡ none → eqb (e .handle) 0 ≡ false)
-    × (eqb (e .outcome) 0 ≡ true → accepts (e .sheet) (acc .instances .at (num (e .sheet .key))) ≡ true)
+Admitting (joined admit) e acc = Admits (e .sheet) (e .outcome) (e .handle) acc
 Admitting (joined lapse) e acc = Unit {0}
 Admitting (joined part) e acc = Unit {0}
 Admitting (joined depart) e acc = Unit {0}
@@ -230,10 +152,8 @@ admitting-real : (places : ℕ) (sheet : List ℕ) (st : State) (acc : Accounts)
 admitting-real places sheet st acc (instances c) a m r = tt
 admitting-real places sheet st acc (tracker c) a m r = tt
 admitting-real places sheet st acc (joined admit) a m r =
-    let t : Admits a (sheetOf sheet) acc = subst
-    (λ (b : Answer). Admits b (sheetOf sheet) acc) (sym (r .is))
-    (admit-real places (sheetOf sheet) st acc (r .fits .key) m (sym (ap (λ (b : Answer). eqb (b .number) 0) (r .is)) ∙ r .number)) in
-    (t .stopped, t .present, t .absent, t .takes)
+    subst (λ (b : Answer). AdmitsBy b (sheetOf sheet) acc) (sym (r .is))
+    (admit-real places (sheetOf sheet) st acc (r .fits .key) m (sym (ap (λ (b : Answer). eqb (b .number) 0) (r .is)) ∙ r .number))
 admitting-real places sheet st acc (joined lapse) a m r = tt
 admitting-real places sheet st acc (joined part) a m r = tt
 admitting-real places sheet st acc (joined depart) a m r = tt
