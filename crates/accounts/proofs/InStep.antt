@@ -9,7 +9,7 @@ use mathlib.Core.Option.{Option, none}
 use mathlib.Core.Path.{_≡_, refl, sym, ap, _∙_}
 use Prim.Native.Nat.{ℕ, _^_, _≤_}
 use native.Mathlib.Omega.{arith}
-use borrow.Author.Tests.{ne-eqb, le-leb, lt-ltb, leb-true, leb-false}
+use borrow.Author.Tests.{ne-eqb, le-leb, lt-ltb, leb-true, leb-false, not-false}
 use lib.Dec.{eqb, leb}
 use lib.ListN.{length}
 use Rattle.octets.specs.Lay.{All}
@@ -38,7 +38,7 @@ use Rattle.model.proofs.StateLaws.{Fitting}
 use Rattle.accounts.specs.Accounts.{Accounts, absent}
 use Rattle.accounts.specs.Ranges.{bound, upFrom}
 use Rattle.model.proofs.Tests.{split}
-use Rattle.accounts.proofs.Basics.{never, contrary, all-from, all-weaken}
+use Rattle.accounts.proofs.Basics.{never, all-from, all-weaken}
 use Rattle.accounts.proofs.EffectLaws.{two-times}
 use Rattle.accounts.proofs.InstanceTurns.{admitted-is}
 use Rattle.accounts.proofs.InstanceSound.{SoundInstance, Handled, Other, Distinct, SoundInstances, instance-sound, losses-sound, stays-sound, admit-sound}
@@ -47,7 +47,8 @@ use Rattle.accounts.proofs.SheetLaws.{SheetFits, used-time}
 use Rattle.accounts.proofs.Sound.{ok-state, fits-state}
 use Rattle.accounts.proofs.Steps.{admit-cases, Sim, advanced, passed, roomy, turned}
 use Rattle.accounts.proofs.TurnLaws.{lookup, Within, within-rises, any-lookup}
-use Rattle.accounts.proofs.WriterSound.{SoundWriter, ok-writer, fits-writer, SoundWriters, all-plain, tracker-sound}
+use Rattle.accounts.proofs.WriterTurns.{SoundWriter}
+use Rattle.accounts.proofs.WriterSound.{ok-writer, fits-writer, SoundWriters, all-plain, tracker-sound}
 
 pub record InStep (places : ℕ) (st : State) (acc : Accounts) : Type 0 where
   pub sim : Sim st acc
@@ -76,11 +77,11 @@ accepted-sheet c s st e =
     let f = passed (not (kindOk c s)) 7 _ refl (d .1) in
     let g = passed (not (acknowledgeOk c s st)) 8 0 refl (f .1) in
     record {
-      times = contrary (all nanosecondsOk (timesUsed c s)) (a .0);
-      clocks = contrary (all clockOk (clocksUsed c s)) (b .0);
-      holder = used-fits (holderUsed c s) (s .holder .len) (contrary (holderFits c s) (d .0));
-      kind = contrary (kindOk c s) (f .0);
-      acknowledged = contrary (acknowledgeOk c s st) (g .0);
+      times = not-false (all nanosecondsOk (timesUsed c s)) (a .0);
+      clocks = not-false (all clockOk (clocksUsed c s)) (b .0);
+      holder = used-fits (holderUsed c s) (s .holder .len) (not-false (holderFits c s) (d .0));
+      kind = not-false (kindOk c s) (f .0);
+      acknowledged = not-false (acknowledgeOk c s st) (g .0);
     }
 
 -- ---- instance calls

@@ -16,8 +16,6 @@ use native.Mathlib.Omega.{arith}
 use borrow.Author.Tests.{eqb-true, eqb-false, eq-eqb}
 use lib.Dec.{eqb, leb}
 use lib.ListN.{length}
-use mir.Syntax.{w32}
-use mir.Val.{toZ}
 use Rattle.octets.specs.Bounds.{Bytes}
 use Rattle.octets.proofs.LayLaws.{length-lay}
 use Rattle.model.specs.declared.AcknowledgeUse.{AcknowledgeUse}
@@ -29,7 +27,7 @@ use Rattle.model.specs.Call.{Left, turn, settle, judged, coded, callIn, callOf}
 use Rattle.model.specs.declared.InstanceCall.{InstanceCall}
 use Rattle.model.specs.declared.TrackerCall.{TrackerCall}
 use Rattle.model.specs.declared.JoinedCall.{JoinedCall}
-use Rattle.model.specs.declared.TrackerCall.the-variants.{Unmatched as unmatched, LostWithParticipant as lostWithParticipant, Expire as expire, Acknowledge as acknowledge}
+use Rattle.model.specs.declared.TrackerCall.the-variants.{Unmatched as unmatched, LostWithParticipant as lostWithParticipant, Expire as expire}
 use Rattle.model.specs.declared.JoinedCall.the-variants.{Admit as admit, Lapse as lapse, Part as part, Depart as depart}
 use Rattle.model.specs.Calls.{Call, instances, tracker, joined, callOfCode}
 use Rattle.model.specs.Guids.{num, guidBytes}
@@ -51,11 +49,11 @@ use Rattle.model.proofs.InstanceLaws.{length-instance}
 use Rattle.model.proofs.StateLaws.{Fitting, read-back}
 use Rattle.model.proofs.TrackerLaws.{late-number}
 use Rattle.model.proofs.WriterLaws.{length-writer}
-use Rattle.accounts.specs.Accounts.{Accounts, Lending, withOut}
+use Rattle.accounts.specs.Accounts.{Accounts}
 use Rattle.accounts.specs.Busy.{Ordered, lateNumber, acknowledges, allowed, busyInstance, busyTracker, busyMatch, busyExpire, busyAdmit, busyJoined, busy, inPart, busyAcknowledge, Never3, OnlyBusy, NothingElse}
 use Rattle.model.proofs.Tests.{split}
 use Rattle.accounts.proofs.Basics.{either, never}
-use Rattle.accounts.proofs.Demand3.{formed, out-replaced, After, after-fresh, instances-are, writers-are}
+use Rattle.accounts.proofs.Demand3.{formed, anew, after-fresh, instances-are, writers-are}
 use Rattle.accounts.proofs.InStep.{InStep, held-fits}
 use Rattle.accounts.proofs.Runs.{told-in, after-in}
 use Rattle.accounts.proofs.SheetLaws.{SheetFits, sheet-fits}
@@ -228,11 +226,6 @@ call-number places sheet st out acc c n o q m =
     rw (laid-lengths places sheet st out (held-fits places st acc m) n o, q, formed places st out acc m)
     (judged-number places c (sheetOf sheet) st out (held-fits places st acc m))
 
--- what a call is lent after any list
-lent-anew : (places : ℕ) (i : Lending) {l : Lent} {acc : Accounts} (m : After places l acc) →
-    withOut (i .out) l ≡ layOut places (m .state) (i .out)
-lent-anew places i {l} m = ap (withOut (i .out)) (m .laid) ∙ out-replaced places (m .state) (l .out) (i .out)
-
 -- the number of a call on a state in step with the accounts
 pub held-busy : (places : ℕ) (sheet : List ℕ) (st : State) (out : List ℕ) (acc : Accounts) (c : Call) → Bytes sheet → length sheet ≡ 256 →
     length out ≡ 4096 → callOfCode (sheetOf sheet .code) ≡ some c → Ordered c (sheetOf sheet) → InStep places st acc →
@@ -244,7 +237,7 @@ pub only-busy : (places : ℕ) → figureOk places ≡ true → OnlyBusy places 
 only-busy places ok is out i c b bytes n o q d =
     let m = after-fresh places is out b in
     rw (after-in places ok is out i, told-in places ok is out)
-    (ap (λ (l : Lent). callIn places (i .sheet) l .answer .number) (lent-anew places i m)
+    (ap (λ (l : Lent). callIn places (i .sheet) l .answer .number) (anew places (i .out) m)
     ∙ held-busy places (i .sheet) (m .state) (i .out) _ c bytes n o q d (m .held))
 
 pub only-busy-32 : OnlyBusy 32 callOf
@@ -352,7 +345,7 @@ never-3 places ok is out i b =
     let m = after-fresh places is out b in
     eqb-false _ 3
     (ap (λ (r : Left). eqb (r .answer .number) 3) (after-in places ok is out i)
-    ∙ ap (λ (l : Lent). eqb (callIn places (i .sheet) l .answer .number) 3) (lent-anew places i m)
+    ∙ ap (λ (l : Lent). eqb (callIn places (i .sheet) l .answer .number) 3) (anew places (i .out) m)
     ∙ call-other places (i .sheet) (m .state) (i .out) _ (m .held))
 
 pub never-3-32 : Never3 32 callOf
@@ -384,7 +377,7 @@ pub nothing-else : (places : ℕ) → figureOk places ≡ true → NothingElse p
 nothing-else places ok is out i c b n o q d =
     let m = after-fresh places is out b in
     ap (λ (r : Left). allowed c (r .answer .number)) (after-in places ok is out i)
-    ∙ ap (λ (l : Lent). allowed c (callIn places (i .sheet) l .answer .number)) (lent-anew places i m)
+    ∙ ap (λ (l : Lent). allowed c (callIn places (i .sheet) l .answer .number)) (anew places (i .out) m)
     ∙ ap (allowed c) (call-number places (i .sheet) (m .state) (i .out) _ c n o q (m .held))
     ∙ judged-allowed places c (sheetOf (i .sheet)) (m .state) d
 

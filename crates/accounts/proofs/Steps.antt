@@ -187,7 +187,7 @@ admit-turned places s st acc x f m =
               (instance-writers _ s _ (acc .writers)
               (instance-writers _ s _ (acc .writers)
               (instance-writers _ s _ (acc .writers) (instance-writers _ s st (acc .writers) (m .writers)))));
-          instances = unfold admitted sampled in admit-heard st (acc .instances) s [] f (handle-free s st e) (m .instances);
+          instances = unfold admitted sampled in admit-heard s st (acc .instances) f (m .instances) (handle-free s st e) [];
         }
 
 -- a tracker call, then codes 7 and 18 for each writer gone
