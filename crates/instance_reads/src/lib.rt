@@ -342,16 +342,16 @@ fn writer_place(pens: &[u8], places: usize, count: usize, g: Guid) -> usize
     requires { ⌜ (tableRefusal places (now pens) ≡ 0) × (count ≡ usedIn places (now pens)) ⌝ }
     ensures { λ r. ⌜ r ≡ placeOf (writesIn g) (tableOf places (now (pens .entry))) ⌝ }
 {
-    let mut i = 0;
-    while i < count {
-        let o = i * 512;
+    let mut place = 0;
+    while place < count {
+        let o = place * 512;
         let e = o + 512;
         if writes(&pens[o..e], g) {
-            return i;
+            return place;
         }
-        i += 1;
+        place += 1;
     }
-    i
+    place
 }
 
 // The handle of the first alive instance in key order that has the GUID among its writers.

@@ -13,10 +13,10 @@ use Rattle.instance_reads.proofs.writer_place.Statement.{statement}
 use Rattle.instance_reads.proofs.writer_place.Tie as tie
 
 abbrev Inv-loop : tie.InvT-loop
-Inv-loop pens places count g i₀ i = (i ≤ count) × ((j : ℕ) → j < i → writes g (instanceOf (recordAt pens j)) ≡ false)
+Inv-loop pens places count g place₀ place = (place ≤ count) × ((j : ℕ) → j < place → writes g (instanceOf (recordAt pens j)) ≡ false)
 
 abbrev μ-loop : tie.MeasureT-loop
-μ-loop pens places count g i₀ i = count - i
+μ-loop pens places count g place₀ place = count - place
 
 loop-holds : tie.Need-loop-holds Inv-loop μ-loop
 loop-holds c = (omega arith, λ j l. absurd (omega arith))
@@ -33,7 +33,7 @@ part-writes-end c = let s = c .before .before .before in omega (arith, whole _ _
 writes-requires : tie.Need-writes-requires Inv-loop μ-loop
 writes-requires c κs =
     let s = c .before .before .before .before in
-    let i = c .before .before .loop .i in
+    let i = c .before .before .loop .place in
     let h : i < usedIn (s .args .places) (s .args .pens .now) = omega (arith, s .pre .1) in
     part-ok _ i (room-at _ _ (s .pre .0) i h) (valid-at _ _ (s .pre .0) i h)
 
@@ -41,20 +41,20 @@ returns : tie.Need-returns Inv-loop μ-loop
 returns c =
     let s = c .before .before .before .before .before .before in
     let l = c .before .before .before .before .loop in
-    place-table _ _ (writes (s .args .g)) _ (l .i) (s .pre .1) (l .inv .0) (l .inv .1)
-    (λ m. part-told (writes (s .args .g)) _ (l .i) _ (c .before .writes .ensures) ∙ c .if1 .taken)
+    place-table _ _ (writes (s .args .g)) _ (l .place) (s .pre .1) (l .inv .0) (l .inv .1)
+    (λ m. part-told (writes (s .args .g)) _ (l .place) _ (c .before .writes .ensures) ∙ c .if1 .taken)
 
 loop-again : tie.Need-loop-again Inv-loop μ-loop
 loop-again c =
     let s = c .before .before .before .before .before .before in
     let l = c .before .before .before .before .loop in
-    (omega arith, below-more _ _ (l .inv .1) (part-told (writes (s .args .g)) _ (l .i) _ (c .before .writes .ensures) ∙ c .if1 .left))
+    (omega arith, below-more _ _ (l .inv .1) (part-told (writes (s .args .g)) _ (l .place) _ (c .before .writes .ensures) ∙ c .if1 .left))
 
 returns-2 : tie.Need-returns-2 Inv-loop μ-loop
 returns-2 c =
     let s = c .before .before .before in
     let l = c .before .loop in
-    place-table _ _ (writes (s .args .g)) _ (l .i) (s .pre .1) (l .inv .0) (l .inv .1) (λ m. absurd (omega arith))
+    place-table _ _ (writes (s .args .g)) _ (l .place) (s .pre .1) (l .inv .0) (l .inv .1) (λ m. absurd (omega arith))
 
 pub writer-place-spec : {M : Type 1} → statement M
 writer-place-spec =
