@@ -127,8 +127,16 @@ extern "C" {
 
 #define DCPS_STACK_BYTES 16384
 
-/* ---- numbers: 0 accepted, else why it is refused; the lowest where several would do, but 15 before 14, and 3 before 1 for
- * a head's number of places */
+/* ---- numbers: 0 accepted, else why it is refused; where several would do, the one that is tested first. Each function says
+ * in which order:
+ *
+ *     number   tested after
+ *     1        nothing; but 3 for the head's number of places comes before another length than the head's
+ *     2        1
+ *     3        1 and 2; for the head's number of places 1 for the head's length alone
+ *     4 to 13  all lower ones
+ *     14       15
+ *     15       1 */
 
 enum dcps_refusal {
     DCPS_ACCEPTED = 0,
