@@ -150,7 +150,7 @@ extern "C" {
 #define DCPS_PREFIX_BYTES 12
 #define DCPS_HANDLE_BYTES 8
 #define DCPS_GONE_BYTES 4096 /* the longest list of GUIDs that a read takes */
-#define DCPS_KEY_LARGEST_BYTES 4096 /* the greatest largest size that dcps_key_hash takes */
+#define DCPS_KEY_LARGEST_BYTES 4096 /* the greatest value of `largest` in dcps_key_hash */
 
 #define DCPS_INSTANCE_PLACES 128      /* in DCPS_PENS_BYTES */
 #define DCPS_SMALL_INSTANCE_PLACES 32 /* in DCPS_SMALL_PENS_BYTES */
@@ -185,10 +185,17 @@ enum dcps_refusal {
 
 /* ---- what an instance, a writer and an admitted sample can be */
 
+/* The kind of an instance. */
 enum dcps_kind { DCPS_ALIVE = 0, DCPS_DISPOSED = 1, DCPS_NO_WRITERS = 2 };
 
-enum dcps_liveliness { DCPS_AUTOMATIC = 0, DCPS_BY_PARTICIPANT = 1, DCPS_BY_TOPIC = 2 };
+/* The kind of a writer: what asserts it. */
+enum dcps_liveliness {
+    DCPS_AUTOMATIC = 0,      /* every assertion of its participant, and of every writer with its prefix */
+    DCPS_BY_PARTICIPANT = 1, /* a manual assertion of its participant, and writer_asserted of every writer with its prefix */
+    DCPS_BY_TOPIC = 2        /* only writer_asserted with its own GUID */
+};
 
+/* The state of a writer. */
 enum dcps_standing {
     DCPS_WRITER_UNASSERTED = 0, /* matched, and not asserted yet; counts neither as alive nor as not alive */
     DCPS_WRITER_ALIVE = 1,      /* asserted, and no expire or lapse has found its lease run out since */
@@ -198,8 +205,8 @@ enum dcps_standing {
 
 /* What DCPS_CODE_ADMIT did with a sample. Outcomes 1 to 4 change nothing, and their answers have no other field.
  * After outcomes 1, 2 and 4 the writer is not recorded: if it is not in the instance's set yet, it does not join it. So call
- * note_writer for it while the instance is alive (dcps_instance_by_key of dcps_inline.h finds the handle). Otherwise the
- * instance loses its last recorded writer while this one still writes it. */
+ * note_writer for it while the instance is alive (dcps_instance_by_key of dcps_inline.h finds the handle). Otherwise, when the
+ * recorded writers leave, the instance is shown without writers, although this one still writes it. */
 enum dcps_outcome {
     DCPS_ADMITTED = 0,
     DCPS_OUT_OF_ORDER = 1, /* the order is by source, and time 1 is not later than last delivered */
@@ -343,18 +350,19 @@ enum dcps_code {
      * Uses: key, guid, strength, time 2 (now), [B: deadline]. Answers: yes. Refused: 4. */
     DCPS_CODE_ACCEPT_UNDER_EXCLUSIVE_OWNERSHIP = 16,
 
-    /* update_owner_strength: each instance that the writer owns now has this as its owner's strength.
+    /* update_owner_strength: sets the owner's strength in every instance that the writer owns.
      * Uses: guid, strength. Answers: nothing. */
     DCPS_CODE_UPDATE_OWNER_STRENGTH = 17,
 
-    /* clear_owner_for_writer: each instance that the writer owns now has no owner. Uses: guid. Answers: count: how many. */
+    /* clear_owner_for_writer: every instance that the writer owns loses its owner. Uses: guid. Answers: count: how many. */
     DCPS_CODE_CLEAR_OWNER_FOR_WRITER = 18,
 
-    /* clear_owner_for_writer_prefix: each instance whose owner has this prefix now has no owner.
+    /* clear_owner_for_writer_prefix: every instance whose owner has this prefix loses its owner.
      * Uses: guid, its first 12 bytes. Answers: count: how many. */
     DCPS_CODE_CLEAR_OWNER_FOR_WRITER_PREFIX = 19,
 
-    /* release_owner_of: if the writer owns the instance, it now has no owner. Uses: key, guid. Answers: yes: it did. */
+    /* release_owner_of: if the writer owns the instance, the instance loses its owner.
+     * Uses: key, guid. Answers: yes: the writer owned it. */
     DCPS_CODE_RELEASE_OWNER_OF = 20,
 
     /* autopurge: removes a disposed instance if its disposed_at is A or more before time 2, and an instance without writers
@@ -366,7 +374,7 @@ enum dcps_code {
     DCPS_CODE_AUTOPURGE = 21,
 
     /* matched: the writer takes this kind and this lease. What else becomes of it:
-     *   - a new writer becomes unasserted, and the clock is its last assertion;
+     *   - a new writer becomes unasserted, with the clock as its last assertion;
      *   - a departed writer comes back not alive, with a last assertion of 0;
      *   - any other writer keeps its state and its last assertion.
      * If the kind is automatic and the writer was new or departed, the call then does the same as participant_asserted, not
@@ -422,7 +430,7 @@ enum dcps_code {
      *   1. Refusals 4 and 6.
      *   2. Order: if the by-source bit is set, time 1 must be later than last delivered. Else outcome 1.
      *   3. Filter: time 2 must be earlier than the last time of the filter, or A or more after it. Else outcome 2.
-     *   4. Limit: a new instance needs fewer instances than the limit. Else outcome 3.
+     *   4. Limit: if the instance is new, there must be fewer instances than the limit. Else outcome 3.
      *   5. Refusals 9 and 13 for a new instance, 10 for a known one.
      *   6. Ownership: as accept_under_exclusive_ownership. Else outcome 4. It is asked on every topic: on a SHARED one set the
      *      deadline bit and let B be 0.

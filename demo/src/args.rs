@@ -72,7 +72,10 @@ pub fn read(arguments: &[OsString]) -> Result<Asked, String> {
         .map(|a| a.to_str().ok_or("an argument is not valid UTF-8"))
         .collect::<Result<_, _>>()?;
     if is_option(day) {
-        return Err(format!("{} is not a day: name the file of a day first", day.to_string_lossy()));
+        return Err(format!(
+            "{} is not a day: name the file of a day first",
+            day.to_string_lossy()
+        ));
     }
     let mode = match rest[..] {
         [] => Mode::Tables,
