@@ -376,7 +376,7 @@ impl<B: Buffers> State<B> {
         )
     }
 
-    /// A writer announced its strength: each instance that it owns now has this as its owner's strength.
+    /// A writer announced its strength: sets the owner's strength in every instance that the writer owns.
     ///
     /// ```
     /// let mut state = dcps::State::new();
@@ -395,7 +395,7 @@ impl<B: Buffers> State<B> {
         Ok(())
     }
 
-    /// Each instance that the writer owns now has no owner. How many these were.
+    /// Every instance that the writer owns loses its owner. How many these were.
     ///
     /// ```
     /// let mut state = dcps::State::new();
@@ -408,7 +408,7 @@ impl<B: Buffers> State<B> {
         Ok(self.call(&Sheet::clear_owner_for_writer(&writer_guid))?.count as usize)
     }
 
-    /// Each instance whose owner belongs to the participant now has no owner. How many these were.
+    /// Every instance whose owner belongs to the participant loses its owner. How many these were.
     ///
     /// ```
     /// let mut state = dcps::State::new();
@@ -421,7 +421,7 @@ impl<B: Buffers> State<B> {
         Ok(self.call(&Sheet::clear_owner_for_writer_prefix(prefix))?.count as usize)
     }
 
-    /// If the writer owns the instance, it now has no owner. Whether it did.
+    /// If the writer owns the instance, the instance loses its owner. Whether the writer owned it.
     ///
     /// ```
     /// let mut state = dcps::State::new();

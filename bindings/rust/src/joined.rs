@@ -188,7 +188,7 @@ impl<B: Buffers> State<B> {
     }
 
     /// [`State::expire`]. Then each writer that expired in this call leaves its instances, and those that it owned
-    /// have no owner. Instances that lose their last writer do so at `timestamp`.
+    /// lose their owner. `timestamp` is when instances lost their last writer.
     ///
     /// Refused as 4, 5 or 12.
     ///
@@ -216,7 +216,7 @@ impl<B: Buffers> State<B> {
     }
 
     /// [`State::unmatched`]. Then the writer leaves its instances, even if it is not matched, and those that it owned
-    /// have no owner.
+    /// lose their owner.
     ///
     /// Refused as 4.
     ///
