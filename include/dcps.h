@@ -570,7 +570,8 @@ enum dcps_code {
 #define DCPS_WRITER_GUID 0   /* 16 */
 #define DCPS_WRITER_FLAGS 16 /* u8: the bits below; bytes 17 to 23 are 0 */
 #define DCPS_WRITER_LEASE 24 /* u64 nanoseconds */
-#define DCPS_WRITER_LAST_ASSERTION 32 /* u64 nanoseconds: when it was asserted last; if never, when it was matched */
+#define DCPS_WRITER_LAST_ASSERTION 32 /* u64 nanoseconds: when it was asserted last. Before the first assertion: when it was
+                                       * matched, or 0 if it was departed then */
 
 /* Of the byte at DCPS_WRITER_FLAGS. */
 #define DCPS_WRITER_KIND_SHIFT 6  /* the two top bits: enum dcps_liveliness */

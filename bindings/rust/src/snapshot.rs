@@ -117,7 +117,7 @@ pub struct WriterState {
     pub kind: LivelinessKind,
     /// Its lease; `None` is infinite.
     pub lease: Option<Duration>,
-    /// When it was asserted last; if never, when it was matched.
+    /// When it was asserted last. Before the first assertion: when it was matched, or 0 if it was departed then.
     pub last_assert: Duration,
 }
 
