@@ -89,10 +89,10 @@ impl Player<'_> {
     /// A state has its places from its beginning, so no call may have been made on it.
     fn places(&mut self, places: Places) -> Result<(), String> {
         if std::mem::replace(&mut self.stated, true) {
-            return Err("'places' stands twice: leave one of them".to_owned());
+            return Err("'places' is there twice: remove one of them".to_owned());
         }
         if self.called {
-            return Err("'places' stands below a call: write it above the first one".to_owned());
+            return Err("'places' comes after a call: write it above the first call".to_owned());
         }
         self.state = State::with_places(places);
         Ok(())

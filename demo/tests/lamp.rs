@@ -78,7 +78,7 @@ fn by_digits() {
 
 #[test]
 fn what_is_turned_down() {
-    turned_down(&["lamp.txt", "lamp"], 2, "lamp needs a writer behind it, as plotter-1/c1");
+    turned_down(&["lamp.txt", "lamp"], 2, "lamp needs a writer after it, for example plotter-1/c1");
     turned_down(&["lamp.txt", "lamp", "plotter-1/c1", "pen-01"], 2, "'pen-01' is not understood");
     turned_down(&["lamp.txt", "lamp", "plotter-9/c1"], 1, "plotter-9/c1 never stands in lamp.txt");
     turned_down(&["lamp.txt", "lamp", "pen-01"], 1, "'pen-01' is no writer: write PARTICIPANT/");

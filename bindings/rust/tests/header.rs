@@ -84,8 +84,12 @@ fn version() {
     let of = |part| number(&format!("DCPS_VERSION_{part}"));
     let (major, minor, patch) = (of("MAJOR"), of("MINOR"), of("PATCH"));
     assert_eq!(dcps::version(), (major, minor, patch));
-    assert!(HEADER.contains(&format!("#define DCPS_VERSION \"{major}.{minor}.{patch}\"")));
-    assert_eq!(env!("CARGO_PKG_VERSION"), format!("{major}.{minor}.{patch}"));
+    let version = format!("{major}.{minor}.{patch}");
+    assert!(HEADER.contains(&format!("#define DCPS_VERSION \"{version}\"")));
+    assert_eq!(env!("CARGO_PKG_VERSION"), version);
+    let spdx = include_str!("../../../dcps.spdx");
+    assert!(spdx.contains(&format!("\nPackageVersion: {version}\n")));
+    assert!(include_str!("../../../CHANGELOG.md").contains(&format!("\n## {version}\n")));
 }
 
 /// The names of the header's numbers that begin so, each without that, and its number.
