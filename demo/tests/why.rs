@@ -2,7 +2,7 @@
 
 mod common;
 
-use common::{demo, ends_within, piped, text, written};
+use common::{demo, ends_within, left_out, piped, text, written};
 
 fn why(form: &[&str]) -> String {
     let output = demo(&[&["often.txt", "why"], form].concat());
@@ -211,8 +211,7 @@ fn a_browser_draws_it() {
         .into_iter()
         .find(|name| std::process::Command::new(name).arg("--version").output().is_ok());
     let Some(browser) = browser else {
-        eprintln!("no browser: the page was not drawn");
-        return;
+        return left_out("the page in a browser", "no chromium");
     };
     let page = written("often.html", why(&["--html"]).as_bytes());
     let picture = written("often.png", b"");

@@ -70,3 +70,15 @@ pub fn ends_within(mut command: Command, seconds: u64) -> bool {
     let _ = child.wait();
     false
 }
+
+/// Says that a part is left out, in the file that LEFT_OUT names where it does. With CI=true that is a failure.
+pub fn left_out(part: &str, why: &str) {
+    let line = format!("left out: {part}: {why}");
+    let set = |name: &str| std::env::var(name).ok();
+    assert!(set("CI").as_deref() != Some("true"), "{line}");
+    eprintln!("{line}");
+    if let Some(path) = set("LEFT_OUT") {
+        let file = std::fs::OpenOptions::new().append(true).create(true).open(path);
+        writeln!(file.expect("LEFT_OUT can be opened"), "{line}").expect("LEFT_OUT can be written");
+    }
+}
