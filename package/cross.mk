@@ -16,7 +16,7 @@ SHARED := libdcps.so.$(VERSION)
 
 # the module is kept beside the sum of its library, so that one copied or made again elsewhere is known by its content
 library: $(LIB)
-	@test -f target/module/dcps_c.bc && test "$$(sha256sum < $(LIB) | cut -d' ' -f1)" = "$$(cat target/module/of)" || package/staticlib >&2
+	@test "$$(sha256sum < $(LIB) | cut -d' ' -f1)" = "$$(cat target/module/of 2> /dev/null)" || package/staticlib >&2
 	@LIB=$(LIB) package/compile $(ARCH) $(VERSION) $(BUILT) >&2
 
 check-shared:

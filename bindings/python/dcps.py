@@ -170,9 +170,9 @@ class Answer:
 
     @staticmethod
     def from_bytes(b: bytes) -> Answer:
-        (_, outcome, yes, present, view_new, kind, due_present, handle, samples, disposed, no_writers, count, listed, alive, not_alive,
-         alive_change, not_alive_change, due, last) = struct.unpack(">7Bx Q 7I 2i 4x 2Q", b)
-        status = LivelinessChangedStatus(alive, not_alive, alive_change, not_alive_change, last)
+        (_, outcome, yes, present, view_new, kind, due_present, handle, samples, disposed, no_writers, count, listed,
+         *counts, due, last) = struct.unpack(">7Bx Q 7I 2i 4x 2Q", b)
+        status = LivelinessChangedStatus(*counts, last)
         return Answer(outcome, bool(yes), bool(present), bool(view_new), InstanceStateKind(kind), due if due_present else None,
                       handle, samples, disposed, no_writers, count, listed, status)
 
@@ -280,7 +280,8 @@ class WriterState:
     @staticmethod
     def from_bytes(b: bytes) -> WriterState:
         guid, flags, lease, last = struct.unpack(">16sB7xQQ", b)
-        return WriterState(guid, WriterLiveliness(flags >> 4 & 3), LivelinessKind(flags >> 6), lease if flags >> 3 & 1 else None, last)
+        standing, kind = WriterLiveliness(flags >> 4 & 3), LivelinessKind(flags >> 6)
+        return WriterState(guid, standing, kind, lease if flags >> 3 & 1 else None, last)
 
 
 # ---- the library
@@ -345,7 +346,8 @@ def _read(name: str, *arguments: Union[Buffer, bytes, int]) -> _Read:
     return _Read(*struct.unpack(">x3BIQiI", answer.raw))
 
 
-def call(head: Buffer, sheet: Union[Buffer, bytes], pens: Buffer, writers: Buffer, lost: Buffer, out: Buffer, answer: Buffer) -> int:
+def call(head: Buffer, sheet: Union[Buffer, bytes], pens: Buffer, writers: Buffer, lost: Buffer, out: Buffer,
+         answer: Buffer) -> int:
     """dcps_call as it is, over ctypes arrays of any lengths: its number."""
     return _ask("call", head, sheet, pens, writers, lost, out, answer)
 
@@ -404,8 +406,8 @@ def _nanos(nanoseconds: Optional[int]) -> int:
 
 
 def sheet(code: int, *, key: bytes = bytes(16), guid: bytes = bytes(16), handle: int = 0, time_1: Optional[Time] = None,
-          time_2: Time = Time(0), a: Optional[int] = None, b: Optional[int] = None, limit: int = 0, strength: int = 0, bits: int = 0,
-          holder: Optional[bytes] = None) -> bytes:
+          time_2: Time = Time(0), a: Optional[int] = None, b: Optional[int] = None, limit: int = 0, strength: int = 0,
+          bits: int = 0, holder: Optional[bytes] = None) -> bytes:
     """The 256 bytes of a call, as include/dcps.h has them. A time 1 or holder that is given sets its bit. A holder that is too
     long goes by its length alone, which is refused as 6."""
     if time_1 is not None:
@@ -522,7 +524,8 @@ class State:
         """The instance of a dispose or unregister marker, made known and counted. Refused as 4, 6, 9 or 13."""
         return self.raw_call(sheet(8, key=keyhash, holder=key_holder, time_1=timestamp)).handle
 
-    def observe_admitted(self, keyhash: bytes, key_holder: bytes, timestamp: Time, max_instances: int = -1) -> Optional[Tuple[int, int]]:
+    def observe_admitted(self, keyhash: bytes, key_holder: bytes, timestamp: Time,
+                         max_instances: int = -1) -> Optional[Tuple[int, int]]:
         """A sample: handle and samples, None at the limit. Refused as 4, 6, 9 or 13."""
         answer = self.raw_call(sheet(9, key=keyhash, holder=key_holder, time_1=timestamp, limit=max_instances))
         return (answer.handle, answer.samples) if answer.present else None
