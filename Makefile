@@ -40,7 +40,7 @@ stage: library
 
 dist: stage
 	cd $(STAGE) && find . -type f ! -name SHA256SUMS | LC_ALL=C sort | xargs sha256sum > SHA256SUMS
-	tar --sort=name --mtime=@0 --owner=0 --group=0 --numeric-owner -C target/dist -cf - $(NAME) | gzip -9n > $(STAGE).tar.gz
+	tar --sort=name --mtime=@0 --mode=u+rwX,go+rX,go-w --owner=0 --group=0 --numeric-owner -C target/dist -cf - $(NAME) | gzip -9n > $(STAGE).tar.gz
 	cd target/dist && sha256sum $(NAME).tar.gz > $(NAME).tar.gz.sha256
 	@echo $(STAGE).tar.gz
 
