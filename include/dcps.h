@@ -105,6 +105,13 @@
 #include <stddef.h>
 #include <stdint.h>
 
+#if defined(__SIZEOF_SIZE_T__) && __SIZEOF_SIZE_T__ != 8
+#error "dcps: size_t has to have 64 bits, as the library takes its lengths so; see Platforms in INTEGRATION.md"
+#endif
+#if defined(__BYTE_ORDER__) && __BYTE_ORDER__ != __ORDER_LITTLE_ENDIAN__
+#error "dcps: the machine has to be little-endian, as the library is proved for such a one; see Platforms in INTEGRATION.md"
+#endif
+
 #ifdef __cplusplus
 extern "C" {
 #endif
