@@ -3,8 +3,5 @@ use borrow.Author.Needs.{needs}
 use Rattle.answers.proofs.saying.Statement.{statement}
 use Rattle.answers.proofs.saying.Tie as tie
 
-returns : tie.Need-returns
-returns c = rw (c .silent .ensures)
-
 pub saying-spec : {M : Type 1} → statement M
-saying-spec = tie.close (tie.spec (λ c κs. search needs) returns)
+saying-spec = tie.close (tie.spec (λ c κs. search needs) (λ c. rw (c .silent .ensures)))

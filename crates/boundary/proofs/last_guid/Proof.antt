@@ -3,8 +3,5 @@ use borrow.Author.Needs.{needs}
 use Rattle.boundary.proofs.last_guid.Statement.{statement}
 use Rattle.boundary.proofs.last_guid.Tie as tie
 
-returns : tie.Need-returns
-returns c = cc
-
 pub last-guid-spec : {M : Type 1} → statement M
-last-guid-spec = tie.close (tie.spec (λ c. search needs) (λ c. search needs) returns (λ c. search needs))
+last-guid-spec = tie.close (tie.spec (λ c. search needs) (λ c. search needs) (λ c. cc) (λ c. search needs))

@@ -3,8 +3,5 @@ use mathlib.Core.Path.{refl}
 use Rattle.boundary_reads.proofs.holder_answer.Statement.{statement}
 use Rattle.boundary_reads.proofs.holder_answer.Tie as tie
 
-returns : tie.Need-returns
-returns c = refl
-
 pub holder-answer-spec : {M : Type 1} → statement M
-holder-answer-spec = tie.close (tie.spec returns)
+holder-answer-spec = tie.close (tie.spec (λ c. refl))

@@ -3,9 +3,6 @@ use borrow.Author.Needs.{needs}
 use Rattle.call_codes.proofs.tracker_rule.Statement.{statement}
 use Rattle.call_codes.proofs.tracker_rule.Tie as tie
 
-returns : tie.Need-returns
-returns c = rw (c .before .enum-told .given .1) (c .on-writers .ensures)
-
 returns-2 : tie.Need-returns-2
 returns-2 c = rw (c .before .enum-told2 .given .1) (c .on-writers2 .ensures)
 
@@ -18,15 +15,6 @@ returns-4 c = rw (c .before .enum-told4 .given .1) (c .on-writers4 .ensures)
 returns-5 : tie.Need-returns-5
 returns-5 c = rw (c .before .enum-told5 .given .1) (c .on-writers5 .ensures)
 
-returns-6 : tie.Need-returns-6
-returns-6 c = rw (c .before .enum-told6 .given .1) (c .on-lost .ensures)
-
-returns-7 : tie.Need-returns-7
-returns-7 c = rw (c .before .enum-told7 .given .1) (c .on-lost2 .ensures)
-
-returns-8 : tie.Need-returns-8
-returns-8 c = rw (c .before .enum-told8 .given .1) (c .on-status .ensures)
-
 returns-9 : tie.Need-returns-9
 returns-9 c = rw (c .before .enum-told9 .given .1) (c .on-status2 .ensures)
 
@@ -36,5 +24,8 @@ tracker-rule-spec =
     (tie.spec (λ c. search needs) (λ c κs. search needs) (λ c. search needs) (λ c κs. search needs)
     (λ c. search needs) (λ c κs. search needs) (λ c. search needs) (λ c κs. search needs) (λ c. search needs)
     (λ c κs. search needs) (λ c. search needs) (λ c κs. search needs) (λ c. search needs) (λ c κs. search needs)
-    (λ c. search needs) (λ c κs. search needs) (λ c. search needs) (λ c κs. search needs) returns returns-2 returns-3
-    returns-4 returns-5 returns-6 returns-7 returns-8 returns-9)
+    (λ c. search needs) (λ c κs. search needs) (λ c. search needs) (λ c κs. search needs)
+    (λ c. rw (c .before .enum-told .given .1) (c .on-writers .ensures)) returns-2 returns-3 returns-4 returns-5
+    (λ c. rw (c .before .enum-told6 .given .1) (c .on-lost .ensures))
+    (λ c. rw (c .before .enum-told7 .given .1) (c .on-lost2 .ensures))
+    (λ c. rw (c .before .enum-told8 .given .1) (c .on-status .ensures)) returns-9)

@@ -8,14 +8,9 @@ returns : tie.Need-returns
 unfolding all
 returns c = rw (c .enum-told .given .1)
 
-returns-2 : tie.Need-returns-2
-returns-2 c = rw (c .before .enum-told2 .given .1) (c .clock-ok .ensures)
-
-returns-3 : tie.Need-returns-3
-returns-3 c = rw (c .before .enum-told3 .given .1) (c .lease-ok .ensures)
-
 pub clocks-ok-spec : {M : Type 1} → statement M
 clocks-ok-spec =
     tie.close
     (tie.spec (λ c. search needs) (λ c. search needs) (λ c κs. search needs) (λ c. search needs)
-    (λ c κs. search needs) returns returns-2 returns-3)
+    (λ c κs. search needs) returns (λ c. rw (c .before .enum-told2 .given .1) (c .clock-ok .ensures))
+    (λ c. rw (c .before .enum-told3 .given .1) (c .lease-ok .ensures)))

@@ -26,9 +26,6 @@ joined-requires c κs =
     let a = c .before .before .before .before .before .before .before .before .before .before .before .before .before .before in
     (a .pre .0, a .pre .1, a .pre .2, a .pre .3, omega (arith, c .before .before .before .before .before .if5 .left), omega (arith, c .before .before .before .before .if6 .taken), a .pre .4, a .pre .5)
 
-returns : tie.Need-returns
-returns c = c .before .before .before .before .instances .ensures
-
 returns-2 : tie.Need-returns-2
 returns-2 c = c .before .before .before .before .before .before .tracker .ensures
 
@@ -56,6 +53,7 @@ pub coded-spec : {M : Type 1} → statement M
 coded-spec =
     tie.close
     (tie.spec instances-requires tracker-requires joined-requires (λ c κs. search needs) (λ c. search needs)
-    (λ c. search needs) (λ c. search needs) (λ c. search needs) returns (λ c. search needs) (λ c. search needs)
+    (λ c. search needs) (λ c. search needs) (λ c. search needs)
+    (λ c. c .before .before .before .before .instances .ensures) (λ c. search needs) (λ c. search needs)
     (λ c. search needs) (λ c. search needs) returns-2 (λ c. search needs) (λ c. search needs) (λ c. search needs)
     (λ c. search needs) returns-3 returns-4)

@@ -4,9 +4,6 @@ use Rattle.dcps_c.proofs.Tellings.{left-untold, left-told}
 use Rattle.dcps_c.proofs.dcps_left_writerless.Statement.{statement}
 use Rattle.dcps_c.proofs.dcps_left_writerless.Tie as tie
 
-returns : tie.Need-returns
-returns c = left-untold _ _ _ _ _ (c .if1 .taken)
-
 returns-2 : tie.Need-returns-2
 returns-2 c =
     let t = c .before .before in
@@ -17,5 +14,5 @@ returns-2 c =
 pub dcps-left-writerless-spec : {M : Type 1} → statement M
 dcps-left-writerless-spec =
     tie.close
-    (tie.spec returns (λ c κs. search needs) (λ c κs. search needs) (λ c κs. search needs) (λ c. search needs)
-    (λ c. search needs) returns-2)
+    (tie.spec (λ c. left-untold _ _ _ _ _ (c .if1 .taken)) (λ c κs. search needs) (λ c κs. search needs)
+    (λ c κs. search needs) (λ c. search needs) (λ c. search needs) returns-2)

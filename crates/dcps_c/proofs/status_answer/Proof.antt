@@ -6,10 +6,8 @@ use Rattle.dcps_c.proofs.status_answer.Tie as tie
 returns : tie.Need-returns
 returns c = rw (c .refused-with .ensures, c .before .before .s .given .1)
 
-returns-2 : tie.Need-returns-2
-returns-2 c = rw (c .reporting .ensures, c .before .before .s2 .given .1)
-
 pub status-answer-spec : {M : Type 1} → statement M
 status-answer-spec =
     tie.close
-    (tie.spec (λ c. search needs) (λ c κs. search needs) (λ c. search needs) (λ c κs. search needs) returns returns-2)
+    (tie.spec (λ c. search needs) (λ c κs. search needs) (λ c. search needs) (λ c κs. search needs) returns
+    (λ c. rw (c .reporting .ensures, c .before .before .s2 .given .1)))

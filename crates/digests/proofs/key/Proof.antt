@@ -5,12 +5,10 @@ use borrow.Author.Needs.{needs}
 use Rattle.digests.proofs.key.Statement.{statement}
 use Rattle.digests.proofs.key.Tie as tie
 
-slice-aggregate-key-hash : tie.Need-slice-aggregate-key-hash
-slice-aggregate-key-hash c = sym (length-take-le _ _ (search needs))
-
 pub key-spec : {M : Type 1} → statement M
 key-spec =
     tie.close
     (tie.spec (λ c. search needs) (λ c κs. search needs) (λ c κs. search needs) (λ c. search needs)
-    (λ c κs. search needs) (λ c κs. search needs) (λ c. search needs) (λ c κs. search needs) slice-aggregate-key-hash
-    (λ c κs. search needs) (λ c κs. search needs) (λ c. search needs) (λ c. search needs))
+    (λ c κs. search needs) (λ c κs. search needs) (λ c. search needs) (λ c κs. search needs)
+    (λ c. sym (length-take-le _ _ (search needs))) (λ c κs. search needs) (λ c κs. search needs) (λ c. search needs)
+    (λ c. search needs))

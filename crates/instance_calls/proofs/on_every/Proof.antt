@@ -3,8 +3,6 @@ use borrow.Author.Needs.{needs}
 use Rattle.instance_calls.proofs.on_every.Statement.{statement}
 use Rattle.instance_calls.proofs.on_every.Tie as tie
 
-returns : tie.Need-returns
-returns c = rw (← c .before .rule-of .ensures) (c .is-every .ensures)
-
 pub on-every-spec : {M : Type 1} → statement M
-on-every-spec = tie.close (tie.spec (λ c κs. search needs) (λ c κs. search needs) returns)
+on-every-spec = tie.close (tie.spec (λ c κs. search needs) (λ c κs. search needs)
+    (λ c. rw (← c .before .rule-of .ensures) (c .is-every .ensures)))

@@ -16,9 +16,6 @@ Inv-loop bytes hash₀ i₀ hash i = (i ≤ length bytes) × (fnvFrom hash (drop
 abbrev μ-loop : tie.MeasureT-loop
 μ-loop bytes hash₀ i₀ hash i = length bytes - i
 
-loop-holds : tie.Need-loop-holds Inv-loop μ-loop
-loop-holds c = (omega arith, refl)
-
 loop-again : tie.Need-loop-again Inv-loop μ-loop
 loop-again c =
     let s = c .before .before .before .before .before .args .bytes .now in
@@ -34,5 +31,5 @@ returns c =
 pub fnv-1a-spec : {M : Type 1} → statement M
 fnv-1a-spec =
     tie.close
-    (tie.spec Inv-loop μ-loop loop-holds (λ c. search needs) (λ c κs. search needs) (λ c. search needs)
-    (λ c. search needs) loop-again returns)
+    (tie.spec Inv-loop μ-loop (λ c. (omega arith, refl)) (λ c. search needs) (λ c κs. search needs)
+    (λ c. search needs) (λ c. search needs) loop-again returns)

@@ -7,11 +7,9 @@ use Rattle.instance_loss.proofs.clear_if.Tie as tie
 returns : tie.Need-returns
 returns c = cleared-yes (c .before .before .before .before .before .before .args .yes) (c .before .before .before .before .if1 .taken) (c .before .before .clear-owner .ensures)
 
-returns-2 : tie.Need-returns-2
-returns-2 c = cleared-no (c .before .before .args .yes) (c .if1 .left)
-
 clear-owner-requires : tie.Need-clear-owner-requires
 clear-owner-requires c κs = let s = c .before .before .before in (s .pre .0, s .pre .1 (c .before .if1 .taken))
 
 pub clear-if-spec : {M : Type 1} → statement M
-clear-if-spec = tie.close (tie.spec clear-owner-requires (λ c. search needs) returns returns-2)
+clear-if-spec = tie.close (tie.spec clear-owner-requires (λ c. search needs) returns
+    (λ c. cleared-no (c .before .before .args .yes) (c .if1 .left)))

@@ -3,8 +3,6 @@ use borrow.Author.Needs.{needs}
 use Rattle.instance_ownership.proofs.unowned.Statement.{statement}
 use Rattle.instance_ownership.proofs.unowned.Tie as tie
 
-returns : tie.Need-returns
-returns c = rw (c .with-owner .ensures, c .before .nil .ensures)
-
 pub unowned-spec : {M : Type 1} → statement M
-unowned-spec = tie.close (tie.spec (λ c κs. search needs) (λ c κs. search needs) returns)
+unowned-spec = tie.close (tie.spec (λ c κs. search needs) (λ c κs. search needs)
+    (λ c. rw (c .with-owner .ensures, c .before .nil .ensures)))

@@ -3,24 +3,13 @@ use borrow.Author.Needs.{needs}
 use Rattle.instance_pass.proofs.answered.Statement.{statement}
 use Rattle.instance_pass.proofs.answered.Tie as tie
 
-returns : tie.Need-returns
-returns c = rw (c .before .enum-told .given .1) (c .silent .ensures)
-
-returns-2 : tie.Need-returns-2
-returns-2 c = rw (c .before .enum-told2 .given .1) (c .listing .ensures)
-
-returns-3 : tie.Need-returns-3
-returns-3 c = rw (c .before .enum-told3 .given .1) (c .counting .ensures)
-
-returns-4 : tie.Need-returns-4
-returns-4 c = rw (c .before .enum-told4 .given .1) (c .counting2 .ensures)
-
-returns-5 : tie.Need-returns-5
-returns-5 c = rw (c .before .enum-told5 .given .1) (c .counting3 .ensures)
-
 pub answered-spec : {M : Type 1} → statement M
 answered-spec =
     tie.close
     (tie.spec (λ c. search needs) (λ c. search needs) (λ c. search needs) (λ c κs. search needs) (λ c. search needs)
     (λ c κs. search needs) (λ c. search needs) (λ c κs. search needs) (λ c. search needs) (λ c κs. search needs)
-    (λ c. search needs) (λ c κs. search needs) returns returns-2 returns-3 returns-4 returns-5)
+    (λ c. search needs) (λ c κs. search needs) (λ c. rw (c .before .enum-told .given .1) (c .silent .ensures))
+    (λ c. rw (c .before .enum-told2 .given .1) (c .listing .ensures))
+    (λ c. rw (c .before .enum-told3 .given .1) (c .counting .ensures))
+    (λ c. rw (c .before .enum-told4 .given .1) (c .counting2 .ensures))
+    (λ c. rw (c .before .enum-told5 .given .1) (c .counting3 .ensures)))

@@ -21,9 +21,6 @@ loop-holds c =
     let a = c .before .args in
     (omega arith, omega arith, refl, changing-start (ownerAct (a .prefix) (a .g)) (clearedAs (a .prefix) (a .g)) (λ x. refl) (λ x. refl) (a .count) (a .pens .now))
 
-one-requires : tie.Need-one-requires Inv-loop μ-loop
-one-requires c κs = tt
-
 add-n : tie.Need-add-n Inv-loop μ-loop
 add-n c = omega (arith, bit-le (c .before .before .before .owner-at .result), c .one .ensures)
 
@@ -49,5 +46,5 @@ returns c =
 pub clear-owners-spec : {M : Type 1} → statement M
 clear-owners-spec =
     tie.close
-    (tie.spec Inv-loop μ-loop loop-holds (λ c κs. omega arith) one-requires add-n (λ c. omega arith)
+    (tie.spec Inv-loop μ-loop loop-holds (λ c κs. omega arith) (λ c κs. tt) add-n (λ c. omega arith)
     (λ c. omega arith) loop-again (λ c. omega arith) returns)

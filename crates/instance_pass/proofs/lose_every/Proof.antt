@@ -16,12 +16,6 @@ Inv-loop pens₀ out₀ count gone at clears w guesses tally₀ i₀ pens out ta
 abbrev μ-loop : tie.MeasureT-loop
 μ-loop pens₀ out₀ count gone at clears w guesses tally₀ i₀ pens out tally i = count - i
 
-span-of-requires : tie.Need-span-of-requires Inv-loop μ-loop
-span-of-requires c κs = c .before .before .before .pre .1
-
-note-guesses-requires : tie.Need-note-guesses-requires Inv-loop μ-loop
-note-guesses-requires c κs = c .before .before .before .before .before .pre .1
-
 loop-holds : tie.Need-loop-holds Inv-loop μ-loop
 loop-holds c =
     let a = c .before .before .before .before .before .before .args in
@@ -56,5 +50,6 @@ returns c =
 pub lose-every-spec : {M : Type 1} → statement M
 lose-every-spec =
     tie.close
-    (tie.spec Inv-loop μ-loop span-of-requires note-guesses-requires loop-holds lose-at-requires (λ c. omega arith)
+    (tie.spec Inv-loop μ-loop (λ c κs. c .before .before .before .pre .1)
+    (λ c κs. c .before .before .before .before .before .pre .1) loop-holds lose-at-requires (λ c. omega arith)
     (λ c. omega arith) loop-again (λ c. omega arith) (λ c. omega arith) returns)

@@ -3,8 +3,5 @@ use borrow.Author.Needs.{needs}
 use Rattle.instance_reach.proofs.idle.Statement.{statement}
 use Rattle.instance_reach.proofs.idle.Tie as tie
 
-returns : tie.Need-returns
-returns c = λ s. rw (c .unanswered .ensures s)
-
 pub idle-spec : {M : Type 1} → statement M
-idle-spec = tie.close (tie.spec (λ c κs. search needs) returns)
+idle-spec = tie.close (tie.spec (λ c κs. search needs) (λ c. λ s. rw (c .unanswered .ensures s)))

@@ -3,8 +3,5 @@ use borrow.Author.Needs.{needs}
 use Rattle.instance_reach.proofs.stopped.Statement.{statement}
 use Rattle.instance_reach.proofs.stopped.Tie as tie
 
-returns : tie.Need-returns
-returns c = rw (c .refused-with .ensures)
-
 pub stopped-spec : {M : Type 1} → statement M
-stopped-spec = tie.close (tie.spec (λ c κs. search needs) returns)
+stopped-spec = tie.close (tie.spec (λ c κs. search needs) (λ c. rw (c .refused-with .ensures)))

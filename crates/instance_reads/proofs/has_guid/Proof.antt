@@ -16,9 +16,6 @@ Inv-loop list n g i₀ i = (i ≤ n) × ((j : ℕ) → j < i → is g (row guidO
 abbrev μ-loop : tie.MeasureT-loop
 μ-loop list n g i₀ i = n - i
 
-loop-holds : tie.Need-loop-holds Inv-loop μ-loop
-loop-holds c = (omega arith, λ j l. absurd (omega arith))
-
 returns : tie.Need-returns Inv-loop μ-loop
 returns c =
     let i = c .before .before .before .before .loop .i in
@@ -38,5 +35,5 @@ returns-2 c = has-nowhere _ _ _ (λ j l. c .before .loop .inv .1 j (omega arith)
 pub has-guid-spec : {M : Type 1} → statement M
 has-guid-spec =
     tie.close
-    (tie.spec Inv-loop μ-loop loop-holds (λ c. omega arith) (λ c κs. omega arith) (λ c κs. search needs) returns
-    (λ c. omega arith) (λ c. omega arith) loop-again returns-2)
+    (tie.spec Inv-loop μ-loop (λ c. (omega arith, λ j l. absurd (omega arith))) (λ c. omega arith)
+    (λ c κs. omega arith) (λ c κs. search needs) returns (λ c. omega arith) (λ c. omega arith) loop-again returns-2)

@@ -21,9 +21,6 @@ Inv-loop pens places gone m view-states out₀ count i₀ k₀ out i k =
 abbrev μ-loop : tie.MeasureT-loop
 μ-loop pens places gone m view-states out₀ count i₀ k₀ out i k = count - i
 
-used-requires : tie.Need-used-requires Inv-loop μ-loop
-used-requires c κs = whole _ _ (c .before .before .before .pre .0) .size
-
 loop-holds : tie.Need-loop-holds Inv-loop μ-loop
 loop-holds c = let s = c .before .before .before .before in
     (omega arith, listed-start _ (tableOf (s .args .places) (s .args .pens .now)) _)
@@ -81,5 +78,5 @@ returns c =
 pub list-all-left-spec : {M : Type 1} → statement M
 list-all-left-spec =
     tie.close
-    (tie.spec Inv-loop μ-loop used-requires loop-holds list-left-requires (λ c. omega arith) (λ c. omega arith)
-    loop-again same-length returns)
+    (tie.spec Inv-loop μ-loop (λ c κs. whole _ _ (c .before .before .before .pre .0) .size) loop-holds
+    list-left-requires (λ c. omega arith) (λ c. omega arith) loop-again same-length returns)

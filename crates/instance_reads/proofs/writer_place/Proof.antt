@@ -18,9 +18,6 @@ Inv-loop pens places count g place₀ place = (place ≤ count) × ((j : ℕ) �
 abbrev μ-loop : tie.MeasureT-loop
 μ-loop pens places count g place₀ place = count - place
 
-loop-holds : tie.Need-loop-holds Inv-loop μ-loop
-loop-holds c = (omega arith, λ j l. absurd (omega arith))
-
 mul-o : tie.Need-mul-o Inv-loop μ-loop
 mul-o c = let s = c .before .before .before in omega (arith, whole _ _ (s .pre .0) .room, s .pre .1)
 
@@ -59,5 +56,6 @@ returns-2 c =
 pub writer-place-spec : {M : Type 1} → statement M
 writer-place-spec =
     tie.close
-    (tie.spec Inv-loop μ-loop loop-holds mul-o add-e (λ c. omega arith) (λ c. omega arith) part-writes-end
-    writes-requires returns (λ c. omega arith) (λ c. omega arith) loop-again returns-2)
+    (tie.spec Inv-loop μ-loop (λ c. (omega arith, λ j l. absurd (omega arith))) mul-o add-e (λ c. omega arith)
+    (λ c. omega arith) part-writes-end writes-requires returns (λ c. omega arith) (λ c. omega arith) loop-again
+    returns-2)

@@ -3,8 +3,5 @@ use borrow.Author.Needs.{needs}
 use Rattle.instance_record.proofs.read_owner.Statement.{statement}
 use Rattle.instance_record.proofs.read_owner.Tie as tie
 
-returns : tie.Need-returns
-returns c = cc
-
 pub read-owner-spec : {M : Type 1} → statement M
-read-owner-spec = tie.close (tie.spec (λ c κs. search needs) (λ c κs. search needs) returns)
+read-owner-spec = tie.close (tie.spec (λ c κs. search needs) (λ c κs. search needs) (λ c. cc))

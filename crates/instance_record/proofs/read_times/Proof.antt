@@ -3,11 +3,8 @@ use borrow.Author.Needs.{needs}
 use Rattle.instance_record.proofs.read_times.Statement.{statement}
 use Rattle.instance_record.proofs.read_times.Tie as tie
 
-returns : tie.Need-returns
-returns c = cc
-
 pub read-times-spec : {M : Type 1} → statement M
 read-times-spec =
     tie.close
     (tie.spec (λ c κs. search needs) (λ c κs. search needs) (λ c κs. search needs) (λ c κs. search needs)
-    (λ c κs. search needs) (λ c κs. search needs) returns)
+    (λ c κs. search needs) (λ c κs. search needs) (λ c. cc))

@@ -15,12 +15,6 @@ Inv-loop set n g i₀ i = (i ≤ n) × ((j : ℕ) → j < i → same (guidAt set
 abbrev μ-loop : tie.MeasureT-loop
 μ-loop set n g i₀ i = n - i
 
-loop-holds : tie.Need-loop-holds Inv-loop μ-loop
-loop-holds c = (omega arith, (λ j l. absurd (omega arith)))
-
-is-at-requires : tie.Need-is-at-requires Inv-loop μ-loop
-is-at-requires c κs = (omega arith, omega arith)
-
 returns : tie.Need-returns Inv-loop μ-loop
 returns c =
     let a = c .before .before .before .before .before .args in
@@ -41,5 +35,5 @@ returns-2 c =
 pub place-of-spec : {M : Type 1} → statement M
 place-of-spec =
     tie.close
-    (tie.spec Inv-loop μ-loop loop-holds is-at-requires returns (λ c. omega arith) (λ c. omega arith) loop-again
-    returns-2)
+    (tie.spec Inv-loop μ-loop (λ c. (omega arith, (λ j l. absurd (omega arith)))) (λ c κs. (omega arith, omega arith))
+    returns (λ c. omega arith) (λ c. omega arith) loop-again returns-2)

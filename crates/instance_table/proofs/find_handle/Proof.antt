@@ -15,9 +15,6 @@ Inv-loop t count n i₀ i = (i ≤ count) × ((j : ℕ) → j < i → handleAt t
 abbrev μ-loop : tie.MeasureT-loop
 μ-loop t count n i₀ i = count - i
 
-loop-holds : tie.Need-loop-holds Inv-loop μ-loop
-loop-holds c = (omega arith, (λ j l. absurd (omega arith)))
-
 returns : tie.Need-returns Inv-loop μ-loop
 returns c =
     let a = c .before .before .before .before .before .args in
@@ -36,5 +33,5 @@ returns-2 c =
     handle-place (a .t .now) (a .count) (a .h) (l .i) (l .inv .0) (l .inv .1) (λ m. absurd (omega arith))
 
 pub find-handle-spec : {M : Type 1} → statement M
-find-handle-spec = tie.close (tie.spec Inv-loop μ-loop loop-holds (λ c κs. omega arith) returns (λ c. omega arith) (λ c. omega arith)
-    loop-again returns-2)
+find-handle-spec = tie.close (tie.spec Inv-loop μ-loop (λ c. (omega arith, (λ j l. absurd (omega arith)))) (λ c κs. omega arith) returns
+    (λ c. omega arith) (λ c. omega arith) loop-again returns-2)

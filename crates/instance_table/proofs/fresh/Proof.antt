@@ -15,9 +15,6 @@ Inv-loop t n h j₀ j = (j ≤ n) × ((i : ℕ) → i < j → handleAt t i ≢ h
 abbrev μ-loop : tie.MeasureT-loop
 μ-loop t n h j₀ j = n - j
 
-loop-holds : tie.Need-loop-holds Inv-loop μ-loop
-loop-holds c = (omega arith, (λ i l. absurd (omega arith)))
-
 returns : tie.Need-returns Inv-loop μ-loop
 returns c =
     let a = c .before .before .before .before .before .args in
@@ -38,5 +35,5 @@ returns-2 c =
 pub fresh-spec : {M : Type 1} → statement M
 fresh-spec =
     tie.close
-    (tie.spec Inv-loop μ-loop loop-holds (λ c κs. omega arith) returns (λ c. omega arith) (λ c. omega arith)
-    loop-again returns-2)
+    (tie.spec Inv-loop μ-loop (λ c. (omega arith, (λ i l. absurd (omega arith)))) (λ c κs. omega arith) returns
+    (λ c. omega arith) (λ c. omega arith) loop-again returns-2)

@@ -38,9 +38,6 @@ ordered-ok-requires c κs =
     let l = c .before .before .before .before .before .before .loop in
     (leb-true (a .count) 128 (both (ltb 1280 (l .scanned)) (leb (a .count) 128) (c .if4 .taken) .1), omega arith)
 
-returns-3 : tie.Need-returns-3 Inv-loop μ-loop
-returns-3 c = c .ordered-ok .ensures
-
 returns-4 : tie.Need-returns-4 Inv-loop μ-loop
 returns-4 c =
     let a = c .before .before .before .before .before .before .before .before .before .before .args in
@@ -68,5 +65,5 @@ pub handles-ok-spec : {M : Type 1} → statement M
 handles-ok-spec =
     tie.close
     (tie.spec Inv-loop μ-loop loop-holds (λ c κs. omega arith) returns returns-2 (λ c. omega arith)
-    ordered-ok-requires returns-3 (λ c κs. omega arith) returns-4 (λ c κs. search needs) (λ c. omega arith)
-    (λ c. omega arith) (λ c. omega arith) loop-again returns-5)
+    ordered-ok-requires (λ c. c .ordered-ok .ensures) (λ c κs. omega arith) returns-4 (λ c κs. search needs)
+    (λ c. omega arith) (λ c. omega arith) (λ c. omega arith) loop-again returns-5)

@@ -16,12 +16,6 @@ Inv-loop s from n at₀ left₀ at left = (at + left * 16 ≡ from + n * 16) × 
 abbrev μ-loop : tie.MeasureT-loop
 μ-loop s from n at₀ left₀ at left = left
 
-loop-holds : tie.Need-loop-holds Inv-loop μ-loop
-loop-holds c = (omega arith, refl)
-
-next-beside-requires : tie.Need-next-beside-requires Inv-loop μ-loop
-next-beside-requires c κs = (omega arith, c .get-u64 .ensures)
-
 returns : tie.Need-returns Inv-loop μ-loop
 returns c =
     let l = c .before .before .before .before .before in
@@ -46,5 +40,6 @@ returns-2 c =
 pub few-rise-spec : {M : Type 1} → statement M
 few-rise-spec =
     tie.close
-    (tie.spec Inv-loop μ-loop loop-holds (λ c. omega arith) (λ c κs. omega arith) next-beside-requires returns
-    (λ c. omega arith) (λ c. omega arith) (λ c. omega arith) loop-again returns-2)
+    (tie.spec Inv-loop μ-loop (λ c. (omega arith, refl)) (λ c. omega arith) (λ c κs. omega arith)
+    (λ c κs. (omega arith, c .get-u64 .ensures)) returns (λ c. omega arith) (λ c. omega arith) (λ c. omega arith)
+    loop-again returns-2)

@@ -16,9 +16,6 @@ Inv-loop s n at₀ left₀ at left = (left ≤ n) × (at + left * 16 ≡ 256 + n
 abbrev μ-loop : tie.MeasureT-loop
 μ-loop s n at₀ left₀ at left = left
 
-loop-holds : tie.Need-loop-holds Inv-loop μ-loop
-loop-holds c = (omega arith, omega arith, refl)
-
 returns : tie.Need-returns Inv-loop μ-loop
 returns c =
     let a = c .before .before .before .before .before .args in
@@ -34,11 +31,9 @@ loop-again c =
       l .inv .2 ∙ rise-turn (a .s .now) 5 (l .left) (l .at) (omega arith) (sym (c .before .six-rise .ensures) ∙ not-false _ (c .if1 .left)),
     )
 
-returns-2 : tie.Need-returns-2 Inv-loop μ-loop
-returns-2 c = c .few-rise .ensures ∙ sym (c .before .before .loop .inv .2)
-
 pub set-rises-spec : {M : Type 1} → statement M
 set-rises-spec =
     tie.close
-    (tie.spec Inv-loop μ-loop loop-holds (λ c κs. omega arith) returns (λ c. omega arith) (λ c. omega arith)
-    (λ c. omega arith) loop-again (λ c κs. omega arith) returns-2)
+    (tie.spec Inv-loop μ-loop (λ c. (omega arith, omega arith, refl)) (λ c κs. omega arith) returns (λ c. omega arith)
+    (λ c. omega arith) (λ c. omega arith) loop-again (λ c κs. omega arith)
+    (λ c. c .few-rise .ensures ∙ sym (c .before .before .loop .inv .2)))

@@ -3,11 +3,8 @@ use borrow.Author.Needs.{needs}
 use Rattle.instance_writing.proofs.write_life.Statement.{statement}
 use Rattle.instance_writing.proofs.write_life.Tie as tie
 
-returns : tie.Need-returns
-returns c = cc
-
 pub write-life-spec : {M : Type 1} → statement M
 write-life-spec =
     tie.close
     (tie.spec (λ c κs. search needs) (λ c κs. search needs) (λ c κs. search needs) (λ c κs. search needs)
-    (λ c κs. search needs) (λ c κs. search needs) (λ c. search needs) returns)
+    (λ c κs. search needs) (λ c κs. search needs) (λ c. search needs) (λ c. cc))

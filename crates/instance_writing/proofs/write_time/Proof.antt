@@ -3,9 +3,6 @@ use borrow.Author.Needs.{needs}
 use Rattle.instance_writing.proofs.write_time.Statement.{statement}
 use Rattle.instance_writing.proofs.write_time.Tie as tie
 
-returns : tie.Need-returns
-returns c = cc
-
 pub write-time-spec : {M : Type 1} → statement M
 write-time-spec =
-    tie.close (tie.spec (λ c κs. search needs) (λ c. search needs) (λ c κs. search needs) (λ c. search needs) returns)
+    tie.close (tie.spec (λ c κs. search needs) (λ c. search needs) (λ c κs. search needs) (λ c. search needs) (λ c. cc))

@@ -3,8 +3,5 @@ use mathlib.Core.Path.{refl}
 use Rattle.lent_state.proofs.with_instances.Statement.{statement}
 use Rattle.lent_state.proofs.with_instances.Tie as tie
 
-returns : tie.Need-returns
-returns c = refl
-
 pub with-instances-spec : {M : Type 1} → statement M
-with-instances-spec = tie.close (tie.spec returns)
+with-instances-spec = tie.close (tie.spec (λ c. refl))

@@ -7,9 +7,6 @@ use borrow.Author.Needs.{needs}
 use Rattle.md5.proofs.tail.Statement.{statement}
 use Rattle.md5.proofs.tail.Tie as tie
 
-store-requires : tie.Need-store-requires
-store-requires c κs = simp length-set (omega arith)
-
 returns : tie.Need-returns
 returns c =
     let measured = c .before .before in
@@ -24,4 +21,4 @@ tail-spec =
     tie.close
     (tie.spec (λ c. search needs) (λ c. search needs) (λ c κs. search needs) (λ c. search needs)
     (λ c κs. search needs) (λ c. search needs) (λ c. search needs) (λ c. search needs) (λ c κs. search needs)
-    store-requires returns)
+    (λ c κs. simp length-set (omega arith)) returns)

@@ -19,19 +19,14 @@ small c = fits-ofZ (c .fits .s) .fits
 raised-fits : (c : tie.Start) → SFits w64 (pos (raised (ofZ w32 (c .args .s))))
 raised-fits c = record { sfits = omega arith }
 
-add-i64-requires : tie.Need-add-i64-requires
-add-i64-requires c κs = fits-as (raised-sum (small c)) (raised-fits c)
-
 -- the sum is the raised bits
 read : (c : tie.After-add-i64) → toZ w64 (ofZ w64 (c .add-i64 .result)) ≡ pos (raised (ofZ w32 (c .before .args .s)))
 read c = back (c .add-i64 .ensures ∙ raised-sum (small (c .before))) (raised-fits (c .before))
-
-cast-raise : tie.Need-cast-raise
-cast-raise c = cast-as (read c) (omega arith)
 
 returns : tie.Need-returns
 returns c =
     c .raise .ensures ∙ ap (λ (z : ℤ). raised (natAbs z)) (read (c .before)) ∙ raised-raised _ (small (c .before .before))
 
 pub bits-of-spec : {M : Type 1} → statement M
-bits-of-spec = tie.close (tie.spec add-i64-requires cast-raise (λ c κs. search needs) returns)
+bits-of-spec = tie.close (tie.spec (λ c κs. fits-as (raised-sum (small c)) (raised-fits c)) (λ c. cast-as (read c) (omega arith))
+    (λ c κs. search needs) returns)

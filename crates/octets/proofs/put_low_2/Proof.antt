@@ -6,13 +6,10 @@ use borrow.Author.Needs.{needs}
 use Rattle.octets.proofs.put_low_2.Statement.{statement}
 use Rattle.octets.proofs.put_low_2.Tie as tie
 
-slice-write-s-2 : tie.Need-slice-write-s-2
-slice-write-s-2 c = simp length-set (omega arith)
-
 returns : tie.Need-returns
 returns c = let a = c .args in put-2 (a .s .now) (a .at) (a .v) (omega arith)
 
 pub put-low-2-spec : {M : Type 1} → statement M
 put-low-2-spec =
-    tie.close (tie.spec (λ c. search needs) (λ c. search needs) (λ c. search needs) (λ c. search needs) slice-write-s-2
-    (λ c. search needs) returns)
+    tie.close (tie.spec (λ c. search needs) (λ c. search needs) (λ c. search needs) (λ c. search needs)
+    (λ c. simp length-set (omega arith)) (λ c. search needs) returns)

@@ -16,9 +16,6 @@ Inv-loop b from end acc₀ i₀ acc i = (i ≤ end) × ((eqb acc 0 && allZero (t
 abbrev μ-loop : tie.MeasureT-loop
 μ-loop b from end acc₀ i₀ acc i = end - i
 
-loop-holds : tie.Need-loop-holds Inv-loop μ-loop
-loop-holds c = (omega arith, refl)
-
 loop-again : tie.Need-loop-again Inv-loop μ-loop
 loop-again c =
     let a = c .before .before .before .args in
@@ -34,4 +31,5 @@ returns c =
 pub zero-between-spec : {M : Type 1} → statement M
 zero-between-spec =
     tie.close
-    (tie.spec Inv-loop μ-loop loop-holds (λ c. omega arith) (λ c. omega arith) (λ c. omega arith) loop-again returns)
+    (tie.spec Inv-loop μ-loop (λ c. (omega arith, refl)) (λ c. omega arith) (λ c. omega arith) (λ c. omega arith)
+    loop-again returns)

@@ -13,14 +13,8 @@ Inv-loop out₀ b i₀ out i = length out ≡ length out₀
 abbrev μ-loop : tie.MeasureT-loop
 μ-loop out₀ b i₀ out i = length out₀ - i
 
-loop-holds : tie.Need-loop-holds Inv-loop μ-loop
-loop-holds c = refl
-
-loop-again : tie.Need-loop-again Inv-loop μ-loop
-loop-again c = simp length-set (c .before .loop .inv)
-
 pub fill-spec : {M : Type 1} → statement M
 fill-spec =
     tie.close
-    (tie.spec Inv-loop μ-loop loop-holds (λ c. omega arith) (λ c. omega arith) (λ c. omega arith) loop-again
-    (λ c. omega arith) (λ c. search needs))
+    (tie.spec Inv-loop μ-loop (λ c. refl) (λ c. omega arith) (λ c. omega arith) (λ c. omega arith)
+    (λ c. simp length-set (c .before .loop .inv)) (λ c. omega arith) (λ c. search needs))

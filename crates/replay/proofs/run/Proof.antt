@@ -14,9 +14,6 @@ Inv-loop body₀ pens₀ writers₀ lost₀ out₀ p₀ records₀ body pens wri
 abbrev μ-loop : tie.MeasureT-loop
 μ-loop body₀ pens₀ writers₀ lost₀ out₀ p₀ records₀ body pens writers lost out p records = 10000000 - records
 
-loop-holds : tie.Need-loop-holds Inv-loop μ-loop
-loop-holds c = (refl, refl, refl, refl, refl)
-
 next-requires : tie.Need-next-requires Inv-loop μ-loop
 next-requires c κs = (omega arith, omega arith, omega arith, omega arith, omega arith)
 
@@ -26,7 +23,7 @@ loop-again c = (omega arith, omega arith, omega arith, omega arith, omega arith)
 pub run-spec : {M : Type 1} → statement M
 run-spec =
     tie.close
-    (tie.spec Inv-loop μ-loop (λ c κs. search needs) loop-holds next-requires (λ c. omega arith) (λ c. omega arith)
-    loop-again (λ c. omega arith) (λ c. omega arith) (λ c. omega arith) (λ c. omega arith) (λ c. omega arith)
-    (λ c. search needs) (λ c. omega arith) (λ c. omega arith) (λ c. omega arith) (λ c. omega arith) (λ c. omega arith)
-    (λ c. search needs))
+    (tie.spec Inv-loop μ-loop (λ c κs. search needs) (λ c. (refl, refl, refl, refl, refl)) next-requires
+    (λ c. omega arith) (λ c. omega arith) loop-again (λ c. omega arith) (λ c. omega arith) (λ c. omega arith)
+    (λ c. omega arith) (λ c. omega arith) (λ c. search needs) (λ c. omega arith) (λ c. omega arith) (λ c. omega arith)
+    (λ c. omega arith) (λ c. omega arith) (λ c. search needs))

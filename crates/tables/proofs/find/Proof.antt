@@ -13,12 +13,6 @@ room : (c : tie.Then1)
     → (let a = c .before .before .before .args in c .before .lower-bound .result * a .size + a .size ≤ length (a .t .now))
 room c = omega (arith, record-le (c .before .before .before .args .size) (c .if1 .taken))
 
-mul-guid-at : tie.Need-mul-guid-at
-mul-guid-at c = omega (arith, room c)
-
-guid-at-requires : tie.Need-guid-at-requires
-guid-at-requires c κs = omega (arith, room c)
-
 returns : tie.Need-returns
 returns c =
     let l = c .before .before .before .before .before .before in
@@ -45,4 +39,5 @@ returns-3 c =
 pub find-spec : {M : Type 1} → statement M
 find-spec =
     tie.close
-    (tie.spec (λ c κs. search needs) mul-guid-at guid-at-requires (λ c κs. search needs) returns returns-2 returns-3)
+    (tie.spec (λ c κs. search needs) (λ c. omega (arith, room c)) (λ c κs. omega (arith, room c))
+    (λ c κs. search needs) returns returns-2 returns-3)

@@ -40,15 +40,6 @@ loop-holds c =
     let e : (1 - 1) * c .before .before .before .args .size ≡ 0 = omega arith in
     (omega arith, omega arith, rw e (c .guid-at .ensures), refl)
 
-mul-guid-at : tie.Need-mul-guid-at Inv-loop μ-loop
-mul-guid-at c = omega (arith, room c)
-
-guid-at-requires-2 : tie.Need-guid-at-requires-2 Inv-loop μ-loop
-guid-at-requires-2 c κs = omega (arith, room c)
-
-is-less-requires : tie.Need-is-less-requires Inv-loop μ-loop
-is-less-requires c κs = tt
-
 returns-2 : tie.Need-returns-2 Inv-loop μ-loop
 returns-2 c =
     let a = c .before .before .before .before .before .before .before .before .args in
@@ -74,5 +65,5 @@ returns-3 c =
 pub keys-rise-spec : {M : Type 1} → statement M
 keys-rise-spec =
     tie.close
-    (tie.spec Inv-loop μ-loop returns guid-at-requires loop-holds mul-guid-at guid-at-requires-2 is-less-requires
-    returns-2 (λ c. omega arith) (λ c. omega arith) loop-again returns-3)
+    (tie.spec Inv-loop μ-loop returns guid-at-requires loop-holds (λ c. omega (arith, room c))
+    (λ c κs. omega (arith, room c)) (λ c κs. tt) returns-2 (λ c. omega arith) (λ c. omega arith) loop-again returns-3)

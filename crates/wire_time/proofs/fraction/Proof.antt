@@ -9,8 +9,5 @@ use Rattle.wire_time.proofs.fraction.Tie as tie
 returns : tie.Need-returns
 returns c = c .entry .ensures ∙ sym (whole-milliseconds _) ∙ ap fractionOf (omega arith)
 
-returns-2 : tie.Need-returns-2
-returns-2 c = refl
-
 pub fraction-spec : {M : Type 1} → statement M
-fraction-spec = tie.close (tie.spec (λ c κs. omega arith) returns (λ c. omega arith) (λ c. omega arith) returns-2)
+fraction-spec = tie.close (tie.spec (λ c κs. omega arith) returns (λ c. omega arith) (λ c. omega arith) (λ c. refl))

@@ -3,8 +3,5 @@ use mathlib.Core.Path.{refl}
 use Rattle.wire_time.proofs.fractions.Statement.{statement}
 use Rattle.wire_time.proofs.fractions.Tie as tie
 
-returns : tie.Need-returns
-returns c = refl
-
 pub fractions-spec : {M : Type 1} → statement M
-fractions-spec = tie.close (tie.spec returns)
+fractions-spec = tie.close (tie.spec (λ c. refl))

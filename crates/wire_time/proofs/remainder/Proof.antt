@@ -4,8 +4,5 @@ use native.Mathlib.Omega.{arith}
 use Rattle.wire_time.proofs.remainder.Statement.{statement}
 use Rattle.wire_time.proofs.remainder.Tie as tie
 
-returns : tie.Need-returns
-returns c = refl
-
 pub remainder-spec : {M : Type 1} → statement M
-remainder-spec = tie.close (tie.spec (λ c. omega arith) (λ c. omega arith) returns)
+remainder-spec = tie.close (tie.spec (λ c. omega arith) (λ c. omega arith) (λ c. refl))

@@ -15,18 +15,6 @@ matched-requires c κs =
     let x = c .before .before .before .before .before .before in
     (x .pre .0, clocks-fine (x .args .c) Matched (c .before .enum-told .given .1) (x .args .s) (heldBy (x .args .head) [] [] []) (x .pre .4 [] [] []))
 
-leave-requires : tie.Need-leave-requires
-leave-requires c κs = c .before .before .before .before .before .before .pre .0
-
-leave-requires-2 : tie.Need-leave-requires-2
-leave-requires-2 c κs = c .before .before .before .before .before .before .pre .0
-
-writer-asserted-requires : tie.Need-writer-asserted-requires
-writer-asserted-requires c κs = c .before .before .before .before .before .before .pre .0
-
-participant-asserted-requires : tie.Need-participant-asserted-requires
-participant-asserted-requires c κs = c .before .before .before .before .before .before .pre .0
-
 expire-requires : tie.Need-expire-requires
 expire-requires c κs = let x = c .before .before .before .before .before .before .before in (x .pre .0, x .pre .1, x .pre .2)
 
@@ -113,10 +101,12 @@ returns-9 c =
 pub turn-spec : {M : Type 1} → statement M
 turn-spec =
     tie.close
-    (tie.spec (λ c. search needs) matched-requires (λ c. search needs) leave-requires (λ c. search needs)
-    leave-requires-2 (λ c. search needs) writer-asserted-requires (λ c. search needs) participant-asserted-requires
-    (λ c. search needs) expire-requires (λ c. search needs) (λ c κs. search needs) (λ c. search needs)
-    (λ c κs. search needs) (λ c. search needs) acknowledge-requires (λ c. search needs) returns (λ c. search needs)
-    returns-2 (λ c. search needs) returns-3 (λ c. search needs) returns-4 (λ c. search needs) returns-5
-    (λ c. search needs) (λ c. search needs) returns-6 (λ c. search needs) (λ c. search needs) returns-7 returns-8
-    returns-9)
+    (tie.spec (λ c. search needs) matched-requires (λ c. search needs)
+    (λ c κs. c .before .before .before .before .before .before .pre .0) (λ c. search needs)
+    (λ c κs. c .before .before .before .before .before .before .pre .0) (λ c. search needs)
+    (λ c κs. c .before .before .before .before .before .before .pre .0) (λ c. search needs)
+    (λ c κs. c .before .before .before .before .before .before .pre .0) (λ c. search needs) expire-requires
+    (λ c. search needs) (λ c κs. search needs) (λ c. search needs) (λ c κs. search needs) (λ c. search needs)
+    acknowledge-requires (λ c. search needs) returns (λ c. search needs) returns-2 (λ c. search needs) returns-3
+    (λ c. search needs) returns-4 (λ c. search needs) returns-5 (λ c. search needs) (λ c. search needs) returns-6
+    (λ c. search needs) (λ c. search needs) returns-7 returns-8 returns-9)

@@ -93,9 +93,6 @@ loop-again c =
     (n .tally) (n .i) (n .inv) (omega arith) w (m .writer-at .ensures) (d .assert-at .last .0) (c .if2 .tally) (d .assert-at .ensures .0)
     (⊎-elim (λ x. x .2 ∙ x .1 .ensures ∙ tally-moved (a .args .a) w (n .tally) (sym e ∙ x .0 .taken)) (λ x. x .1 ∙ tally-stays (a .args .a) w (n .tally) (sym e ∙ x .0 .left)) (c .if2 .came))
 
-same-length-2 : tie.Need-same-length-2 Inv-loop μ-loop
-same-length-2 c = omega (arith, (c .before .loop .inv .amid))
-
 returns-2 : tie.Need-returns-2 Inv-loop μ-loop
 returns-2 c =
     let l = c .before .before in
@@ -110,4 +107,4 @@ assert-writers-spec =
     tie.close
     (tie.spec Inv-loop μ-loop (λ c κs. search needs) lower-bound-requires loop-holds writer-at-requires
     (λ c κs. search needs) same-length returns assert-at-requires raise-requires add-i (λ c. omega arith) loop-again
-    same-length-2 returns-2)
+    (λ c. omega (arith, (c .before .loop .inv .amid))) returns-2)

@@ -78,9 +78,6 @@ loop-again-2 c =
     (a .pre .1) (a .pre .2) (omega (arith, (a .pre .3), (a .pre .4)))
     (l .loop .t) (l .loop .lost) (l .loop .newest) (l .loop .at) (l .loop .i) (l .loop .inv) (omega arith) e
 
-same-length : tie.Need-same-length Inv-loop μ-loop
-same-length c = omega (arith, (c .before .loop .inv .amid))
-
 returns-2 : tie.Need-returns-2 Inv-loop μ-loop
 returns-2 c =
     let l = c .before .loop in
@@ -93,5 +90,5 @@ pub declare-spec : {M : Type 1} → statement M
 declare-spec =
     tie.close
     (tie.spec Inv-loop μ-loop returns loop-holds (λ c. omega arith) expires-at-requires declare-at-requires
-    (λ c. omega arith) (λ c. omega arith) loop-again (λ c. omega arith) loop-again-2 same-length (λ c. omega arith)
-    returns-2)
+    (λ c. omega arith) (λ c. omega arith) loop-again (λ c. omega arith) loop-again-2
+    (λ c. omega (arith, (c .before .loop .inv .amid))) (λ c. omega arith) returns-2)

@@ -20,9 +20,6 @@ loop-holds c =
     let a = c .before .args in
     (omega arith, dues-start (a .t .now) (a .count) (a .clock))
 
-leased-at-requires : tie.Need-leased-at-requires Inv-loop μ-loop
-leased-at-requires c κs = omega (arith, (c .before .before .before .pre))
-
 due-at-requires : tie.Need-due-at-requires Inv-loop μ-loop
 due-at-requires c κs =
     let l = c .before .before .before in
@@ -68,5 +65,5 @@ returns c =
 pub find-dues-spec : {M : Type 1} → statement M
 find-dues-spec =
     tie.close
-    (tie.spec Inv-loop μ-loop loop-holds (λ c. omega arith) leased-at-requires due-at-requires dues-with-requires
-    (λ c. omega arith) loop-again (λ c. omega arith) loop-again-2 returns)
+    (tie.spec Inv-loop μ-loop loop-holds (λ c. omega arith) (λ c κs. omega (arith, (c .before .before .before .pre)))
+    due-at-requires dues-with-requires (λ c. omega arith) loop-again (λ c. omega arith) loop-again-2 returns)

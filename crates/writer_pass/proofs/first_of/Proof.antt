@@ -4,8 +4,5 @@ use borrow.Author.Needs.{needs}
 use Rattle.writer_pass.proofs.first_of.Statement.{statement}
 use Rattle.writer_pass.proofs.first_of.Tie as tie
 
-returns : tie.Need-returns
-returns c = first-num (c .before .args .g)
-
 pub first-of-spec : {M : Type 1} → statement M
-first-of-spec = tie.close (tie.spec (λ c. search needs) returns)
+first-of-spec = tie.close (tie.spec (λ c. search needs) (λ c. first-num (c .before .args .g)))

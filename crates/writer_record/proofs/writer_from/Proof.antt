@@ -3,8 +3,5 @@ use borrow.Author.Needs.{needs}
 use Rattle.writer_record.proofs.writer_from.Statement.{statement}
 use Rattle.writer_record.proofs.writer_from.Tie as tie
 
-returns : tie.Need-returns
-returns c = cc
-
 pub writer-from-spec : {M : Type 1} → statement M
-writer-from-spec = tie.close (tie.spec (λ c κs. search needs) (λ c κs. search needs) returns)
+writer-from-spec = tie.close (tie.spec (λ c κs. search needs) (λ c κs. search needs) (λ c. cc))

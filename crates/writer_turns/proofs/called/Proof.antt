@@ -3,8 +3,5 @@ use borrow.Author.Needs.{needs}
 use Rattle.writer_turns.proofs.called.Statement.{statement}
 use Rattle.writer_turns.proofs.called.Tie as tie
 
-returns : tie.Need-returns
-returns c = cc
-
 pub called-spec : {M : Type 1} → statement M
-called-spec = tie.close (tie.spec (λ c κs. search needs) (λ c κs. search needs) returns)
+called-spec = tie.close (tie.spec (λ c κs. search needs) (λ c κs. search needs) (λ c. cc))

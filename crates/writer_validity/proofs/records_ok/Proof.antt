@@ -17,14 +17,8 @@ Inv-loop t count alive not-alive last₀ a₀ d₀ i₀ last a d i = During coun
 abbrev μ-loop : tie.MeasureT-loop
 μ-loop t count alive not-alive last₀ a₀ d₀ i₀ last a d i = count - i
 
-nil-requires : tie.Need-nil-requires Inv-loop μ-loop
-nil-requires c κs = tt
-
 loop-holds : tie.Need-loop-holds Inv-loop μ-loop
 loop-holds c = start (c .before .before .args .count) (c .before .before .args .t .now) (c .nil .result)
-
-follows-requires : tie.Need-follows-requires Inv-loop μ-loop
-follows-requires c κs = tt
 
 returns : tie.Need-returns Inv-loop μ-loop
 returns c =
@@ -66,7 +60,6 @@ returns-3 c =
 pub records-ok-spec : {M : Type 1} → statement M
 records-ok-spec =
     tie.close
-    (tie.spec Inv-loop μ-loop nil-requires loop-holds (λ c. omega arith) (λ c κs. omega arith) follows-requires
-    returns (λ c. omega arith) (λ c κs. omega arith) returns-2 (λ c. omega arith) (λ c. omega arith)
-    (λ c κs. omega arith) (λ c κs. omega arith) (λ c κs. omega arith) (λ c. omega arith) (λ c. omega arith) loop-again
-    returns-3)
+    (tie.spec Inv-loop μ-loop (λ c κs. tt) loop-holds (λ c. omega arith) (λ c κs. omega arith) (λ c κs. tt) returns
+    (λ c. omega arith) (λ c κs. omega arith) returns-2 (λ c. omega arith) (λ c. omega arith) (λ c κs. omega arith)
+    (λ c κs. omega arith) (λ c κs. omega arith) (λ c. omega arith) (λ c. omega arith) loop-again returns-3)

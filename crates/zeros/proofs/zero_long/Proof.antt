@@ -14,9 +14,6 @@ Inv-loop s from end last at₀ at = (from ≤ at) × (at ≤ end) × (zeros s 64
 abbrev μ-loop : tie.MeasureT-loop
 μ-loop s from end last at₀ at = end - at
 
-returns : tie.Need-returns Inv-loop μ-loop
-returns c = c .zero-between .ensures
-
 returns-2 : tie.Need-returns-2 Inv-loop μ-loop
 returns-2 c =
     let a = c .before .before .before .before .args in
@@ -50,6 +47,6 @@ returns-4 c =
 pub zero-long-spec : {M : Type 1} → statement M
 zero-long-spec =
     tie.close
-    (tie.spec Inv-loop μ-loop (λ c. omega arith) (λ c κs. omega arith) returns (λ c. omega arith)
-    (λ c κs. omega arith) returns-2 loop-holds (λ c κs. omega arith) returns-3 (λ c. omega arith) (λ c. omega arith)
-    loop-again returns-4)
+    (tie.spec Inv-loop μ-loop (λ c. omega arith) (λ c κs. omega arith) (λ c. c .zero-between .ensures)
+    (λ c. omega arith) (λ c κs. omega arith) returns-2 loop-holds (λ c κs. omega arith) returns-3 (λ c. omega arith)
+    (λ c. omega arith) loop-again returns-4)
