@@ -1,5 +1,6 @@
 //! Many calls compare times in every sort, and the Rust judges in every way.
 
+#[path = "over_bytes/calls.rs"]
 mod over_bytes;
 
 use compare::epoch_tally::MANY;
