@@ -255,17 +255,10 @@ impl<A: Added> fmt::Display for Case<A> {
     }
 }
 
-/// A run by its name.
-pub struct Named {
-    pub name: &'static str,
-    pub judged: bool,
-    /// From a seed on, so many, by the static library.
-    pub run: fn(u64, u64) -> Result<String, String>,
-}
+/// A run from a seed on, so many, by the static library.
+pub type Run = fn(u64, u64) -> Result<String, String>;
 
-impl Named {
-    pub const fn of<A: Added>() -> Self {
-        let run = |first, count| report::<A>(first, count, &mut A::ask);
-        Self { name: A::NAME, judged: A::JUDGED, run }
-    }
+/// Its name, whether the Rust is asked too, and the run.
+pub const fn named<A: Added>() -> (&'static str, bool, Run) {
+    (A::NAME, A::JUDGED, |first, count| report::<A>(first, count, &mut A::ask))
 }

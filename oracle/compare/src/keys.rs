@@ -50,12 +50,9 @@ impl Added for SerializedKey {
 
     /// The Rust has the same.
     fn further(case: &KeyCase, told: &Told, _: &mut Library<'_, Self>) -> Result<(), Parting> {
-        let key_hash = |told: &Answered| {
-            let bytes = &told.bytes[KEY_HASH_AT..];
-            bytes.try_into().expect("16 bytes are left of 24")
-        };
-        let told = told.as_ref().map(key_hash).map_err(|number| *number);
-        judged_key(&case.asked, &told).map_err(Parting::Differs)
+        let Ok(Answered { bytes, .. }) = told else { return Ok(()) };
+        let key_hash = bytes[KEY_HASH_AT..].try_into().expect("16 bytes are left of 24");
+        judged_key(&case.asked, &Ok(key_hash)).map_err(Parting::Differs)
     }
 
     fn fate(&self, _: &Answered) -> usize {

@@ -6,7 +6,7 @@ use std::env;
 use std::process::ExitCode;
 use std::time::Instant;
 
-use compare::added::Named;
+use compare::added::{Run, named};
 use compare::epoch_tally::MANY;
 use compare::figures::{compare_figures, linked};
 use compare::list::Library;
@@ -18,8 +18,8 @@ use compare::{List, Tally, library};
 use lists::SerializedKey;
 
 /// KeyHashes, wire times and lookups of a writer's instance.
-const ADDED: [Named; 3] =
-    [Named::of::<SerializedKey>(), Named::of::<Conversion>(), Named::of::<Lookup>()];
+const ADDED: [(&str, bool, Run); 3] =
+    [named::<SerializedKey>(), named::<Conversion>(), named::<Lookup>()];
 
 /// A line of progress after so many calls.
 const PROGRESS: u64 = 1_000_000;
@@ -27,7 +27,8 @@ const PROGRESS: u64 = 1_000_000;
 /// What is compared; from a seed on, and how many.
 enum Job {
     Calls(u64, u64),
-    Added(Named, u64, u64),
+    /// Whether the Rust is asked too, and by which run.
+    Added(bool, Run, u64, u64),
     Figures,
 }
 
@@ -38,8 +39,8 @@ impl Job {
             ["figures"] => Self::Figures,
             [seed, calls] => Self::Calls(number(seed)?, number(calls)?),
             [name, seed, count] => {
-                let named = ADDED.into_iter().find(|added| added.name == name)?;
-                Self::Added(named, number(seed)?, number(count)?)
+                let (_, judged, run) = ADDED.into_iter().find(|added| added.0 == name)?;
+                Self::Added(judged, run, number(seed)?, number(count)?)
             }
             _ => return None,
         })
@@ -47,9 +48,12 @@ impl Job {
 }
 
 fn usage() -> String {
-    let name = |added: Named| format!("compare {} SEED COUNT\n", added.name);
-    let names: String = ADDED.into_iter().map(name).collect();
-    format!("compare SEED CALLS\n{names}compare figures")
+    let names = ADDED.map(|added| added.0).join(", ");
+    format!(
+        "compare SEED CALLS       compare that many calls with the static library
+compare NAME SEED COUNT  compare that many cases of one function with it: {names}
+compare figures          compare every number of places with every length"
+    )
 }
 
 fn main() -> ExitCode {
@@ -63,20 +67,17 @@ fn main() -> ExitCode {
         println!("SKIPPED: no libdcps_c.a (rt staticlib dcps_c, or set DCPS_LIB_DIR)");
         return ExitCode::SUCCESS;
     }
-    // Of the places the sources judge the calls where they are at hand.
-    let judged = match &job {
-        Job::Calls(..) => true,
-        Job::Added(added, ..) => added.judged,
-        Job::Figures => false,
-    };
-    if judged && !original::PRESENT {
-        println!("SKIPPED: no sources of ZeroDDS (set ZERO_DDS_SRC)");
-        return ExitCode::SUCCESS;
-    }
     match job {
-        Job::Calls(seed, calls) => compared(seed, calls),
-        Job::Added(added, seed, count) => said((added.run)(seed, count)),
+        // Of the places the sources judge the calls where they are at hand.
         Job::Figures => said(figures_compared()),
+        Job::Added(judged, run, seed, count) if original::PRESENT || !judged => {
+            said(run(seed, count))
+        }
+        Job::Calls(seed, calls) if original::PRESENT => compared(seed, calls),
+        _ => {
+            println!("SKIPPED: no sources of ZeroDDS (set ZERO_DDS_SRC)");
+            ExitCode::SUCCESS
+        }
     }
 }
 

@@ -55,7 +55,7 @@ impl Added for Doubled {
     }
 }
 
-shared!(Doubled, [9]);
+shared!(Doubled, [9], lent);
 
 #[test]
 fn what_is_not_written_or_not_as_told_is_caught() {

@@ -3,6 +3,7 @@
 
 mod over_bytes;
 
+use compare::added::Added;
 use compare::keys::as_told;
 use lists::SerializedKey;
 use over_bytes::{shared, wrong};
@@ -10,7 +11,7 @@ use reading::bytes::Key;
 use reading::key_hash::key_hash;
 use reading::md5::md5;
 
-shared!(SerializedKey, [14, 15]);
+shared!(SerializedKey, [14, 15], lent);
 
 type Rule = fn(&[u8], u64) -> Result<Key, u8>;
 

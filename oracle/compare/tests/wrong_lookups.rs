@@ -5,24 +5,14 @@ mod over_bytes;
 
 use compare::added::{Added, Case, Told, cases, compare_added};
 use compare::lookups::{LentPens, Lookup, as_told};
-use over_bytes::{COUNT, over_bytes, right, shared, smallest_changed, wrong};
+use over_bytes::{COUNT, changed, over_bytes, right, shared, wrong};
 use reading::bytes::{Guid, u32_at, u64_at};
 use reading::layout::{
     INSTANCE_BYTES, Instance, Kind, LARGE, NANOSECONDS, SET_PLACES, SMALL, pens_bytes,
 };
 use reading::reads;
 
-shared!(Lookup, [1, 3]);
-
-/// The smallest where every answer that is no refusal is changed, with what it
-/// was before.
-fn smallest_unrefused(change: impl Fn(&mut [u8], &[u8])) -> Case<Lookup> {
-    smallest_changed(|answer, before| {
-        if answer[0] == 0 {
-            change(answer, before);
-        }
-    })
-}
+shared!(Lookup, [1, 3], lent);
 
 /// How many instances a well-formed table has.
 fn instances(case: &Case<Lookup>) -> usize {
@@ -224,19 +214,25 @@ fn a_choice_that_does_not_stay_is_caught() {
     assert!(small.asked.again && instances(&small) == 2, "{small}");
 }
 
-/// Handle 0 for none, the place in the table for the handle, and its high bytes
-/// lost.
+/// The place in the table for the handle.
+fn place(lookup: &Lookup) -> Told {
+    let fits = |i: &Instance| alive(i) && has(i, &lookup.guid);
+    handle(lookup, |all| all.iter().position(fits).map(|place| place as u64))
+}
+
+type WholeRule = fn(&Lookup) -> Told;
+
+/// Other numbers for the handle, each with the number of instances that catches
+/// it.
+const NUMBERS: [(&str, WholeRule, usize); 3] = [
+    ("handle 0 for none", |lookup| changed(lookup, |bytes| bytes[2] = 1), 0),
+    ("its place", place, 1),
+    ("its low bytes", |lookup| changed(lookup, |bytes| bytes[8..12].fill(0)), 1),
+];
+
 #[test]
 fn another_number_for_the_handle_is_caught() {
-    let found = smallest_unrefused(|answer, _| answer[2] = 1);
-    assert_eq!(instances(&found), 0, "{found}");
-    let place = |lookup: &Lookup| {
-        let fits = |i: &Instance| alive(i) && has(i, &lookup.guid);
-        handle(lookup, |all| all.iter().position(fits).map(|place| place as u64))
-    };
-    wrong([("the place", place, 1)], instances);
-    let low = smallest_unrefused(|answer, _| answer[8..12].fill(0));
-    assert_eq!(instances(&low), 1, "{low}");
+    wrong(NUMBERS, instances);
 }
 
 /// What is told of other pens.
@@ -282,10 +278,8 @@ fn where_refused(lookup: &Lookup, number: u8, other: Told) -> Told {
     if lookup.told() == Err(number) { other } else { lookup.told() }
 }
 
-type Pens = fn(&Lookup) -> Told;
-
 /// Refusals that are left out or confused, each with the number that is right.
-const REFUSALS: [(&str, Pens, u8); 5] = [
+const REFUSALS: [(&str, WholeRule, u8); 5] = [
     ("damage behind it taken", damage_behind_it_taken, 3),
     ("damage taken", |lookup| where_refused(lookup, 3, as_told(Ok(in_front(lookup)))), 3),
     ("nanoseconds taken", nanoseconds_taken, 3),

@@ -6,7 +6,7 @@ mod over_bytes;
 use compare::added::{Added, Told};
 use compare::times::Conversion::{self, Fraction, Nanos};
 use compare::times::as_told;
-use over_bytes::{shared, smallest_changed, wrong};
+use over_bytes::{changed, shared, wrong};
 use reading::wire_time::{MILLISECOND, SECOND, entry, wire_fraction, wire_nanos};
 
 shared!(Conversion, [4]);
@@ -151,8 +151,8 @@ const WRONG_BYTES: [(&str, Change); 5] = [
 
 #[test]
 fn each_wrong_layout_is_caught() {
-    for (what, change) in WRONG_BYTES {
-        let case = smallest_changed::<Conversion>(|answer, _| change(answer));
-        assert_eq!(case.asked, Fraction(1), "{what}");
-    }
+    let rules = WRONG_BYTES.map(|(what, change)| {
+        (what, move |asked: &Conversion| changed(asked, change), Fraction(1))
+    });
+    wrong(rules, |first| first.asked);
 }

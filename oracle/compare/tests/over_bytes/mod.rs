@@ -3,8 +3,10 @@
 
 use std::fmt::Debug;
 
-use compare::added::{Added, Case, Library, Told, cases, compare_added, laid_out, report};
-use compare::read::READ_BYTES;
+use compare::added::{
+    Added, Answered, Case, Library, Told, cases, compare_added, laid_out, report,
+};
+use compare::read::{FILL, READ_BYTES};
 
 /// So many cases by chance meet every sort, and every wrong library.
 pub const COUNT: u64 = 20_000;
@@ -20,12 +22,10 @@ pub fn over_bytes<A: Added>(
         return asked.unanswered().into();
     }
     answer.copy_from_slice(&laid_out(told));
-    if let (Ok(Some(written)), Some(last)) =
-        (told.as_ref().map(|told| &told.written), lent.last_mut())
-    {
-        last.copy_from_slice(written);
+    if let (Ok(Answered { written: Some(new), .. }), Some(last)) = (told, lent.last_mut()) {
+        last.copy_from_slice(new);
     }
-    answer[0].into()
+    told.as_ref().err().copied().unwrap_or(0).into()
 }
 
 /// The reading.
@@ -49,20 +49,14 @@ pub fn smallest<A: Added>(
     smallest_of(cases(1, COUNT), &mut library)
 }
 
-/// The smallest where every answer of the stated length is changed, with what it
-/// was before.
-pub fn smallest_changed<A: Added>(change: impl Fn(&mut [u8], &[u8])) -> Case<A> {
-    smallest(|asked, lent, answer| {
-        let before = answer.to_vec();
-        let number = right(asked, lent, answer);
-        if answer.len() == READ_BYTES {
-            change(answer, &before);
-        }
-        number
-    })
+/// Other bytes where it is no refusal.
+pub fn changed<A: Added>(asked: &A, change: impl Fn(&mut [u8])) -> Told {
+    let mut told = asked.told()?;
+    change(&mut told.bytes);
+    Ok(told)
 }
 
-/// Each wrong rule is caught by a case of which this is told.
+/// Each wrong rule is caught, by a small case of which this is what stands with it.
 pub fn wrong<A: Added, T: PartialEq + Debug>(
     rules: impl IntoIterator<Item = (&'static str, impl Fn(&A) -> Told, T)>,
     of: impl Fn(&Case<A>) -> T,
@@ -77,6 +71,7 @@ pub fn wrong<A: Added, T: PartialEq + Debug>(
     }
 }
 
+/// The reading agrees with itself, on cases of every sort.
 pub fn agrees<A: Added>() {
     let counts = compare_added(cases::<A>(1, COUNT), &mut right);
     let counts = counts.unwrap_or_else(|parted| panic!("{}: {:?}", parted.case, parted.parting));
@@ -96,42 +91,35 @@ pub fn fails<A: Added>() {
 pub fn every_byte<A: Added>() {
     for at in 0..READ_BYTES {
         for left in [true, false] {
-            let change = |answer: &mut [u8], before: &[u8]| {
-                let changed = if left { before[at] } else { answer[at] ^ 1 };
-                answer[at] = if answer[0] == 0 { changed } else { answer[at] };
-            };
-            let small = smallest_changed::<A>(change);
-            assert!(small.told().is_ok(), "{at}: {small}");
+            let change =
+                move |bytes: &mut [u8]| bytes[at] = if left { FILL } else { bytes[at] ^ 1 };
+            wrong([("one byte", |asked: &A| changed(asked, change), true)], |case| {
+                case.told().is_ok()
+            });
         }
     }
 }
 
-type Change = fn(&mut [u8], &[u8]);
-
 /// A refusal that leaves a byte, the answer as it was, or a number in one place
 /// only.
 pub fn refusal_in_part<A: Added>(numbers: &[u8]) {
-    for number in numbers {
-        let changes: [Change; 3] = [
-            |answer, _| answer[READ_BYTES - 1] |= 1,
-            |answer, before| answer[1..].copy_from_slice(&before[1..]),
-            |answer, _| answer[0] = 0,
-        ];
-        let unreturned = smallest(|asked: &A, lent, answer| {
-            let told = right(asked, lent, answer);
-            if answer.first() == Some(number) { 0 } else { told }
+    let changes: [fn(&mut [u8], &mut u32); 4] = [
+        |answer, _| answer[READ_BYTES - 1] |= 1,
+        |answer, _| answer[1..].fill(FILL),
+        |answer, _| answer[0] = 0,
+        |_, returned| *returned = 0,
+    ];
+    for (number, change) in numbers.iter().flat_map(|number| changes.map(|change| (number, change)))
+    {
+        let small = smallest(|asked: &A, lent, answer| {
+            let mut returned = right(asked, lent, answer);
+            if answer.first() == Some(number) {
+                change(answer, &mut returned);
+            }
+            returned
         });
-        let changed = changes.map(|change| {
-            smallest_changed::<A>(|answer, before| {
-                if answer[0] == *number {
-                    change(answer, before);
-                }
-            })
-        });
-        for case in changed.iter().chain([&unreturned]) {
-            let told = (case.told(), case.answer_length);
-            assert_eq!(told, (Err(*number), READ_BYTES), "{case}");
-        }
+        let told = (small.told(), small.answer_length);
+        assert_eq!(told, (Err(*number), READ_BYTES), "{small}");
     }
 }
 
@@ -160,23 +148,28 @@ pub fn another_length<A: Added>() {
     }
 }
 
-/// Lent bytes that are written to, whatever is told.
-pub fn lent_bytes<A: Added>() {
-    for asked in (1..=200).flat_map(|seed| A::of_seed(seed).0) {
-        let case = Case::of(asked);
-        for (n, lent) in case.asked.lent().iter().enumerate() {
-            let compared = case.compared(&mut |asked, lent, answer| {
-                let number = right(asked, lent, answer);
-                lent[n].iter_mut().take(1).for_each(|first| *first ^= 1);
-                number
-            });
-            assert_eq!(compared.is_err(), !lent.is_empty(), "{case}");
-        }
-    }
-}
-
-/// The tests that all have in common, with the refusals that a function writes.
+/// The tests that all have in common, with the refusals that a function writes;
+/// and one more for a function that is lent bytes.
 macro_rules! shared {
+    ($added:ty, $numbers:expr, lent) => {
+        shared!($added, $numbers);
+
+        /// Whatever is told.
+        #[test]
+        fn lent_bytes_written_to_are_caught() {
+            use compare::added::Case;
+            for case in (1..=200).flat_map(|seed| <$added>::of_seed(seed).0).map(Case::of) {
+                for (n, lent) in case.asked.lent().iter().enumerate() {
+                    let compared = case.compared(&mut |asked, lent, answer| {
+                        let number = over_bytes::right(asked, lent, answer);
+                        lent[n].iter_mut().take(1).for_each(|first| *first ^= 1);
+                        number
+                    });
+                    assert_eq!(compared.is_err(), !lent.is_empty(), "{case}");
+                }
+            }
+        }
+    };
     ($added:ty, $numbers:expr) => {
         #[test]
         fn the_reading_agrees_with_itself_on_every_sort() {
@@ -201,11 +194,6 @@ macro_rules! shared {
         #[test]
         fn another_length_of_answer_is_seen_to() {
             over_bytes::another_length::<$added>();
-        }
-
-        #[test]
-        fn lent_bytes_written_to_are_caught() {
-            over_bytes::lent_bytes::<$added>();
         }
     };
 }
