@@ -1,5 +1,5 @@
-//! The C boundary of include/dcps.h. No call on a state can be refused as 1: the length of pens was tested when the
-//! state was made, and all other lengths are fixed here.
+//! The C boundary, as include/dcps.h has it. No call on a state can be refused as 1: all lengths but that of pens are fixed here,
+//! and that one was judged when the state was made.
 
 use crate::layout::{
     array_at, i32_at, u32_at, u64_at, ANSWER_BYTES, HEAD_BYTES, OUT_BYTES, READ_BYTES, SHEET_BYTES,
@@ -36,7 +36,7 @@ pub(crate) fn call(lent: Lent<'_>, sheet: &[u8; SHEET_BYTES]) -> (u32, [u8; ANSW
     (number, answer)
 }
 
-/// Makes the fresh state; the length of pens decides its number of places.
+/// Head and buffers become those of the fresh state; its places are those of pens.
 pub(crate) fn fresh(lent: Lent<'_>) -> u32 {
     // SAFETY: as in `call`.
     unsafe {
@@ -59,7 +59,7 @@ pub(crate) struct Read {
     pub present: bool,
     /// Offset and length in pens of a stored holder.
     pub stored: Option<(usize, usize)>,
-    /// Entries written to out.
+    /// Entries written to Out.
     pub listed: u32,
     pub handle: InstanceHandle,
     pub changes: u64,
@@ -90,7 +90,7 @@ impl Read {
     }
 }
 
-/// A read, by a function that writes its answer to these 24 bytes.
+/// A read by a function that is lent where its answer goes.
 fn read(ask: impl FnOnce(*mut u8, usize) -> u32) -> Result<Read, Refusal> {
     let mut answer = [0; READ_BYTES];
     match refusal(ask(answer.as_mut_ptr(), answer.len())) {
@@ -99,7 +99,7 @@ fn read(ask: impl FnOnce(*mut u8, usize) -> u32) -> Result<Read, Refusal> {
     }
 }
 
-/// A key or a GUID as two numbers: its first 8 bytes, and its last 8.
+/// A key or GUID as it crosses: its first and its last 8 bytes.
 pub(crate) fn halves(guid: &[u8; 16]) -> (u64, u64) {
     (u64_at(guid, 0), u64_at(guid, 8))
 }

@@ -12,7 +12,7 @@ use Rattle.model.specs.declared.Sheet.{Sheet}
 use Rattle.model.specs.Instances.{ownedFrom, admittedObserved, admittedNoted, writerNoted, writersIn, startedState, started}
 use Rattle.model.specs.Sets.{setOf, insert}
 use Rattle.model.proofs.Valid.{started-valid}
-use Rattle.instance_writers.specs.Places.{Sound}
+use Rattle.writer_set.specs.Places.{Sound}
 use Rattle.instance_fields.specs.Usable.{Usable, Room}
 use Rattle.instance_fields.proofs.UsableLaws.{usable}
 use Rattle.instance_reach.specs.Turned.{withState}

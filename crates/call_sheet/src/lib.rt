@@ -69,8 +69,8 @@ pub fn read_sheet(s: &[u8]) -> Sheet
     let key = guid::guid_at(s, 0);
     let guid = guid::guid_at(s, 16);
     let handle = InstanceHandle(octets::get_u64(s, 32));
-    let time_1 = instance_record::read_time(s, 40, has_bit(bits, 128));
-    let time_2 = instance_record::read_time(s, 48, true);
+    let time_1 = instance_decoding::read_time(s, 40, has_bit(bits, 128));
+    let time_2 = instance_decoding::read_time(s, 48, true);
     let holder = read_holder(s, has_bit(bits, 16));
     Sheet {
         key: key,

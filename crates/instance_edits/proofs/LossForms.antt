@@ -23,14 +23,14 @@ use Rattle.model.specs.Tables.{rising}
 use Rattle.model.proofs.Keeps.{set-loss}
 use Rattle.model.proofs.SetLaws.{members-of}
 use Rattle.model.proofs.Tests.{both, clash, split}
-use Rattle.instance_writers.specs.Places.{Sound, padded}
-use Rattle.instance_writers.proofs.PlaceLaws.{length-members}
-use Rattle.instance_writers.proofs.SetLaws.{sound-size}
+use Rattle.writer_set.specs.Places.{Sound, padded}
+use Rattle.writer_set.proofs.PlaceLaws.{length-members}
+use Rattle.writer_set.proofs.SetLaws.{sound-size}
 use Rattle.instance_fields.proofs.UsableLaws.{sound-loss}
-use Rattle.instance_sets.specs.Others.{others}
+use Rattle.writer_set_bytes.specs.Others.{others}
 use Rattle.instance_edits.specs.Edits.{emptiedTo, settled, settledIf}
 use Rattle.instance_edits.specs.Losses.{disownedBy, droppedOf, emptiedBy, ownedBy}
-use Rattle.instance_sets.proofs.SideBySide.{none-out, others-empty, others-more, others-none, remove-one, rising-remove, same-sym}
+use Rattle.writer_set_bytes.proofs.SideBySide.{none-out, others-empty, others-more, others-none, remove-one, rising-remove, same-sym}
 
 -- ---- the set
 

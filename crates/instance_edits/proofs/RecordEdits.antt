@@ -6,7 +6,7 @@
 --     set-replaced                     the set's bytes written
 --     set-same, set-less               the set replaced by one as long, and by a shorter one
 --     silent-by, given-by              it was the last set of an alive instance: without a time, and with one
---     settled-same, settled-left, settled-less      what `settle` writes of it: nothing, the end of its last set, a length
+--     settled-same, settled-left, settled-less      what `write_remainder` writes of it: nothing, the end of its last set, a length
 use Prim.Native.Nat.{ℕ, zero, suc, _+_, _-_, _/_, _≤_, _<_}
 use mathlib.Core.Bool.{Bool, true, false, not, _&&_, cond, and-false}
 use mathlib.Core.List.{List, [], _∷_, _++_, append-assoc, append-nil}
@@ -32,8 +32,8 @@ use Rattle.model.specs.Sets.{setOf, isEmpty}
 use Rattle.model.proofs.FlagLaws.{flags-apart, flags-small}
 use Rattle.model.proofs.GuidLaws.{length-guids}
 use Rattle.model.proofs.Tests.{split}
-use Rattle.instance_writers.specs.Places.{Sound, padded}
-use Rattle.instance_writers.proofs.PlaceLaws.{empty-members}
+use Rattle.writer_set.specs.Places.{Sound, padded}
+use Rattle.writer_set.proofs.PlaceLaws.{empty-members}
 use Rattle.instance_edits.specs.Edits.{OwnerCleared, Settled, WriterlessLeft, changed, emptiedTo, leftAt, settled, settledIf, unsettled, withBit, withStrength}
 use Rattle.instance_edits.proofs.FieldEdits.{put-field, read-field}
 

@@ -35,12 +35,12 @@ use Rattle.tables.specs.Found.{foundIn}
 use Rattle.tables.specs.Keys.{keys}
 use Rattle.tables.proofs.Puts.{above-at}
 use Rattle.tables.proofs.RecordLaws.{find-at, find-none, keyed, keys-read}
-use Rattle.instance_record.proofs.Rows.{guid-in}
+use Rattle.instance_decoding.proofs.Rows.{guid-in}
 use Rattle.instance_edits.specs.declared.Span.{Span}
 use Rattle.instance_edits.specs.Edits.{Formed}
 use Rattle.instance_edits.specs.Losses.{ownedBy}
 use Rattle.instance_edits.specs.Spans.{AllOutside}
-use Rattle.instance_sets.proofs.SideBySide.{From, from-first}
+use Rattle.writer_set_bytes.proofs.SideBySide.{From, from-first}
 
 -- ---- two GUIDs by their halves
 

@@ -23,7 +23,7 @@ use Rattle.model.specs.InstanceRecord.{flag, flagsAt, flagsOf, instanceBytes, i
 use Rattle.model.specs.Instances.{isAlive, noOwner, sampledAt, withOwner, withSet, writerless, writersIn}
 use Rattle.model.specs.Sets.{isEmpty}
 use Rattle.model.specs.Tables.{rising}
-use Rattle.instance_writers.specs.Places.{Sound, padded}
+use Rattle.writer_set.specs.Places.{Sound, padded}
 
 -- key and handle stay
 abbrev pub changed : (InstanceState → InstanceState) → Instance → Instance

@@ -11,7 +11,7 @@ use Rattle.model.specs.declared.MaybeOwner.{MaybeOwner}
 use Rattle.model.specs.declared.MaybeTime.{MaybeTime}
 use Rattle.model.specs.Instances.{noOwner, withOwner, writersIn}
 use Rattle.model.specs.Sets.{has}
-use Rattle.instance_sets.specs.Others.{others}
+use Rattle.writer_set_bytes.specs.Others.{others}
 use Rattle.instance_edits.specs.Edits.{emptiedTo, settled}
 
 abbrev pub emptiedBy : List Guid → InstanceState → Bool

@@ -9,7 +9,7 @@ use Rattle.model.specs.Instances.{isAlive, writersIn, without}
 use Rattle.model.specs.Sets.{remove, isEmpty}
 use Rattle.instance_fields.proofs.UsableLaws.{without-sound as still-sound}
 use Rattle.model.proofs.SetLaws.{members-of}
-use Rattle.instance_writers.specs.Places.{Sound}
+use Rattle.writer_set.specs.Places.{Sound}
 
 module _ (g : Guid) (x y : InstanceState) (e : y ≡ without g x) where
   pub without-sound : Sound (x .writers) → Sound (y .writers)

@@ -32,7 +32,7 @@ ghost use lib.Dec.{eqb};
 ghost use Prim.Native.Nat.{_-_, max};
 ghost use Rattle.model.specs.Instances.{isAlive, isDisposed, writerless, writersIn, countedDown, without, registered, ensured, disposed, unregistered, writerUnregistered};
 ghost use Rattle.model.specs.Sets.{isEmpty};
-ghost use Rattle.instance_writers.specs.Places.{Sound};
+ghost use Rattle.writer_set.specs.Places.{Sound};
 ghost use Rattle.instance_fields.specs.Usable.{UsableLife};
 
 // ---- the parts of which the calls are made
@@ -63,7 +63,7 @@ fn without(g: Guid, x: InstanceState) -> InstanceState
     ensures { λ r. ⌜ r ≡ without g x ⌝ }
 {
     let w = x.writers;
-    with_writers(instance_writers::without_writer(w, g), x)
+    with_writers(writer_set::without_writer(w, g), x)
 }
 
 // ---- codes 1 and 2
@@ -145,7 +145,7 @@ fn is_writerless(x: InstanceState) -> bool
     let w = x.writers;
     let l = x.life;
     let k = l.kind;
-    if instance_writers::is_empty(w) {
+    if writer_set::is_empty(w) {
         return is_alive(k);
     }
     false

@@ -24,11 +24,11 @@ use Rattle.model.specs.Instances.{writersIn}
 use Rattle.model.proofs.GuidLaws.{bytes-drop, guids-forth}
 use Rattle.model.proofs.InstanceLaws.{instance-fits, instance-forth}
 use Rattle.model.proofs.RowLaws.{length-read, take-read}
-use Rattle.instance_record.proofs.Rows.{put-back}
-use Rattle.instance_writers.specs.Places.{padded}
-use Rattle.instance_sets.specs.Others.{others}
-use Rattle.instance_sets.specs.Walks.{Filled}
-use Rattle.instance_sets.proofs.SideBySide.{length-others}
+use Rattle.instance_decoding.proofs.Rows.{put-back}
+use Rattle.writer_set.specs.Places.{padded}
+use Rattle.writer_set_bytes.specs.Others.{others}
+use Rattle.writer_set_bytes.specs.Walks.{Filled}
+use Rattle.writer_set_bytes.proofs.SideBySide.{length-others}
 use Rattle.instance_edits.specs.Edits.{changed, Formed, Settled, unsettled}
 use Rattle.instance_edits.specs.Losses.{emptiedBy, droppedOf}
 use Rattle.instance_edits.proofs.RecordEdits.{flags-in, flags-old}

@@ -26,9 +26,9 @@ use Rattle.model.specs.Sets.{has, setOf}
 use Rattle.model.proofs.FlagLaws.{flags-apart}
 use Rattle.model.proofs.InstanceLaws.{instance-forth}
 use Rattle.model.proofs.Tests.{both, split}
-use Rattle.instance_writers.specs.Places.{Sound}
-use Rattle.instance_sets.specs.Others.{others}
-use Rattle.instance_sets.proofs.SideBySide.{Below, From, others-apart-low, others-apart-high, length-others}
+use Rattle.writer_set.specs.Places.{Sound}
+use Rattle.writer_set_bytes.specs.Others.{others}
+use Rattle.writer_set_bytes.proofs.SideBySide.{Below, From, others-apart-low, others-apart-high, length-others}
 use Rattle.instance_edits.specs.declared.Span.{Span}
 use Rattle.instance_edits.specs.Edits.{OwnerCleared, changed, Formed, settled}
 use Rattle.instance_edits.specs.Losses.{emptiedBy, droppedOf, ownedBy, disownedBy}

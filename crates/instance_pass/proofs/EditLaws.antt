@@ -30,10 +30,10 @@ use Rattle.model.specs.WellFormed.{instanceOk, kindsOk}
 use Rattle.model.proofs.RowLaws.{length-read, get-read}
 use Rattle.model.proofs.Tests.{both}
 use Rattle.model.proofs.Valid.{valid-parts}
-use Rattle.instance_writers.specs.Places.{Sound}
-use Rattle.instance_writers.proofs.SetLaws.{members-rise}
-use Rattle.instance_record.specs.Parts.{recordAt}
-use Rattle.instance_record.proofs.Rows.{lent-part, put-back}
+use Rattle.writer_set.specs.Places.{Sound}
+use Rattle.writer_set.proofs.SetLaws.{members-rise}
+use Rattle.instance_decoding.specs.Parts.{recordAt}
+use Rattle.instance_decoding.proofs.Rows.{lent-part, put-back}
 use Rattle.instance_fields.proofs.UsableLaws.{usable}
 use Rattle.instance_edits.specs.Edits.{changed, Formed}
 use Rattle.instance_table.specs.TableCalls.{TableFormed}

@@ -33,9 +33,9 @@ use Rattle.tables.proofs.Finds.{pick-take, pick-more}
 use Rattle.tables.proofs.Passes.{survivors, survivors-keep, survivors-drop, midway, midway-start, midway-end, length-midway, midway-keep, midway-drop, midway-get}
 use Rattle.instance_table.specs.Laid.{Wide, Laid}
 use Rattle.instance_table.proofs.LaidOut.{patch-width, replaced}
-use Rattle.instance_record.specs.Parts.{recordAt}
+use Rattle.instance_decoding.specs.Parts.{recordAt}
 use Rattle.instance_edits.specs.Edits.{changed}
-use Rattle.instance_pass.specs.declared.Tally.{Tally}
+use Rattle.instance_pass.specs.declared.PassCounts.{PassCounts}
 use Rattle.instance_pass.specs.Acts.{Act, Bounded, Keeps}
 use Rattle.instance_pass.specs.Passes.{remaining, listing, amount, total, keptAt, Ahead, TookOne, Spared, EditedAt, Passed}
 use Rattle.instance_pass.proofs.ActLaws.{all-kept}
@@ -78,7 +78,7 @@ module _ (act : Act) (count : ℕ) (t₀ out₀ : List ℕ) where
   abbrev xs : List Instance
   xs = instancesIn count t₀
 
-  pub record During (i : ℕ) (t out : List ℕ) (c : Tally) : Type 0 where
+  pub record During (i : ℕ) (t out : List ℕ) (c : PassCounts) : Type 0 where
     pub below : i ≤ count
     pub long : length t ≡ length t₀
     pub wide : length out ≡ length out₀
@@ -113,7 +113,7 @@ module _ (act : Act) (count : ℕ) (t₀ out₀ : List ℕ) where
         laid = λ places l. rw (midway-start f xs) l;
       }
 
-  module _ (i : ℕ) (t out : List ℕ) (c : Tally) (d : During i t out c) where
+  module _ (i : ℕ) (t out : List ℕ) (c : PassCounts) (d : During i t out c) where
     -- record i is as it was
     pub during-read : i < count → instanceOf (recordAt t i) ≡ getD xs i (instanceOf (recordAt t i))
     during-read h =
@@ -196,13 +196,13 @@ module _ (act : Act) (count : ℕ) (t₀ out₀ : List ℕ) where
           (list-more (pick q (take i xs)) x out₀ (omega (arith, d .listed, d .fewListed)))
 
       -- Out and the tally behind x
-      pub record Told (x : Instance) (out′ : List ℕ) (c′ : Tally) : Type 0 where
+      pub record Told (x : Instance) (out′ : List ℕ) (c′ : PassCounts) : Type 0 where
         pub noted : out′ ≡ cond (q x) (put 8 out (c .listed * 8) (x .handle .0)) out
         pub kept : c′ .kept ≡ c .kept + bit (isSome (f x))
         pub listed : c′ .listed ≡ c .listed + bit (q x)
         pub counted : c′ .counted ≡ c .counted + a x
 
-      told : (x : Instance) → x ≡ getD xs i x → (t′ out′ : List ℕ) (c′ : Tally) → length t′ ≡ length t → length out′ ≡ length out →
+      told : (x : Instance) → x ≡ getD xs i x → (t′ out′ : List ℕ) (c′ : PassCounts) → length t′ ≡ length t → length out′ ≡ length out →
           Behind (f x) t′ → Told x out′ c′ → During (i + 1) t′ out′ c′
       told x e t′ out′ c′ n m b w =
           record {
@@ -222,7 +222,7 @@ module _ (act : Act) (count : ℕ) (t₀ out₀ : List ℕ) where
             laid = b .laid;
           }
 
-      pub during-turn : (t′ out′ : List ℕ) (c′ : Tally) → length t′ ≡ length t → length out′ ≡ length out →
+      pub during-turn : (t′ out′ : List ℕ) (c′ : PassCounts) → length t′ ≡ length t → length out′ ≡ length out →
           TookOne act (instanceOf (recordAt t i)) t out c t′ out′ c′ → During (i + 1) t′ out′ c′
       during-turn t′ out′ c′ n m w = go (instanceOf (recordAt t i)) (during-read h) w
         where
@@ -232,7 +232,7 @@ module _ (act : Act) (count : ℕ) (t₀ out₀ : List ℕ) where
               record { noted = w .list; kept = w .kept; listed = w .listed; counted = w .counted }
 
       -- x stays at its place, changed by g
-      pub during-edited : (g : InstanceState → InstanceState) (t′ out′ : List ℕ) (c′ : Tally) → length t′ ≡ length t → length out′ ≡ length out → c .kept ≡ i →
+      pub during-edited : (g : InstanceState → InstanceState) (t′ out′ : List ℕ) (c′ : PassCounts) → length t′ ≡ length t → length out′ ≡ length out → c .kept ≡ i →
           act .left (instanceOf (recordAt t i) .state) ≡ some (g (instanceOf (recordAt t i) .state)) → EditedAt g i t t′ →
           Told (instanceOf (recordAt t i)) out′ c′ → During (i + 1) t′ out′ c′
       during-edited g t′ out′ c′ n m k v w p = go (instanceOf (recordAt t i)) (during-read h) v (w .bytes) p
@@ -244,7 +244,7 @@ module _ (act : Act) (count : ℕ) (t₀ out₀ : List ℕ) where
               let b : t′ ≡ patch t (c .kept * 512) 512 (recordAt t′ i) = w .table ∙ ap (λ (j : ℕ). patch t (j * 512) 512 (recordAt t′ i)) (sym k) in
               told x e t′ out′ c′ n m (rw u (edited x (changed g x) e u (recordAt t′ i) t′ b n q)) p
 
-      during-spared : (t′ out′ : List ℕ) (c′ : Tally) → length t′ ≡ length t → length out′ ≡ length out →
+      during-spared : (t′ out′ : List ℕ) (c′ : PassCounts) → length t′ ≡ length t → length out′ ≡ length out →
           Spared act (instanceOf (recordAt t i)) i t out c t′ out′ c′ → During (i + 1) t′ out′ c′
       during-spared t′ out′ c′ n m w = go (instanceOf (recordAt t i)) (during-read h) w
         where
@@ -259,7 +259,7 @@ module _ (act : Act) (count : ℕ) (t₀ out₀ : List ℕ) where
                 counted = rw (w .untouched .uncounted, w .tally) (omega arith);
               }
 
-      pub during-went : (t′ out′ : List ℕ) (c′ : Tally) → length t′ ≡ length t → length out′ ≡ length out →
+      pub during-went : (t′ out′ : List ℕ) (c′ : PassCounts) → length t′ ≡ length t → length out′ ≡ length out →
           TookOne act (instanceOf (recordAt t i)) t out c t′ out′ c′ ⊎ Spared act (instanceOf (recordAt t i)) i t out c t′ out′ c′ →
           During (i + 1) t′ out′ c′
       during-went t′ out′ c′ n m w = ⊎-elim (λ a. during-turn t′ out′ c′ n m a) (λ b. during-spared t′ out′ c′ n m b) w

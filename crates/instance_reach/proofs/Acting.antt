@@ -23,8 +23,8 @@ use Rattle.model.specs.Sets.{has, insert}
 use Rattle.model.specs.Tables.{rising, above}
 use Rattle.model.proofs.Tests.{both, split, clash}
 use Rattle.model.proofs.SetLaws.{insert-le}
-use Rattle.instance_writers.proofs.SetLaws.{sound-size}
-use Rattle.instance_writers.proofs.PlaceLaws.{length-members}
+use Rattle.writer_set.proofs.SetLaws.{sound-size}
+use Rattle.writer_set.proofs.PlaceLaws.{length-members}
 use Rattle.instance_fields.specs.Usable.{Usable, Room}
 use Rattle.instance_fields.proofs.UsableLaws.{sound-after}
 use Rattle.instance_reach.specs.Turned.{withState, Acted}

@@ -48,7 +48,7 @@ use Rattle.tables.specs.Places.{placeOf, Only, Nowhere}
 use Rattle.tables.proofs.Finds.{all-at, any-only, place-at, noplace}
 use Rattle.tables.proofs.Puts.{found-only, missing-nowhere, missing-le, only-handle}
 use Rattle.model.proofs.Valid.{valid-parts, started-valid}
-use Rattle.instance_writers.proofs.SetLaws.{members-rise}
+use Rattle.writer_set.proofs.SetLaws.{members-rise}
 use Rattle.instance_fields.specs.Usable.{Usable, Room}
 use Rattle.instance_fields.proofs.UsableLaws.{usable}
 use Rattle.instance_table.specs.Laid.{Laid}

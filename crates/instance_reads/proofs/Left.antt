@@ -22,7 +22,7 @@ use Rattle.model.specs.Layout.{readRows}
 use Rattle.model.specs.Reads.{usedIn, tableOf, tableRefusal, viewIn, among, leftWith, listOk, listRefusal, wouldLeaveRead}
 use Rattle.model.specs.Sets.{has, isEmpty}
 use Rattle.model.specs.Tables.{all, pick}
-use Rattle.instance_record.proofs.Rows.{guid-in}
+use Rattle.instance_decoding.proofs.Rows.{guid-in}
 use Rattle.tables.specs.Places.{placeOf}
 use Rattle.model.proofs.Tests.{split, lt-or-le}
 use Rattle.instance_reads.proofs.Answers.{refused-decision}

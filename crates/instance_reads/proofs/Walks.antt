@@ -27,7 +27,7 @@ use Rattle.model.specs.Reads.{usedIn, tableOf, tableRefusal, handleFound, first
 use Rattle.model.specs.State.{instancesIn}
 use Rattle.model.specs.Tables.{find}
 use Rattle.model.proofs.RowLaws.{length-read}
-use Rattle.instance_record.specs.Parts.{recordAt}
+use Rattle.instance_decoding.specs.Parts.{recordAt}
 use Rattle.tables.specs.Places.{placeOf}
 use Rattle.model.proofs.Tests.{split}
 use Rattle.tables.proofs.Finds.{place-le}

@@ -33,7 +33,7 @@ ghost use Rattle.model.specs.Tables.{find, all};
 ghost use Rattle.model.specs.Times.{noTime, timeBits};
 ghost use Rattle.model.specs.WellFormed.{instanceOk};
 ghost use Rattle.tables.specs.Found.{foundIn};
-ghost use Rattle.instance_record.specs.Parts.{recordAt};
+ghost use Rattle.instance_decoding.specs.Parts.{recordAt};
 ghost use Rattle.tables.specs.Places.{placeOf};
 ghost use Rattle.instance_reads.specs.HolderPlaces.{noPlace, storedAt, holderPlace, bytesAt};
 ghost use Rattle.instance_reads.specs.Looked.{timesIn, ListedBy};
@@ -103,7 +103,7 @@ fn times_of(pens: &[u8], places: usize, key: Guid) -> Times
 {
     match locate(pens, places, key) {
         Found::At(i) => {
-            let x = instance_record::instance_at(pens, i);
+            let x = instance_decoding::instance_at(pens, i);
             let y = x.state;
             let times = y.times;
             times
@@ -213,7 +213,7 @@ fn handle_in(pens: &[u8], places: usize, position: usize) -> FoundHandle
     if count <= position {
         return FoundHandle::Missing;
     }
-    let handle = instance_record::handle_at(pens, position);
+    let handle = instance_decoding::handle_at(pens, position);
     FoundHandle::Is(handle)
 }
 
@@ -488,7 +488,7 @@ fn list_left(
     if !left_with(&pens[o..e], gone, m, view_states) {
         return k;
     }
-    let h = instance_record::handle_at(pens, i);
+    let h = instance_decoding::handle_at(pens, i);
     octets::put_u64(out, k * 8, h.0);
     k + 1
 }

@@ -31,8 +31,8 @@ use Rattle.tables.specs.Places.{placeOf}
 use Rattle.model.proofs.Tests.{both, split, clash, eq-or-ne}
 use Rattle.tables.proofs.Finds.{all-at, at-all, place-unique}
 use Rattle.tables.proofs.Puts.{distinct-ne, pairs-distinct}
-use Rattle.handle_order.proofs.Order.{positive}
-use Rattle.handle_order.specs.Apart.{Within, Apart}
+use Rattle.distinct_handles.proofs.Order.{positive}
+use Rattle.distinct_handles.specs.Apart.{Within, Apart}
 use Rattle.instance_table.specs.Laid.{handleAt}
 use Rattle.octets.proofs.Laws.{be-drop}
 use Rattle.instance_table.proofs.Rows.{handle-read}

@@ -16,7 +16,7 @@ use Rattle.model.specs.Calls.{joined}
 use Rattle.model.specs.Refusals.{sheetRefusal}
 use Rattle.model.specs.State.{Lent, State, stateOf}
 use Rattle.instance_pass.proofs.EditLaws.{table-editable}
-use Rattle.writer_turns.specs.WriterCalls.{WritersFormed}
+use Rattle.writer_counts.specs.WriterCalls.{WritersFormed}
 use Rattle.lent_state.proofs.Formed.{Parts, parts}
 use Rattle.call_laws.specs.Entered.{Entered}
 use Rattle.call_laws.specs.Heads.{called}

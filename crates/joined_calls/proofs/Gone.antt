@@ -26,7 +26,7 @@ use Rattle.model.proofs.Fits.{FitsGuid, FitsWriter}
 use Rattle.model.proofs.GuidLaws.{length-guid, length-guids}
 use Rattle.model.proofs.Tests.{both, split}
 use Rattle.writer_pass.proofs.Picks.{pick-le, writers-fit}
-use Rattle.instance_sets.specs.Lists.{gonesIn}
+use Rattle.writer_set_bytes.specs.Lists.{gonesIn}
 use Rattle.instance_pass.proofs.LossLaws.{gones-back}
 use Rattle.joined_calls.specs.Losses.{goneSince}
 

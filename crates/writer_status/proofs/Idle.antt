@@ -34,8 +34,8 @@ use Rattle.model.proofs.Tests.{both, less-less}
 use Rattle.model.proofs.RowLaws.{length-read}
 use Rattle.numbers.proofs.Signs.{sum-fits, change-fits}
 use Rattle.numbers.proofs.Signed.{back}
-use Rattle.writer_turns.specs.WriterCalls.{heldBy}
-use Rattle.writer_turns.proofs.Turning.{sift-same, pick-same}
+use Rattle.writer_counts.specs.WriterCalls.{heldBy}
+use Rattle.writer_counts.proofs.Turning.{sift-same, pick-same}
 use Rattle.writer_status.specs.Status.{changedHead, KeepsWriters}
 
 -- the head counts the writers

@@ -16,7 +16,7 @@ ghost use mir.Val.{toZ};
 ghost use Rattle.model.specs.declared.TrackerCall.the-variants.{TakeStatus, Acknowledge};
 ghost use Rattle.model.specs.WellFormed.{within, headOk};
 ghost use Rattle.model.specs.Writers.{acknowledgeable};
-ghost use Rattle.writer_turns.specs.WriterCalls.{heldBy};
+ghost use Rattle.writer_counts.specs.WriterCalls.{heldBy};
 ghost use Rattle.writer_status.specs.Status.{changedHead, KeepsWriters};
 
 // What is acknowledged of a count once a part more is.

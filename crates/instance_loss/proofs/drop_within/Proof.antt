@@ -1,6 +1,6 @@
 -- A set apart from the span stays as it is.
 use mathlib.Core.Path.{refl}
-use Rattle.instance_sets.specs.Lists.{gonesIn}
+use Rattle.writer_set_bytes.specs.Lists.{gonesIn}
 use Rattle.instance_loss.proofs.Losing.{apart-stays}
 use borrow.Author.Needs.{needs}
 use Rattle.instance_loss.proofs.drop_within.Statement.{statement}

@@ -1,7 +1,7 @@
 -- The set, then the owner, which the set does not change.
 use mathlib.Core.Path.{refl}
 use native.Mathlib.Omega.{arith}
-use Rattle.instance_sets.specs.Lists.{gonesIn}
+use Rattle.writer_set_bytes.specs.Lists.{gonesIn}
 use Rattle.instance_loss.proofs.Losing.{owner-flag, lost-left}
 use borrow.Author.Needs.{needs}
 use Rattle.instance_loss.proofs.lose.Statement.{statement}

@@ -3,7 +3,7 @@ use mathlib.Core.Bool.{Bool, true, _&&_}
 use mathlib.Core.Path.{_≡_, _∙_}
 use borrow.Author.Tests.{not-true, not-false}
 use Rattle.model.specs.InstanceRecord.{instanceOf}
-use Rattle.instance_sets.specs.Lists.{gonesIn}
+use Rattle.writer_set_bytes.specs.Lists.{gonesIn}
 use Rattle.instance_loss.proofs.Losing.{apart-unowned, goes}
 use borrow.Author.Needs.{needs}
 use Rattle.instance_loss.proofs.owner_goes.Statement.{statement}

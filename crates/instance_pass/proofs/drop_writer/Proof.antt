@@ -2,7 +2,7 @@
 use native.Mathlib.Omega.{arith}
 use Rattle.model.proofs.Fits.{FitsGuid}
 use Rattle.instance_pass.proofs.LossLaws.{drop-passed, one-gone, one-listed}
-use Rattle.instance_sets.specs.Lists.{gonesIn}
+use Rattle.writer_set_bytes.specs.Lists.{gonesIn}
 use borrow.Author.Needs.{needs}
 use Rattle.instance_pass.proofs.drop_writer.Statement.{statement}
 use Rattle.instance_pass.proofs.drop_writer.Tie as tie

@@ -1,8 +1,8 @@
 -- One record of the pass.
 use Prim.Native.Nat.{_*_}
 use mathlib.Core.Path.{refl}
-use Rattle.instance_record.proofs.Rows.{lent-part}
-use Rattle.instance_sets.specs.Lists.{gonesIn}
+use Rattle.instance_decoding.proofs.Rows.{lent-part}
+use Rattle.writer_set_bytes.specs.Lists.{gonesIn}
 use Rattle.instance_pass.proofs.LossLaws.{lost-one}
 use Rattle.instance_pass.proofs.EditLaws.{formed-part}
 use borrow.Author.Needs.{needs}

@@ -2,7 +2,7 @@
 use Prim.Native.Nat.{_-_}
 use mathlib.Core.Path.{refl}
 use native.Mathlib.Omega.{arith}
-use Rattle.instance_sets.specs.Lists.{gonesIn}
+use Rattle.writer_set_bytes.specs.Lists.{gonesIn}
 use Rattle.instance_pass.specs.Steps.{lossBy}
 use Rattle.instance_pass.proofs.LossLaws.{by-bounded}
 use Rattle.instance_pass.proofs.EditLaws.{record-formed}

@@ -1,6 +1,6 @@
 -- Nobody, or all at once.
 use Rattle.instance_pass.proofs.LossLaws.{losses-passed, none-passed}
-use Rattle.instance_sets.specs.Lists.{gonesIn}
+use Rattle.writer_set_bytes.specs.Lists.{gonesIn}
 use borrow.Author.Needs.{needs}
 use Rattle.instance_pass.proofs.lose_writers.Statement.{statement}
 use Rattle.instance_pass.proofs.lose_writers.Tie as tie

@@ -5,7 +5,7 @@ use mathlib.Core.List.{List}
 use Prim.Native.Nat.{ℕ}
 use native.Mathlib.Omega.{arith}
 use Rattle.model.specs.InstanceRecord.{instanceOf}
-use Rattle.instance_record.proofs.Rows.{lent-part}
+use Rattle.instance_decoding.proofs.Rows.{lent-part}
 use Rattle.instance_pass.specs.Steps.{ownsAs}
 use Rattle.instance_pass.proofs.OwnerLaws.{owner-flag, owner-put, owner-kept}
 use borrow.Author.Needs.{needs}

@@ -2,7 +2,7 @@
 use Prim.Native.Nat.{_*_}
 use mathlib.Core.Path.{refl, sym, _∙_}
 use native.Mathlib.Omega.{arith}
-use Rattle.instance_record.proofs.Rows.{lent-part}
+use Rattle.instance_decoding.proofs.Rows.{lent-part}
 use Rattle.instance_pass.proofs.OwnerLaws.{strength-put, strength-kept}
 use borrow.Author.Needs.{needs}
 use Rattle.instance_pass.proofs.strength_at.Statement.{statement}

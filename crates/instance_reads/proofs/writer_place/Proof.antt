@@ -6,7 +6,7 @@ use native.Mathlib.Omega.{arith}
 use borrow.Author.Count.{below-more}
 use Rattle.model.specs.InstanceRecord.{instanceOf}
 use Rattle.model.specs.Reads.{usedIn, writes}
-use Rattle.instance_record.specs.Parts.{recordAt}
+use Rattle.instance_decoding.specs.Parts.{recordAt}
 use Rattle.instance_reads.proofs.Members.{part-ok, part-told, place-table}
 use Rattle.instance_reads.proofs.Table.{whole, room-at, valid-at}
 use Rattle.instance_reads.proofs.writer_place.Statement.{statement}

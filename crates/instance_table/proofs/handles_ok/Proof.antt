@@ -43,7 +43,7 @@ returns-4 c =
     let a = c .before .before .before .before .before .before .before .before .before .before .args in
     let l = c .before .before .before .before .before .before .before .before .loop in
     used-end (a .t .now) (a .next) (a .count) (l .i) (omega arith)
-    (rw (← c .before .before .before .before .before .before .number-at .ensures) (sym (c .before .fresh .ensures) ∙ not-true _ (c .if5 .taken)))
+    (rw (← c .before .before .before .before .before .before .number-at .ensures) (sym (c .before .is-unused .ensures) ∙ not-true _ (c .if5 .taken)))
 
 loop-again : tie.Need-loop-again Inv-loop μ-loop
 loop-again c =

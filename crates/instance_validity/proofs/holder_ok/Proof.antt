@@ -2,7 +2,7 @@
 use mathlib.Core.Path.{sym, _∙_}
 use borrow.Author.Tests.{le-leb, lt-leb, eq-eqb, ne-eqb}
 use Rattle.model.specs.WellFormed.{holderOk}
-use Rattle.instance_record.proofs.Rows.{holder-tail}
+use Rattle.instance_decoding.proofs.Rows.{holder-tail}
 use borrow.Author.Needs.{needs}
 use Rattle.instance_validity.proofs.holder_ok.Statement.{statement}
 use Rattle.instance_validity.proofs.holder_ok.Tie as tie

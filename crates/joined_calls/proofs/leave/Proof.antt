@@ -2,7 +2,7 @@
 use mathlib.Core.Path.{sym, _∙_}
 use Rattle.joined_calls.proofs.Entering.{sheet-refused}
 use Rattle.joined_calls.proofs.Losing.{kept-losable, leave-left, leave-number}
-use Rattle.writer_turns.specs.WriterCalls.{leaving}
+use Rattle.writer_counts.specs.WriterCalls.{leaving}
 use Rattle.joined_calls.specs.Losses.{departing}
 use borrow.Author.Needs.{needs}
 use Rattle.joined_calls.proofs.leave.Statement.{statement}

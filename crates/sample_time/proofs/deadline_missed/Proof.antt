@@ -2,7 +2,7 @@
 use mathlib.Core.Path.{ap, _∙_}
 use lib.IntN.{ℤ}
 use borrow.Author.Needs.{needs}
-use Rattle.model.specs.Times.{nanosOf, reaches, deadlineMissed}
+use Rattle.model.specs.Times.{timeValue, reaches, deadlineMissed}
 use Rattle.sample_time.proofs.Values.{gap-asked, gap-read}
 use Rattle.sample_time.proofs.deadline_missed.Statement.{statement}
 use Rattle.sample_time.proofs.deadline_missed.Tie as tie
@@ -13,7 +13,7 @@ gap-requires c κs =
     gap-asked (a .owner-at) (a .now) (search needs) (search needs) (search needs) (search needs) (c .before .nanos .ensures) (c .nanos2 .ensures)
 
 returns : tie.Need-returns
-unfolding deadlineMissed nanosOf
+unfolding deadlineMissed timeValue
 returns c =
     let g = c .before in
     let h = g .before .before in

@@ -6,7 +6,7 @@ use mir.Facts.{sfits-toZ, sfits-widen, toZ-pos}
 use mir.Syntax.{w32, w64}
 use mir.Val.{Fits, ofZ, toZ}
 use borrow.Author.Needs.{needs}
-use Rattle.model.specs.Times.{billion, nanosOf}
+use Rattle.model.specs.Times.{billion, timeValue}
 use Rattle.numbers.proofs.Signed.{fits-as, back}
 use Rattle.sample_time.proofs.Values.{seconds-fit, nanos-fit}
 use Rattle.sample_time.proofs.nanos.Statement.{statement}
@@ -36,8 +36,8 @@ mul-result : tie.Need-mul-result
 mul-result c = fits-as (times c) (seconds-fit _ (sec-fits (c .before) .fits))
 
 -- with the nanoseconds
-sum : (c : tie.After-of-bits) → toZ w64 (ofZ w64 (toZ w64 (ofZ w64 (toZ w32 (ofZ w32 (c .of-bits .result)))) *ℤ pos billion)) +ℤ toZ w64 (c .before .args .t .nanosec) ≡ nanosOf (c .before .args .t)
-unfolding nanosOf
+sum : (c : tie.After-of-bits) → toZ w64 (ofZ w64 (toZ w64 (ofZ w64 (toZ w32 (ofZ w32 (c .of-bits .result)))) *ℤ pos billion)) +ℤ toZ w64 (c .before .args .t .nanosec) ≡ timeValue (c .before .args .t)
+unfolding timeValue
 sum c =
     let n = nanosec-fits (c .before) .fits in
     ap₂ _+ℤ_ (back (times c) (seconds-fit _ (sec-fits (c .before) .fits))) (toZ-pos w64 (omega arith))

@@ -3,7 +3,7 @@ use mathlib.Core.Path.{ap, _∙_}
 use lib.Dec.{leb}
 use borrow.Author.Needs.{needs}
 use borrow.Author.Tests.{eq-eqb, ne-eqb}
-use Rattle.model.specs.Times.{nanosOf, elapsed, purgeDue}
+use Rattle.model.specs.Times.{timeValue, elapsed, purgeDue}
 use Rattle.sample_time.proofs.Values.{gap-asked, gap-read}
 use Rattle.sample_time.proofs.purge_due.Statement.{statement}
 use Rattle.sample_time.proofs.purge_due.Tie as tie
@@ -18,7 +18,7 @@ gap-requires c κs =
     gap-asked (a .since) (a .now) (search needs) (search needs) (search needs) (search needs) (c .before .nanos .ensures) (c .nanos2 .ensures)
 
 returns-2 : tie.Need-returns-2
-unfolding purgeDue nanosOf
+unfolding purgeDue timeValue
 returns-2 c =
     let g = c .before in
     let h = g .before .before in

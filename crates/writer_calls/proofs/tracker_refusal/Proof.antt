@@ -2,7 +2,7 @@
 use mathlib.Core.Path.{sym, _∙_}
 use borrow.Author.Tests.{not-true, not-false}
 use Rattle.writer_calls.proofs.Sheets.{tracker-5, tracker-7, tracker-8, tracker-none}
-use Rattle.writer_turns.specs.WriterCalls.{heldBy}
+use Rattle.writer_counts.specs.WriterCalls.{heldBy}
 use borrow.Author.Needs.{needs}
 use Rattle.writer_calls.proofs.tracker_refusal.Statement.{statement}
 use Rattle.writer_calls.proofs.tracker_refusal.Tie as tie

@@ -12,8 +12,8 @@ returns c =
     refuses-judged (x .args .c) (x .args .s) (x .args .head) (x .args .writers .now) (x .args .lost .now) (x .args .out .now)
     (k .tracker-refusal .result) (k .tracker-refusal .ensures) (c .before .if1 .taken) (c .refused .result) (c .refused .ensures)
 
-turn-requires : tie.Need-turn-requires
-turn-requires c κs =
+turn-writers-requires : tie.Need-turn-writers-requires
+turn-writers-requires c κs =
     let x = c .before .before .before .before .before .before .before .before in (
       x .pre .0,
       x .pre .1,
@@ -26,5 +26,5 @@ turn-requires c κs =
 pub tracker-turn-spec : {M : Type 1} → statement M
 tracker-turn-spec =
     tie.close
-    (tie.spec (λ c κs. search needs) (λ c κs. search needs) returns turn-requires (λ c. search needs)
+    (tie.spec (λ c κs. search needs) (λ c κs. search needs) returns turn-writers-requires (λ c. search needs)
     (λ c. search needs) (λ c. search needs) (λ c. search needs))

@@ -3,7 +3,7 @@ use mathlib.Core.Path.{ap}
 use native.Mathlib.Omega.{arith}
 use borrow.Author.Needs.{needs}
 use Rattle.model.specs.declared.Called.{Called}
-use Rattle.writer_turns.proofs.Holding.{good}
+use Rattle.writer_counts.proofs.Holding.{good}
 use Rattle.writer_expiry.proofs.Expiring.{lost-few, gone-room, expire-full}
 use Rattle.writer_expiry.proofs.expire.Statement.{statement}
 use Rattle.writer_expiry.proofs.expire.Tie as tie

@@ -1,8 +1,8 @@
 -- `writer_liveliness::assert_on` meets its contract.
 use Prim.Native.Nat.{ℕ}
 use mathlib.Core.Path.{_≡_, ap, _∙_}
-use Rattle.writer_turns.specs.Turns.{calledBy}
-use Rattle.writer_turns.proofs.Calling.{room-pass}
+use Rattle.writer_counts.specs.Turns.{calledBy}
+use Rattle.writer_counts.proofs.Calling.{room-pass}
 use Rattle.writer_pass.specs.declared.Counts.{Counts}
 use Rattle.writer_effects.specs.Acts.{assertionOf}
 use Rattle.model.proofs.RowLaws.{length-read}

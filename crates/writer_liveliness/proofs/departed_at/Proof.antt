@@ -3,9 +3,9 @@ use Prim.Native.Nat.{_*_}
 use mathlib.Core.Path.{ap, _∙_}
 use native.Mathlib.Omega.{arith}
 use borrow.Author.Needs.{needs}
-use Rattle.writer_turns.specs.Turns.{calledBy, departsTally}
-use Rattle.writer_turns.proofs.Calling.{alive-there, room-departs, both-few}
-use Rattle.writer_turns.proofs.Holding.{good, few-not-alive}
+use Rattle.writer_counts.specs.Turns.{calledBy, departsTally}
+use Rattle.writer_counts.proofs.Calling.{alive-there, room-departs, both-few}
+use Rattle.writer_counts.proofs.Holding.{good, few-not-alive}
 use Rattle.octets.specs.Patch.{patch}
 use Rattle.model.specs.WriterRecord.{writerBytes}
 use Rattle.model.specs.Writers.{departed}

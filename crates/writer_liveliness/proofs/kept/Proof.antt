@@ -1,7 +1,7 @@
 -- `writer_liveliness::kept` meets its contract.
 use mathlib.Core.Path.{ap, _∙_}
 use borrow.Author.Needs.{needs}
-use Rattle.writer_turns.specs.Turns.{calledBy}
+use Rattle.writer_counts.specs.Turns.{calledBy}
 use Rattle.writer_liveliness.proofs.kept.Statement.{statement}
 use Rattle.writer_liveliness.proofs.kept.Tie as tie
 

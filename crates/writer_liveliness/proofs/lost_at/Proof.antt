@@ -2,8 +2,8 @@
 use mathlib.Core.Path.{sym, _∙_}
 use native.Mathlib.Omega.{arith}
 use borrow.Author.Needs.{needs}
-use Rattle.writer_turns.proofs.Calls.{lost-gone, lost-departs, place-of}
-use Rattle.writer_turns.proofs.Holding.{good}
+use Rattle.writer_counts.proofs.Calls.{lost-gone, lost-departs, place-of}
+use Rattle.writer_counts.proofs.Holding.{good}
 use Rattle.writer_liveliness.proofs.lost_at.Statement.{statement}
 use Rattle.writer_liveliness.proofs.lost_at.Tie as tie
 

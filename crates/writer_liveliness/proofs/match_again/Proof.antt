@@ -3,10 +3,10 @@ use Prim.Native.Nat.{_*_}
 use mathlib.Core.Path.{sym, ap, refl, _∙_}
 use native.Mathlib.Omega.{arith}
 use borrow.Author.Needs.{needs}
-use Rattle.writer_turns.specs.Turns.{stillTally}
-use Rattle.writer_turns.proofs.Calling.{room-still}
-use Rattle.writer_turns.proofs.Calls.{place-of, again-ready, again-tracked, again-after}
-use Rattle.writer_turns.proofs.Holding.{good}
+use Rattle.writer_counts.specs.Turns.{stillTally}
+use Rattle.writer_counts.proofs.Calling.{room-still}
+use Rattle.writer_counts.proofs.Calls.{place-of, again-ready, again-tracked, again-after}
+use Rattle.writer_counts.proofs.Holding.{good}
 use Rattle.octets.specs.Patch.{patch}
 use Rattle.model.proofs.Fits.{FitsGuid}
 use Rattle.model.specs.WriterRecord.{writerBytes}

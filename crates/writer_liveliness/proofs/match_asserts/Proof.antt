@@ -2,10 +2,10 @@
 use mathlib.Core.Bool.{true, false}
 use mathlib.Core.Path.{_≡_, sym, ap, refl, _∙_}
 use borrow.Author.Needs.{needs}
-use Rattle.writer_turns.specs.Turns.{calledBy}
-use Rattle.writer_turns.proofs.Calling.{room-still}
-use Rattle.writer_turns.proofs.Calls.{asserting, not-asserting}
-use Rattle.writer_turns.specs.WriterCalls.{automatic}
+use Rattle.writer_counts.specs.Turns.{calledBy}
+use Rattle.writer_counts.proofs.Calling.{room-still}
+use Rattle.writer_counts.proofs.Calls.{asserting, not-asserting}
+use Rattle.writer_counts.specs.WriterCalls.{automatic}
 use Rattle.model.specs.Writers.{isAutomatic}
 use Rattle.writer_liveliness.proofs.match_asserts.Statement.{statement}
 use Rattle.writer_liveliness.proofs.match_asserts.Tie as tie

@@ -6,7 +6,7 @@ use mathlib.Core.Path.{ap, _∙_}
 use native.Mathlib.Omega.{arith}
 use borrow.Author.Needs.{needs}
 use Rattle.model.specs.declared.Called.{Called}
-use Rattle.writer_turns.proofs.Calls.{first-within, first-full, first-ready, first-after}
+use Rattle.writer_counts.proofs.Calls.{first-within, first-full, first-ready, first-after}
 use Rattle.octets.specs.Patch.{patch}
 use Rattle.model.proofs.Fits.{FitsGuid}
 use Rattle.model.specs.WriterRecord.{writerBytes}

@@ -2,8 +2,8 @@
 use mathlib.Core.Path.{sym, _∙_}
 use native.Mathlib.Omega.{arith}
 use borrow.Author.Needs.{needs}
-use Rattle.writer_turns.proofs.Calling.{find-rises}
-use Rattle.writer_turns.proofs.Holding.{good}
+use Rattle.writer_counts.proofs.Calling.{find-rises}
+use Rattle.writer_counts.proofs.Holding.{good}
 use Rattle.writer_liveliness.proofs.matched.Statement.{statement}
 use Rattle.writer_liveliness.proofs.matched.Tie as tie
 

@@ -1,7 +1,7 @@
 -- `writer_liveliness::participant_asserted` meets its contract.
 use borrow.Author.Needs.{needs}
-use Rattle.writer_turns.proofs.Calls.{participant-asserts}
-use Rattle.writer_turns.proofs.Holding.{good}
+use Rattle.writer_counts.proofs.Calls.{participant-asserts}
+use Rattle.writer_counts.proofs.Holding.{good}
 use Rattle.writer_liveliness.proofs.participant_asserted.Statement.{statement}
 use Rattle.writer_liveliness.proofs.participant_asserted.Tie as tie
 

@@ -3,9 +3,9 @@ use Prim.Native.Nat.{_-_}
 use mathlib.Core.Path.{ap, _∙_}
 use native.Mathlib.Omega.{arith}
 use borrow.Author.Needs.{needs}
-use Rattle.writer_turns.specs.Turns.{calledBy, goneTally}
-use Rattle.writer_turns.proofs.Calling.{alive-there, not-alive-there, room-gone}
-use Rattle.writer_turns.proofs.Holding.{good}
+use Rattle.writer_counts.specs.Turns.{calledBy, goneTally}
+use Rattle.writer_counts.proofs.Calling.{alive-there, not-alive-there, room-gone}
+use Rattle.writer_counts.proofs.Holding.{good}
 use Rattle.writer_liveliness.proofs.removed.Statement.{statement}
 use Rattle.writer_liveliness.proofs.removed.Tie as tie
 

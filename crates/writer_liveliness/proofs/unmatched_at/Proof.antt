@@ -2,10 +2,10 @@
 use mathlib.Core.Path.{sym, refl, _∙_}
 use native.Mathlib.Omega.{arith}
 use borrow.Author.Needs.{needs}
-use Rattle.writer_turns.specs.Turns.{stillTally}
-use Rattle.writer_turns.proofs.Calling.{room-still}
-use Rattle.writer_turns.proofs.Calls.{unmatched-gone, unmatched-stays, place-of}
-use Rattle.writer_turns.proofs.Holding.{good}
+use Rattle.writer_counts.specs.Turns.{stillTally}
+use Rattle.writer_counts.proofs.Calling.{room-still}
+use Rattle.writer_counts.proofs.Calls.{unmatched-gone, unmatched-stays, place-of}
+use Rattle.writer_counts.proofs.Holding.{good}
 use Rattle.writer_liveliness.proofs.unmatched_at.Statement.{statement}
 use Rattle.writer_liveliness.proofs.unmatched_at.Tie as tie
 
