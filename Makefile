@@ -37,7 +37,7 @@ $(LIB):
 
 stage: library
 	rm -rf $(STAGE)
-	mkdir -p $(STAGE)/lib/pkgconfig $(STAGE)/lib/cmake/dcps $(STAGE)/include $(STAGE)/share/doc/dcps $(STAGE)/share/dcps/examples
+	mkdir -p $(STAGE)/lib/pkgconfig $(STAGE)/lib/cmake/dcps $(STAGE)/include $(STAGE)/share/doc/dcps/pictures $(STAGE)/share/dcps/examples
 	cp $(BUILT)/libdcps_c.a $(BUILT)/$(SHARED) $(STAGE)/lib
 	ln -s $(SHARED) $(STAGE)/lib/$(SONAME)
 	ln -s $(SONAME) $(STAGE)/lib/libdcps.so
@@ -46,7 +46,8 @@ stage: library
 	$(FILL) package/dcps-shared.pc.in > $(STAGE)/lib/pkgconfig/dcps-shared.pc
 	cp package/dcps-config.cmake $(STAGE)/lib/cmake/dcps
 	$(FILL) package/dcps-config-version.cmake.in > $(STAGE)/lib/cmake/dcps/dcps-config-version.cmake
-	cp NOTICE LICENSE CHANGELOG.md docs/INTEGRATION.md $(STAGE)/share/doc/dcps
+	cp NOTICE LICENSE CHANGELOG.md SECURITY.md dcps.spdx docs/INTEGRATION.md $(STAGE)/share/doc/dcps
+	cp docs/pictures/instance.svg docs/pictures/writer.svg docs/pictures/record.svg $(STAGE)/share/doc/dcps/pictures
 	cp examples/c/console.c examples/c/day.txt examples/c/dcps_keep.h $(STAGE)/share/dcps/examples
 	cp examples/cyclonedds/feed.h examples/cyclonedds/recipes.c $(STAGE)/share/dcps/examples
 	cp bindings/python/dcps.py $(STAGE)/share/dcps
