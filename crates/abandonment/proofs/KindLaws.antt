@@ -28,9 +28,9 @@ use Rattle.model.proofs.SetLaws.{members-of}
 use Rattle.model.proofs.Tests.{both, split}
 use Rattle.accounts.specs.Ranges.{bound}
 use Rattle.accounts.proofs.Basics.{never, eqb-sym}
-use Rattle.accounts.proofs.Sound.{SoundState}
+use Rattle.accounts.proofs.Sound.{remove-within, SoundState}
 use Rattle.accounts.proofs.TurnLaws.{Within}
-use Rattle.abandonment.proofs.SetLaws.{has-remove, remove-absent, remove-within, none-in, and-true}
+use Rattle.abandonment.proofs.SetLaws.{has-remove, remove-absent, none-in, and-true}
 
 -- ---- calls that leave kind and set
 

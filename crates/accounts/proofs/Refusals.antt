@@ -11,13 +11,10 @@ use mathlib.Core.List.{List, [], _∷_}
 use mathlib.Core.Option.{Option, none, some}
 use mathlib.Core.Path.{_≡_, refl, sym, ap, _∙_, subst}
 use Prim.Native.Nat.{ℕ, _*_}
-use native.Mathlib.Nat.{mul-le-mul-right}
-use native.Mathlib.Omega.{arith}
 use borrow.Author.Tests.{eqb-true, eqb-false, eq-eqb}
 use lib.Dec.{eqb, leb}
 use lib.ListN.{length}
 use Rattle.octets.specs.Bounds.{Bytes}
-use Rattle.octets.proofs.LayLaws.{length-lay}
 use Rattle.model.specs.declared.AcknowledgeUse.{AcknowledgeUse}
 use Rattle.model.specs.declared.AcknowledgeUse.the-variants.{Nothing, Whole, Part}
 use Rattle.model.specs.declared.Guid.{Guid}
@@ -30,9 +27,8 @@ use Rattle.model.specs.declared.JoinedCall.{JoinedCall}
 use Rattle.model.specs.declared.TrackerCall.the-variants.{Unmatched as unmatched, LostWithParticipant as lostWithParticipant, Expire as expire}
 use Rattle.model.specs.declared.JoinedCall.the-variants.{Admit as admit, Lapse as lapse, Part as part, Depart as depart}
 use Rattle.model.specs.Calls.{Call, instances, tracker, joined, callOfCode}
-use Rattle.model.specs.Guids.{num, guidBytes}
+use Rattle.model.specs.Guids.{num}
 use Rattle.model.specs.InstanceCalls.{Turned, known, begins, full, spent, crowds, accepted, atLimit, reached, lateRefusal, instanceTurn, instanceCall}
-use Rattle.model.specs.InstanceRecord.{instanceBytes}
 use Rattle.model.specs.Instances.{rule, limitedBy, hasKey}
 use Rattle.model.specs.Joined.{inOrder, passesFilter, sampled, admitted, admitWith, afterLoss, lossCall}
 use Rattle.model.specs.Refusals.{lengthsOk, timesUsed, clocksUsed, holderFits, kindOk, acknowledgeOk, nanosecondsOk, sheetRefusal}
@@ -40,21 +36,16 @@ use Rattle.model.specs.Sheets.{sheetOf}
 use Rattle.model.specs.State.{Lent, State, figureOk, instanceKey, layOut}
 use Rattle.model.specs.Tables.{all, isSome, find}
 use Rattle.model.specs.WellFormed.{clockOk}
-use Rattle.model.specs.WriterRecord.{writerBytes}
 use Rattle.model.specs.Writers.{movers, trackerLate, trackerRule, acknowledgeableWith, noPlace, appends, tooMany}
 use Rattle.model.proofs.CallLaws.{told-accepts}
-use Rattle.model.proofs.Fits.{FitsGuid, FitsInstance, FitsWriter}
-use Rattle.model.proofs.GuidLaws.{length-guid}
-use Rattle.model.proofs.InstanceLaws.{length-instance}
 use Rattle.model.proofs.StateLaws.{Fitting, read-back}
 use Rattle.model.proofs.TrackerLaws.{late-number}
-use Rattle.model.proofs.WriterLaws.{length-writer}
 use Rattle.accounts.specs.Accounts.{Accounts}
 use Rattle.accounts.specs.Busy.{Ordered, lateNumber, acknowledges, allowed, busyInstance, busyTracker, busyMatch, busyExpire, busyAdmit, busyJoined, busy, inPart, busyAcknowledge, Never3, OnlyBusy, NothingElse}
 use Rattle.model.proofs.Tests.{split}
 use Rattle.accounts.proofs.Basics.{either, never}
 use Rattle.accounts.proofs.Demand3.{formed, anew, after-fresh, instances-are, writers-are}
-use Rattle.accounts.proofs.InStep.{InStep, held-fits}
+use Rattle.accounts.proofs.InStep.{InStep, laid-sizes, held-fits}
 use Rattle.accounts.proofs.Runs.{told-in, after-in}
 use Rattle.accounts.proofs.SheetLaws.{SheetFits, sheet-fits}
 use Rattle.accounts.proofs.TurnLaws.{any-lookup}
@@ -195,13 +186,7 @@ laid-lengths : (places : ℕ) (sheet : List ℕ) (st : State) (out : List ℕ) �
     lengthsOk places sheet (layOut places st out) ≡ true
 unfolding lengthsOk layOut
 laid-lengths places sheet st out f n o =
-    let pens = length-lay instanceBytes 512 FitsInstance length-instance (places * 512) (st .instances) (f .instances)
-    (mul-le-mul-right 512 (f .fewInstances)) in
-    let writers = length-lay writerBytes 40 FitsWriter (λ w q. length-writer w) 5120 (st .writers) (f .writers)
-    (omega (arith, f .fewWriters)) in
-    let lost = length-lay guidBytes 16 FitsGuid (λ g q. length-guid g) 4096 (st .lost) (f .lost)
-    (omega (arith, f .fewLost)) in
-    rw (pens, writers, lost, n, o, eq-eqb (places * 512) (places * 512) refl)
+    let s = laid-sizes places st out f in rw (s .pens, s .writers, s .lost, n, o, eq-eqb (places * 512) (places * 512) refl)
 
 settled-number : (places : ℕ) (t : Turned) (l : Lent) → settle places t l .answer .number ≡ t .answer .number
 unfolding settle

@@ -579,15 +579,10 @@ expired-are s ws acc f plain rises agree =
 
 -- ---- both counts
 
-alive-class : (c : Class) → isAliveClass c ≡ isAlive c
-alive-class alive = refl
-alive-class notAlive = refl
-alive-class neither = refl
-
-not-alive-class : (c : Class) → isNotAliveClass c ≡ isNotAlive c
-not-alive-class alive = refl
-not-alive-class notAlive = refl
-not-alive-class neither = refl
+class-tests : (c : Class) → (isAliveClass c ≡ isAlive c) × (isNotAliveClass c ≡ isNotAlive c)
+class-tests alive = (refl, refl)
+class-tests notAlive = (refl, refl)
+class-tests neither = (refl, refl)
 
 module _ (ws : List Writer) (acc : Writers) (rises : Within writerKey 0 bound ws)
     (agree : (j : ℕ) → lookup writerKey j ws ≡ acc j) where
@@ -608,11 +603,11 @@ module _ (ws : List Writer) (acc : Writers) (rises : Within writerKey 0 bound ws
 
   pub alive-are : aliveCount ws ≡ aliveAmong acc
   unfolding aliveCount aliveAmong
-  alive-are = counted isAliveClass isAlive alive-class refl
+  alive-are = counted isAliveClass isAlive (λ c. class-tests c .0) refl
 
   pub not-alive-are : notAliveCount ws ≡ notAliveAmong acc
   unfolding notAliveCount notAliveAmong
-  not-alive-are = counted isNotAliveClass isNotAlive not-alive-class refl
+  not-alive-are = counted isNotAliveClass isNotAlive (λ c. class-tests c .1) refl
 
 -- ---- a call that the writers see
 
