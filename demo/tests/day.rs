@@ -24,7 +24,7 @@ fn bad_files() {
     turned_down(&["none.txt"], 1, "none.txt: ");
     turned_down(&["src"], 1, "src: ");
     let bad = written("bad.txt", b"expire at 1s\n\npart nobody\nadmit pen from a/b\n");
-    turned_down(&[&bad], 1, "bad.txt:3: 'nobody' is no writer: write PARTICIPANT/ENTITY");
+    turned_down(&[&bad], 1, "bad.txt:3: 'nobody' is not a writer: write PARTICIPANT/ENTITY");
     turned_down(&[&bad, "log"], 1, "bad.txt:4: admit needs 'at'");
     for form in ["--csv", "--json", "--html"] {
         turned_down(&[&bad, "why", form], 1, "nothing was played");
@@ -35,7 +35,7 @@ fn bad_files() {
     turned_down(&[&written("endless.txt", &endless)], 1, "endless.txt:1: longer than 8192 bytes");
     let many = "admitt\n".repeat(1_000);
     let many = written("many.txt", many.as_bytes());
-    turned_down(&[&many], 1, "many.txt:1: 'admitt' is no call (did you mean 'admit'?)");
+    turned_down(&[&many], 1, "many.txt:1: 'admitt' is not a call (did you mean 'admit'?)");
     turned_down(&[&many], 1, "… and 980 more bad lines");
 }
 
@@ -43,8 +43,8 @@ fn bad_files() {
 fn bad_arguments() {
     turned_down(&[], 2, "usage: demo DAY");
     turned_down(&["day.txt", "explain"], 2, "explain needs a key after it");
-    turned_down(&["day.txt", "explain", "pen-99"], 1, "pen-99 never stands in day.txt");
-    turned_down(&["day.txt", "explain", "a key with blanks"], 1, "is no key");
+    turned_down(&["day.txt", "explain", "pen-99"], 1, "pen-99 does not appear in day.txt");
+    turned_down(&["day.txt", "explain", "a key with blanks"], 1, "is not a key");
     turned_down(&["day.txt", "wyh"], 2, "'wyh' is not understood here");
     turned_down(&["day.txt", "why", "--xml"], 2, "--xml is not an option: use --csv");
     turned_down(&["day.txt", "why", "--csv", "--html"], 2, "why takes one of --csv, --json");

@@ -77,7 +77,7 @@ fn the_places_are_stated_once_and_above_the_first_call() {
 fn another_number_is_a_bad_line() {
     for number in ["0", "31", "33", "64", "127", "256", "65536", "many"] {
         let day = written("places.txt", format!("# a console\nplaces {number}\n").as_bytes());
-        let says = format!("places.txt:2: '{number}' is no number of places: write 32 or 128");
+        let says = format!("places.txt:2: '{number}' is not a number of places: write 32 or 128");
         turned_down(&[&day], 1, &says);
         turned_down(&[&day, "why", "--html"], 1, "nothing was played");
     }
