@@ -17,8 +17,6 @@ FILL := sed -e 's/@VERSION@/$(VERSION)/' -e 's/@MAJOR@/$(MAJOR)/' -e 's/@MINOR@/
 
 .PHONY: dist install check stage
 
-include package/cross.mk
-
 $(LIB):
 	@echo "$(LIB) is not there: run rt staticlib dcps_c, or name it by LIB=" >&2; exit 1
 
@@ -51,3 +49,5 @@ install: stage
 check: $(LIB)
 	examples/check
 	bindings/check
+
+include package/cross.mk
