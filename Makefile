@@ -28,9 +28,7 @@ prove: ## proves every crate from nothing, tries the must-fail edits, runs the p
 	RT_JOBS="$${RT_JOBS:-4}" rt ci
 
 lib: ## the proved static library, target/staticlib/libdcps_c.a
-	rt staticlib dcps_c
-
-include package/cross.mk
+	package/staticlib
 
 $(LIB):
 	@echo "$(LIB) is not there: run make lib, or name it by LIB=" >&2; exit 1
@@ -84,3 +82,5 @@ bench: $(LIB) ## times the library and the original Rust on the same lists
 
 demo: $(LIB) ## plays a day of plotters and shows which instances have no writer (demo/README.md)
 	cd demo && cargo run --offline --quiet -- day.txt
+
+include package/cross.mk

@@ -87,8 +87,9 @@
  *     needs less than 8 KiB. Every other function needs less than 4 KiB. This is measured, not proved: examples/c/stack.c of
  *     the source fills a thread's stack with a pattern, makes every call on empty and on full states, hashes keys of many
  *     lengths, converts stamps, and looks how much of the pattern is gone.
- * Platform: Linux on x86-64, System V ABI, ELF, position-independent; no symbol but memcpy, memmove and memset is
- *     taken from elsewhere. The archive links into executables and shared objects, C, C++ and Rust.
+ * Platform: Linux on x86-64, aarch64 and riscv64, ELF, position-independent. The only symbols taken from elsewhere are memcpy,
+ *     memmove and memset. The archive links into executables and shared objects, C, C++ and Rust. INTEGRATION.md, "Platforms",
+ *     says what is proved and what is tested of each.
  * Times: a time is i32 seconds and u32 nanoseconds (below 10^9), from any epoch. Its value is seconds * 10^9 + nanoseconds. All
  *     calls and reads compare times by this value. A time before the epoch is negative: round the seconds down, and add the
  *     nanoseconds to them. So half a second before the epoch is (-1, 500000000), and one nanosecond before it is

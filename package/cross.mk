@@ -19,14 +19,14 @@ library: $(LIB)
 	@test "$$(sha256sum < $(LIB) | cut -d' ' -f1)" = "$$(cat target/module/of 2> /dev/null)" || package/staticlib >&2
 	@LIB=$(LIB) package/compile $(ARCH) $(VERSION) $(BUILT) >&2
 
-check-shared:
+check-shared: ## the shared object, its symbols, unwind tables, and machines that the header refuses
 	package/check-shared
 
-check-cross:
+check-cross: ## the packages for aarch64 and riscv64, run by qemu beside x86-64's
 	package/check-cross
 
-check-python:
+check-python: ## the Python module over the shared object
 	bindings/python/check
 
-check-reproducible:
+check-reproducible: ## a second clone gives the same archives and packages, byte for byte
 	package/check-reproducible
