@@ -21,7 +21,7 @@ FILL := sed -e 's/@VERSION@/$(VERSION)/' -e 's/@MAJOR@/$(MAJOR)/' -e 's/@MINOR@/
 .PHONY: help prove lib test judge compare bench demo dist install check stage
 
 help:
-	@sed -n 's/^\([a-z-]*\):.*## /\1\t/p' $(MAKEFILE_LIST) | expand -t 14
+	@sed -n 's/^\([a-z-]*\):.*## /\1\t/p' $(MAKEFILE_LIST) | expand -t 20
 
 # more provers than processors keep them busy, since rt waits for a whole row of them
 prove: ## proves every crate from nothing, tries the must-fail edits, runs the programs
