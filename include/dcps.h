@@ -28,22 +28,27 @@
  *     holder      the bytes that a key was made from, stored so that they can be shown
  *     new         the reader has not seen the instance since it came, or since it came back
  *     generation  how often an instance came back after it was disposed, or after its last writer left
+ *     abandoned   an instance of kind DCPS_NO_WRITERS: the last writer of its set left
  *     asserted    a writer has shown that it is alive; its lease is how long that lasts
+ *     count       in "yes: a count changed": alive or not alive of the head
  *     departed    a writer that was lost together with its participant
  *
  * Which call for which event
- *     a writer is discovered         matched
+ *     a writer is discovered         matched; an automatic writer is alive at once, any other when it is asserted
  *     a writer is deleted            part; depart, if it is lost with its participant
  *     a sample arrives               writer_asserted first, because a sample shows that its writer is alive, and admit does
  *                                    not record that. Then admit, with the key that came with the sample, or else the key
  *                                    from dcps_key_hash. Then note_writer, if the outcome is 1, 2 or 4 and the instance is
- *                                    alive
+ *                                    alive. If it has no writers, and must not be shown so while this one writes it:
+ *                                    ensure_registered_limited, then note_writer
  *     a participant is heard from    participant_asserted
  *     a writer disposes an instance  observe_lifecycle, which answers the handle and counts 1 sample; then dispose
  *     a writer unregisters one       unregister_writer, then release_owner_of; neither of them, if the key is unknown
- *     you want one of its instances  dcps_writer_lookup: the first alive one in the order of the keys
- *     time passes                    lapse, at the latest at the time that its last answer has as next due; take_lost before
- *                                    lost has 256 entries; autopurge, to remove instances that are not alive
+ *     you want a writer's instance   dcps_writer_lookup: the first alive one in the order of the keys
+ *     time passes                    lapse, at fixed intervals, or at the time that its last answer has as next due. Matched
+ *                                    and assertions can make that time earlier, and do not answer it: call lapse after a
+ *                                    matched too. take_lost before lost has 256 entries; autopurge, to remove instances
+ *                                    that are not alive
  *     samples are taken or seen      note_taken, mark_view_seen
  *     the status is asked for        take_status, or dcps_status
  *     The other calls are parts of these, for callers that decide more by themselves. docs/INTEGRATION.md (in the package
@@ -78,6 +83,9 @@
  *     wrong. If you persist the state (in a file, in shared memory, in battery-backed memory), make each call on a copy, and
  *     switch to the copy after the answer. examples/c/dcps_keep.h (in the package share/dcps/examples) does that with two
  *     slots.
+ *     After a restart the clock has to go on from where the stored state's clock was. If it starts again at 0, assertions come
+ *     too early to count. And nobody was heard while you were down: call writer_asserted for each writer that is alive in
+ *     the state before the first lapse, unless its lease is to count through.
  *
  * Alignment: no pointer needs any.
  * Byte order: numbers in the head, the sheet, the buffers, out and answers have their most significant byte first. Bits are
@@ -130,8 +138,8 @@ extern "C" {
  *
  * Stored states: a state has no version number in it. If a version changes the layout of a state, it refuses every state of
  * the older layout as 3, and CHANGELOG.md says how to convert it. A stored state is never read as if it had another layout.
- * So pass a stored state to a call: if it is not refused as 3, it needs no conversion. The last change was in 0.3.0, in the
- * head ("the head" below). */
+ * So pass a stored state to acknowledge with 0 and 0, which changes nothing: if it is not refused as 3, it needs no
+ * conversion. The last change was in 0.3.0, in the head ("the head" below). */
 
 #define DCPS_VERSION "0.3.0"
 #define DCPS_VERSION_MAJOR 0
@@ -173,9 +181,9 @@ extern "C" {
  * in which order:
  *
  *     number   tested after
- *     1        nothing; but 3 for the head's number of places comes before another length than the head's
+ *     1        nothing: the head's length first; then its number of places, as 3; then the other lengths
  *     2        1
- *     3        1 and 2; for the head's number of places 1 for the head's length alone
+ *     3        1 and 2, but for the head's number of places
  *     4 to 13  all lower ones
  *     14       15
  *     15       1 */
@@ -191,7 +199,7 @@ enum dcps_refusal {
     DCPS_REFUSED_KIND = 7,        /* matched with kind 3 */
     DCPS_REFUSED_ACKNOWLEDGE = 8, /* a count less its change would then be below -2^30 or above 2^30 */
     DCPS_REFUSED_INSTANCES = 9,   /* the instance is new, and all places are taken: 32 or 128, as the head says */
-    DCPS_REFUSED_SET = 10,        /* the writer is new to the instance, and the instance's set has 16 */
+    DCPS_REFUSED_SET = 10,        /* the writer is new to the instance, and the instance's set has 16: remember it yourself */
     DCPS_REFUSED_WRITERS = 11,    /* the GUID is new, and there are 128 writer records, departed ones included: see code 34 */
     DCPS_REFUSED_LOST = 12,       /* more writers expire than there is room for in lost: call take_lost first */
     DCPS_REFUSED_HANDLES = 13,    /* the instance is new, and the next handle is 2^63 */
@@ -226,7 +234,8 @@ enum dcps_standing {
 enum dcps_outcome {
     DCPS_ADMITTED = 0,
     DCPS_OUT_OF_ORDER = 1, /* the order is by source, and time 1 is not later than last delivered */
-    DCPS_FILTERED = 2,     /* time 2 is less than the separation after the last time of the filter; an earlier one is let in */
+    DCPS_FILTERED = 2,     /* time 2 is less than the separation after the last time of the filter. A sample whose time 2 is
+                            * before that last time is let in */
     DCPS_AT_LIMIT = 3,     /* the instance is new, and there are as many instances as the limit, or more */
     DCPS_NOT_OWNER = 4     /* another writer owns the instance, and this one does not take over */
 };
@@ -242,7 +251,8 @@ enum dcps_view { DCPS_VIEW_NEW = 1, DCPS_VIEW_NOT_NEW = 2, DCPS_VIEW_ANY = 3 };
 #define DCPS_SHEET_KEY 0     /* 16: the instance */
 #define DCPS_SHEET_GUID 16   /* 16: the writer; a prefix is its first 12 */
 #define DCPS_SHEET_HANDLE 32 /* u64: the instance, where a call goes by handle */
-#define DCPS_SHEET_TIME_1 40 /* i32 seconds, u32 nanoseconds ("Times" above): when the sample was written, by its source */
+#define DCPS_SHEET_TIME_1 40 /* i32 seconds, u32 nanoseconds ("Times" above): when the sample was written, by its source. In
+                              * calls that take writers out: now */
 #define DCPS_SHEET_TIME_2 48 /* i32 seconds, u32 nanoseconds: now, also for the filter */
 #define DCPS_SHEET_A 56      /* u64 nanoseconds: separation, disposed delay or clock */
 #define DCPS_SHEET_B 64      /* u64 nanoseconds: deadline, no-writers delay or lease */
@@ -319,7 +329,7 @@ enum dcps_code {
 
     /* drop_writer: the writer leaves the sets of all instances. An alive instance whose last writer it was becomes one without
      * writers.
-     * Uses: guid, [time 1: last sample and no_writers_at of these]. Answers: listed.
+     * Uses: guid, [time 1: now, stored as last sample and no_writers_at of these]. Answers: listed.
      * Out: their handles, u64 each, in the order of the keys. Refused: 4. */
     DCPS_CODE_DROP_WRITER = 7,
 
@@ -403,8 +413,8 @@ enum dcps_code {
     DCPS_CODE_UNMATCHED = 33,
 
     /* lost_with_participant: removes the record of an unasserted writer. An alive or not alive writer becomes departed. A
-     * departed record keeps its place until its GUID is matched again. To free the place, call matched with a kind that is
-     * not automatic, and then unmatched.
+     * departed record keeps its place, and counts as not alive, until its GUID is matched again. To free the place, when you
+     * have reported the loss, call matched with a kind that is not automatic, and then unmatched.
      * Uses: guid. Answers: yes: a count changed. */
     DCPS_CODE_LOST_WITH_PARTICIPANT = 34,
 
@@ -441,8 +451,9 @@ enum dcps_code {
      * Uses: limit (off alive change), strength (off not alive change). Answers: nothing. Refused: 8. */
     DCPS_CODE_ACKNOWLEDGE = 40,
 
-    /* admit: all that a received sample does to its instance. It does nothing to liveliness, so call writer_asserted before
-     * it. The steps, in this order; the first that fails ends the call, and nothing is changed:
+    /* admit: all that a received sample does to its instance. It does nothing to liveliness and renews no lease, so call
+     * writer_asserted before it. It takes the samples of any writer: one that was never matched has no lease, and stays in the
+     * set until part or depart. The steps, in this order; the first that fails ends the call, and nothing is changed:
      *   1. Refusals 4 and 6.
      *   2. Order: if the by-source bit is set, time 1 must be later than last delivered. Else outcome 1.
      *   3. Filter: time 2 must be earlier than the last time of the filter, or A or more after it. Else outcome 2.
@@ -459,6 +470,8 @@ enum dcps_code {
     DCPS_CODE_ADMIT = 48,
 
     /* lapse: expire, and then drop_writer and clear_owner_for_writer for each writer that expired in this call, and no other.
+     * A writer without a lease never expires, nor does one that is not alive. A writer that expired and is alive again is back
+     * in the set of an instance with its next sample of that instance.
      * Uses: A (clock), [time 1: as in drop_writer]. Answers: yes, next due present, next due: as expire; listed; count:
      * owners cleared. Out: the handles of all instances left without a writer, u64 each, in the order of the keys.
      * Refused: 4, 5, 12. */
@@ -469,7 +482,7 @@ enum dcps_code {
     DCPS_CODE_PART = 50,
 
     /* depart: lost_with_participant, and then drop_writer and clear_owner_for_writer. Call it once for each writer of the lost
-     * participant. It does not add the writer to lost.
+     * participant: those with its prefix, in writers and in the sets of pens. It does not add the writer to lost.
      * Uses: guid, [time 1]. Answers: yes: as lost_with_participant; listed; count. Out: as lapse. Refused: 4. */
     DCPS_CODE_DEPART = 51
 };

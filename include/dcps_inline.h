@@ -481,9 +481,10 @@ static inline void dcps_sheet_acknowledge(uint8_t *sheet, int32_t alive_change, 
 
 /* A received sample, and what the reader's QoS asks of it. dcps_sample_of sets the defaults: no order by source, no filter, no
  * limit, no deadline, strength 0.
- * Ownership is always exclusive. The writer of the sample that starts an instance owns it. Of two writers of equal strength the
- * one with the lower GUID takes the instance over, and the samples of the other one are then turned away (outcome 4).
- * On a SHARED topic let `deadline` point to 0, and never let `filter` go back: then every writer takes over. */
+ * Every sample asks for ownership. The writer of the sample that starts an instance owns it. Of two writers of equal strength
+ * the one with the lower GUID takes the instance over, and the samples of the other one are then turned away (outcome 4).
+ * On a SHARED topic let `deadline` point to 0, and never let `filter` go back: then every writer takes over. `filter` is your
+ * own present time; dcps_sample_of takes the sample's time for it, so set it where writers have clocks of their own. */
 struct dcps_sample {
     uint8_t key[DCPS_KEY_BYTES];
     uint8_t writer[DCPS_GUID_BYTES];
