@@ -38,8 +38,9 @@ returns : tie.Need-returns Inv-loop μ-loop
 returns c =
     let s = c .before .before .before .before .before .before in
     let l = c .before .before .before .before .loop in
-    place-table _ _ (writes (s .args .g)) _ (l .place) (s .pre .1) (l .inv .0) (l .inv .1)
-    (λ m. part-told (writes (s .args .g)) _ (l .place) _ (c .before .writes .ensures) ∙ c .if1 .taken)
+    let found = l .place in
+    place-table _ _ (writes (s .args .g)) _ found (s .pre .1) (omega (arith, l .inv .0)) (l .inv .1)
+    (λ m. part-told (writes (s .args .g)) _ found _ (c .before .writes .ensures) ∙ c .if1 .taken)
 
 loop-again : tie.Need-loop-again Inv-loop μ-loop
 loop-again c =
