@@ -100,19 +100,18 @@ reach-is : (c : InstanceCall) (s : Sheet) (x : Instance) → reaches c s x ≡ r
 reach-is c s x = read c .way s x
 
 -- a call that may start an instance reaches by key
+starting : (r : Reach) (s : Sheet) → startsBy r ≡ true → reachesBy r s ≡ hasKey (s .key)
+starting byKey s e = refl
+starting startingByKey s e = refl
+starting startingWithin s e = refl
+starting byHandle s e = never (sym e)
+starting every s e = never (sym e)
+
 starting-reach : (r : Reach) (s : Sheet) (x : Instance) → startsBy r ≡ true → reachesBy r s x ≡ hasKey (s .key) x
-starting-reach byKey s x e = refl
-starting-reach startingByKey s x e = refl
-starting-reach startingWithin s x e = refl
-starting-reach byHandle s x e = never (sym e)
-starting-reach every s x e = never (sym e)
+starting-reach r s x e = ap (λ (p : Instance → Bool). p x) (starting r s e)
 
 starting-find : (r : Reach) (s : Sheet) (xs : List Instance) → startsBy r ≡ true → find (reachesBy r s) xs ≡ lookup instanceKey (num (s .key)) xs
-starting-find byKey s xs e = refl
-starting-find startingByKey s xs e = refl
-starting-find startingWithin s xs e = refl
-starting-find byHandle s xs e = never (sym e)
-starting-find every s xs e = never (sym e)
+starting-find r s xs e = ap (λ (p : Instance → Bool). find p xs) (starting r s e)
 
 starting-one : (r : Reach) → startsBy r ≡ true → isEvery r ≡ false
 starting-one byKey e = refl

@@ -52,23 +52,17 @@ use Rattle.accounts.proofs.TurnLaws.{any-lookup}
 use Rattle.accounts.proofs.WriterSound.{all-plain}
 use Rattle.accounts.proofs.WriterTurns.{only-expire, expired-are}
 
--- ---- accepted calls answer 0
-
-turn-accepted : (c : InstanceCall) (s : Sheet) (st : State) → instanceTurn c s st .answer .number ≡ 0
-unfolding instanceTurn
-turn-accepted c s st = told-accepts c s _ _
-
 -- ---- the number of a turn, from the state
 
 instance-number : (places : ℕ) (c : InstanceCall) (s : Sheet) (st : State) →
     instanceCall places c s st .answer .number ≡ cond (limitedBy (rule c .reach) && atLimit s st) 0
     (lateRefusal places c s st)
-unfolding instanceCall
+unfolding instanceCall instanceTurn
 instance-number places c s st =
     split (limitedBy (rule c .reach) && atLimit s st)
     (λ l. rw l)
     (λ l. split (eqb (lateRefusal places c s st) 0)
-    (λ e. rw (l, e) (turn-accepted c s st ∙ sym (eqb-true (lateRefusal places c s st) 0 e)))
+    (λ e. rw (l, e) (told-accepts c s _ _ ∙ sym (eqb-true (lateRefusal places c s st) 0 e)))
     (λ e. rw (l, e)))
 
 loss-number : (c : TrackerCall) (gs : List Guid) (s : Sheet) (st : State) →
@@ -245,34 +239,31 @@ link p b n m e q = either (Passes p) b n m (λ d. record { is = e }) (λ d. q)
 zero-late : Passes lateNumber 0
 zero-late = record { is = refl }
 
-late-link : (b : Bool) (n m : ℕ) → lateNumber n ≡ true → Passes lateNumber m → Passes lateNumber (cond b n m)
-late-link b n m e q = link lateNumber b n m e q
-
 tracker-late : (c : TrackerCall) (s : Sheet) (st : State) → Passes lateNumber (trackerLate c s st)
 tracker-late c s st =
-    late-link (trackerRule c .matches && noPlace s st) 11 _ refl
-    (late-link (appends (trackerRule c .lost) && tooMany (movers c s (st .writers)) st) 12 0 refl zero-late)
+    link lateNumber (trackerRule c .matches && noPlace s st) 11 _ refl
+    (link lateNumber (appends (trackerRule c .lost) && tooMany (movers c s (st .writers)) st) 12 0 refl zero-late)
 
 instance-late : (places : ℕ) (c : InstanceCall) (s : Sheet) (st : State) →
     Passes lateNumber (instanceCall places c s st .answer .number)
 unfolding lateRefusal
 instance-late places c s st =
     subst (Passes lateNumber) (sym (instance-number places c s st))
-    (late-link (limitedBy (rule c .reach) && atLimit s st) 0 _ refl
-    (late-link (begins c s st && full places st) 9 _ refl
-    (late-link (begins c s st && spent st) 13 _ refl
-    (late-link (rule c .«adds_writer» && crowds s (reached c s (st .instances))) 10 0 refl zero-late))))
+    (link lateNumber (limitedBy (rule c .reach) && atLimit s st) 0 _ refl
+    (link lateNumber (begins c s st && full places st) 9 _ refl
+    (link lateNumber (begins c s st && spent st) 13 _ refl
+    (link lateNumber (rule c .«adds_writer» && crowds s (reached c s (st .instances))) 10 0 refl zero-late))))
 
 admit-late : (places : ℕ) (s : Sheet) (st : State) (x : Option Instance) →
     Passes lateNumber (admitWith places s st x .answer .number)
 admit-late places s st x =
     subst (Passes lateNumber) (sym (admit-number places s st x))
-    (late-link (not (inOrder s x)) 0 _ refl
-    (late-link (not (passesFilter s x)) 0 _ refl
-    (late-link (atLimit s st) 0 _ refl
-    (late-link (not (known s st) && full places st) 9 _ refl
-    (late-link (not (known s st) && spent st) 13 _ refl
-    (late-link (crowds s x) 10 0 refl zero-late))))))
+    (link lateNumber (not (inOrder s x)) 0 _ refl
+    (link lateNumber (not (passesFilter s x)) 0 _ refl
+    (link lateNumber (atLimit s st) 0 _ refl
+    (link lateNumber (not (known s st) && full places st) 9 _ refl
+    (link lateNumber (not (known s st) && spent st) 13 _ refl
+    (link lateNumber (crowds s x) 10 0 refl zero-late))))))
 
 loss-late : (c : TrackerCall) (gs : List Guid) (s : Sheet) (st : State) →
     Passes lateNumber (lossCall c gs s st .answer .number)
