@@ -1,4 +1,4 @@
-"""The module held to the recorded lists (docs/LISTS.md) and to the header."""
+"""The module held to the recorded lists (docs/evidence/LISTS.md) and to the header."""
 
 import ctypes
 import doctest

@@ -1,5 +1,5 @@
-/* Replays the recorded lists (docs/LISTS.md of the source) from standard input through dcps_call: a line for each disagreement,
- * then how many calls there were and how many disagreed. */
+/* Replays the recorded lists (docs/evidence/LISTS.md of the source) from standard input through dcps_call: a line for each
+ * disagreement, then how many calls there were and how many disagreed. */
 #include <stdio.h>
 #include <stdlib.h>
 
