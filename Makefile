@@ -70,7 +70,7 @@ judge: $(LIB)
 	cd oracle && cargo test --offline --quiet
 
 COMPARE := cd oracle && cargo run --release --offline --quiet -p compare --
-compare: $(LIB) ## the library beside the original Rust: calls, keys, times, lookups, figures
+compare: $(LIB) ## the library beside the original Rust: calls, keys, times, lookups, numbers of places
 	$(COMPARE) 1 100000
 	$(COMPARE) keys 1 100000
 	$(COMPARE) times 1 2000000

@@ -471,7 +471,7 @@ enum dcps_code {
 
     /* lapse: expire, and then drop_writer and clear_owner_for_writer for each writer that expired in this call, and no other.
      * A writer without a lease never expires, nor does one that is not alive. A writer that expired and is alive again is back
-     * in the set of an instance with its next sample of that instance.
+     * in the set of an instance with its next sample of that instance that is admitted, or noted by note_writer.
      * Uses: A (clock), [time 1: as in drop_writer]. Answers: yes, next due present, next due: as expire; listed; count:
      * owners cleared. Out: the handles of all instances left without a writer, u64 each, in the order of the keys.
      * Refused: 4, 5, 12. */
