@@ -28,7 +28,7 @@
  *     holder      the bytes that a key was made from, stored so that they can be shown
  *     new         the reader has not seen the instance since it came, or since it came back
  *     generation  how often an instance came back after it was disposed, or after its last writer left
- *     abandoned   an instance of kind DCPS_NO_WRITERS: the last writer of its set left
+ *     abandoned   an instance of kind DCPS_NO_WRITERS: the last writer of its set left, or unregister counted the last one off
  *     asserted    a writer has shown that it is alive; its lease is how long that lasts
  *     count       in "yes: a count changed": alive or not alive of the head
  *     departed    a writer that was lost together with its participant
@@ -42,7 +42,8 @@
  *                                    alive. If it has no writers, and must not be shown so while this one writes it:
  *                                    ensure_registered_limited, then note_writer
  *     a participant is heard from    participant_asserted
- *     a writer disposes an instance  observe_lifecycle, which answers the handle and counts 1 sample; then dispose
+ *     a writer disposes an instance  under exclusive ownership accept_under_exclusive_ownership first; stop if it says no. Then
+ *                                    observe_lifecycle, which answers the handle and counts 1 sample; then dispose
  *     a writer unregisters one       unregister_writer, then release_owner_of; neither of them, if the key is unknown
  *     you want a writer's instance   dcps_writer_lookup: the first alive one in the order of the keys
  *     time passes                    lapse, at fixed intervals, or at the time that its last answer has as next due. Matched
@@ -59,9 +60,10 @@
  *     You can pass any bytes of any length to every function. It returns 0, or a number of enum dcps_refusal if it refuses.
  *     That number is also byte 0 of the answer. On a refusal the answer gets the number and zeros, and nothing else is
  *     written. If the length of the answer is wrong, nothing at all is written.
- *     A wrong length is refused as 1, with two exceptions. The length of a serialized key is judged by 15 and 14. And a head
- *     of 64 bytes whose number of places is neither 32 nor 128 is refused as 3 before any other length is looked at. Pens has
- *     to have 512 bytes for each place of the head.
+ *     A wrong length is refused as 1, with three exceptions. The length of a serialized key is judged by 15 and 14. A head of
+ *     64 bytes whose number of places is neither 32 nor 128 is refused as 3 before any other length is looked at. And
+ *     dcps_holder_in_force refuses no pens: it then answers that nothing is stored. Pens has to have 512 bytes for each place
+ *     of the head.
  *     A function writes only within the lengths that it is given, and it always returns. What it writes is what the
  *     definitions say: crates/model/specs of the source; for keys crates/key_hash/specs and crates/md5/specs; for wire time
  *     crates/wire_time/specs. This is proved for the source, not for the compiler that made the library. dcps_fresh has no
@@ -115,10 +117,10 @@
 #include <stdint.h>
 
 #if defined(__SIZEOF_SIZE_T__) && __SIZEOF_SIZE_T__ != 8
-#error "dcps: size_t has to have 64 bits, as the library takes its lengths so; see Platforms in INTEGRATION.md"
+#error "dcps: size_t has to have 64 bits, because the library takes 64-bit lengths; see Platforms in INTEGRATION.md"
 #endif
 #if defined(__BYTE_ORDER__) && __BYTE_ORDER__ != __ORDER_LITTLE_ENDIAN__
-#error "dcps: the machine has to be little-endian, as the library is proved for such a one; see Platforms in INTEGRATION.md"
+#error "dcps: the machine has to be little-endian, because the library is proved for such machines; see Platforms in INTEGRATION.md"
 #endif
 
 #ifdef __cplusplus
@@ -413,7 +415,7 @@ enum dcps_code {
     DCPS_CODE_UNMATCHED = 33,
 
     /* lost_with_participant: removes the record of an unasserted writer. An alive or not alive writer becomes departed. A
-     * departed record keeps its place, and counts as not alive, until its GUID is matched again. To free the place, when you
+     * departed record keeps its place, and counts as not alive, at least until its GUID is matched again. To free the place, when you
      * have reported the loss, call matched with a kind that is not automatic, and then unmatched.
      * Uses: guid. Answers: yes: a count changed. */
     DCPS_CODE_LOST_WITH_PARTICIPANT = 34,
@@ -453,7 +455,7 @@ enum dcps_code {
 
     /* admit: all that a received sample does to its instance. It does nothing to liveliness and renews no lease, so call
      * writer_asserted before it. It takes the samples of any writer: one that was never matched has no lease, and stays in the
-     * set until part or depart. The steps, in this order; the first that fails ends the call, and nothing is changed:
+     * set until part, depart, drop_writer or unregister_writer takes it out. The steps, in this order; the first that fails ends the call, and nothing is changed:
      *   1. Refusals 4 and 6.
      *   2. Order: if the by-source bit is set, time 1 must be later than last delivered. Else outcome 1.
      *   3. Filter: time 2 must be earlier than the last time of the filter, or A or more after it. Else outcome 2.
@@ -650,7 +652,7 @@ uint32_t dcps_changes(const uint8_t *head, size_t head_len, uint8_t *answer, siz
 /* The reads of instances take pens alone, without a head. Pens has either length, 16,384 or 65,536 bytes. The used records are
  * those before the first one whose handle is 0. Refusal 3 is about pens alone. A key or a GUID is passed as two numbers: high
  * is its first 8 bytes, low its last 8. A list of GUIDs has a multiple of 16 bytes, 4096 at most; another length is refused as
- * 1. Each of these reads can be refused as 1 and 3, and those with a time as 4 too. */
+ * 1. Each of these reads but dcps_holder_in_force can be refused as 1 and 3, and those with a time as 4 too. */
 
 /* yes: the time-based filter (DDS 1.4, 2.2.3.12) lets a sample of the key in, as in admit. It also lets it in if the key is
  * unknown or has no last time. Times before the epoch count as any other, here and in the next read. */

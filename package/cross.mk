@@ -6,7 +6,7 @@
 #                             and the header refuses a 32-bit or big-endian machine
 #   make check-cross          the packages for aarch64 and riscv64, run by qemu-user beside x86-64's
 #   make check-python         the Python module over the shared object
-#   make check-reproducible   a second clone gives the same archives and packages, byte for byte
+#   make check-reproducible   a second clone compiles the library again: the same archives and packages, byte for byte
 
 BUILT := target/library/$(ARCH)
 SONAME := libdcps.so.$(MAJOR).$(MINOR)
@@ -28,5 +28,5 @@ check-cross: ## the packages for aarch64 and riscv64, run by qemu beside x86-64'
 check-python: ## the Python module over the shared object
 	bindings/python/check
 
-check-reproducible: ## a second clone gives the same archives and packages, byte for byte
+check-reproducible: ## a second clone compiles the library again: the same archives and packages
 	package/check-reproducible

@@ -8,6 +8,5 @@ use Rattle.boundary_reads.specs.ReadAnswers.{AnswerTold, toldBytes}
 unfoldable pub keyHashBytes : KeyHashed → List ℕ
 keyHashBytes k = fields (1 ∷ 7 ∷ []) (k .number ∷ 0 ∷ []) ++ k .hash
 
--- the answer's length belongs to refusal 1
 unfoldable pub toldKeyHash : KeyHashed → List ℕ → AnswerTold
 toldKeyHash k answer = toldBytes (k .number) (keyHashBytes k) answer

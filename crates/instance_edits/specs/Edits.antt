@@ -5,7 +5,7 @@
 --     withStrength       an owner's strength replaced
 --     unsettled          a record whose set was replaced and whose flags were not
 --     emptiedTo          the set o is the first empty one of an alive instance
---     settled            what is left with the set o
+--     settledIf, settled what is left with the set o
 --     OwnerCleared, StrengthPut, WriterlessLeft, Settled
 --                        what an edit makes of the bytes r of an instance, whichever it is: the bytes s
 use Prim.Native.Nat.{ℕ, _+_, _<_}

@@ -3,7 +3,7 @@
 --     total                         the sum of the amounts
 --     UsableIn, RisesIn             an instance that the steps can take; its writers rise
 --     Editable                      a table over which a pass may run
---     keptAt, withTold              a table where what is left of an instance is written; a tally with one instance more
+--     keptAt, withTold              a table where what is left of an instance is written; the counts with one instance more
 --     Ahead, TookOne                one record of a pass: what it asks, what it leaves
 --     Untouched, Spared             it was left alone
 --     EditedAt                      it was changed where it stands
@@ -75,7 +75,7 @@ abbrev pub keptAt : List ℕ → ℕ → Option Instance → List ℕ
 keptAt t k none = t
 keptAt t k (some y) = patch t (k * instanceSize) instanceSize (instanceBytes y)
 
--- the tally with one instance more, of which r is told
+-- the counts with one instance more, of which r is told
 abbrev pub withTold : PassCounts → Told → PassCounts
 withTold c r = record { kept = c .kept + 1; listed = c .listed + bit (r .left); counted = c .counted + bit (r .cleared) }
 
@@ -88,7 +88,7 @@ pub record Ahead (t out : List ℕ) (i : ℕ) (c : PassCounts) : Type 0 where
   pub listed : c .listed ≤ i
   pub counted : c .counted ≤ i * 256
 
--- from the table t, Out and the tally so far to those behind the instance x
+-- from the table t, Out and the counts so far to those behind the instance x
 pub record TookOne (a : Act) (x : Instance) (t out : List ℕ) (c : PassCounts) (t′ out′ : List ℕ) (c′ : PassCounts) : Type 0 where
   pub table : t′ ≡ keptAt t (c .kept) (remaining a x)
   pub list : out′ ≡ cond (listing a x) (put 8 out (c .listed * 8) (x .handle .0)) out

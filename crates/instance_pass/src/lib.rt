@@ -91,7 +91,7 @@ fn span_of(gone: &[u8]) -> Span
     }
 }
 
-// The tally with one instance more, which stays.
+// The counts with one instance more, which stays.
 fn with_told(c: PassCounts, r: Told) -> PassCounts
     requires { ⌜ (c .kept < 128) × (c .listed < 128) × (c .counted ≤ 32768) ⌝ }
     ensures { λ t. ⌜ t ≡ withTold c r ⌝ }
@@ -352,7 +352,7 @@ fn call_pass(pens: &mut [u8], out: &mut [u8], count: usize, c: InstanceCall, s: 
     }
 }
 
-// What a call answers, from the tally of its pass.
+// What a call answers, from the counts of its pass.
 fn answered(k: Report, t: PassCounts) -> Answer
     requires { ⌜ (t .listed ≤ 128) × (t .counted ≤ 32768) ⌝ }
     ensures { λ r. ⌜ r ≡ answerAs k (t .listed) (t .counted) ⌝ }
