@@ -415,8 +415,8 @@ enum dcps_code {
     DCPS_CODE_UNMATCHED = 33,
 
     /* lost_with_participant: removes the record of an unasserted writer. An alive or not alive writer becomes departed. A
-     * departed record keeps its place, and counts as not alive, at least until its GUID is matched again. To free the place, when you
-     * have reported the loss, call matched with a kind that is not automatic, and then unmatched.
+     * departed record keeps its place, and counts as not alive, at least until its GUID is matched again. To free the place,
+     * when you have reported the loss, call matched with a kind that is not automatic, and then unmatched.
      * Uses: guid. Answers: yes: a count changed. */
     DCPS_CODE_LOST_WITH_PARTICIPANT = 34,
 
@@ -454,8 +454,9 @@ enum dcps_code {
     DCPS_CODE_ACKNOWLEDGE = 40,
 
     /* admit: all that a received sample does to its instance. It does nothing to liveliness and renews no lease, so call
-     * writer_asserted before it. It takes the samples of any writer: one that was never matched has no lease, and stays in the
-     * set until part, depart, drop_writer or unregister_writer takes it out. The steps, in this order; the first that fails ends the call, and nothing is changed:
+     * writer_asserted before it. It takes the samples of any writer: one that was never matched has no lease, and stays in
+     * the set until part, depart, drop_writer or unregister_writer takes it out. The steps, in this order; the first that
+     * fails ends the call, and nothing is changed:
      *   1. Refusals 4 and 6.
      *   2. Order: if the by-source bit is set, time 1 must be later than last delivered. Else outcome 1.
      *   3. Filter: time 2 must be earlier than the last time of the filter, or A or more after it. Else outcome 2.
