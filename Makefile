@@ -44,11 +44,12 @@ stage: library
 	$(FILL) package/dcps-shared.pc.in > $(STAGE)/lib/pkgconfig/dcps-shared.pc
 	cp package/dcps-config.cmake $(STAGE)/lib/cmake/dcps
 	$(FILL) package/dcps-config-version.cmake.in > $(STAGE)/lib/cmake/dcps/dcps-config-version.cmake
-	cp NOTICE LICENSE CHANGELOG.md SECURITY.md dcps.spdx docs/INTEGRATION.md $(STAGE)/share/doc/dcps
+	cp NOTICE LICENSE dcps.spdx $(STAGE)/share/doc/dcps
 	cp docs/pictures/instance.svg docs/pictures/writer.svg docs/pictures/record.svg $(STAGE)/share/doc/dcps/pictures
 	cp examples/c/console.c examples/c/day.txt examples/c/dcps_keep.h $(STAGE)/share/dcps/examples
 	cp examples/cyclonedds/feed.h examples/cyclonedds/recipes.c $(STAGE)/share/dcps/examples
 	cp bindings/python/dcps.py $(STAGE)/share/dcps
+	package/documents $(STAGE)
 
 dist: stage ## the package for C, target/dist/dcps-VERSION-x86_64-linux.tar.gz
 	cd $(STAGE) && find . -type f ! -name SHA256SUMS | LC_ALL=C sort | xargs sha256sum > SHA256SUMS

@@ -286,6 +286,8 @@ class WriterState:
 
 # ---- the library
 
+VERSION = 0, 3
+
 # What each function takes: L a pointer with its length, N a size_t, the others numbers as struct has them.
 _TAKES = {
     "version": "", "call": "LLLLLLL", "fresh": "LLLL", "status": "LL", "changes": "LL",
@@ -358,6 +360,15 @@ def version() -> Tuple[int, int, int]:
     return number >> 16, number >> 8 & 0xFF, number & 0xFF
 
 
+def _same_version(found: Tuple[int, int, int]) -> None:
+    """Another minor version may lay the bytes out otherwise."""
+    if found[:2] != VERSION:
+        raise ImportError(f"dcps.py is for libdcps {VERSION[0]}.{VERSION[1]}, not for {found[0]}.{found[1]}")
+
+
+_same_version(version())
+
+
 def key_hash(serialized: bytes, largest: int) -> bytes:
     """The KeyHash of a serialized key (DDSI-RTPS 2.5, 9.6.4.8) of a type whose keys have `largest` bytes at most. Refused as 15,
     then 14.
@@ -405,6 +416,14 @@ def _nanos(nanoseconds: Optional[int]) -> int:
     return min(nanoseconds or 0, NEVER)
 
 
+def _strength(code: int, number: int) -> int:
+    """In 32 bits: how many samples in note_taken and drain_samples, else a number with a sign."""
+    low, high = (0, 2**32) if code in (12, 15) else (-2**31, 2**31)
+    if not low <= number < high:
+        raise OverflowError(f"{number} does not fit the strength of code {code}")
+    return number & 0xFFFFFFFF
+
+
 def sheet(code: int, *, key: bytes = bytes(16), guid: bytes = bytes(16), handle: int = 0, time_1: Optional[Time] = None,
           time_2: Time = Time(0), a: Optional[int] = None, b: Optional[int] = None, limit: int = 0, strength: int = 0,
           bits: int = 0, holder: Optional[bytes] = None) -> bytes:
@@ -417,7 +436,7 @@ def sheet(code: int, *, key: bytes = bytes(16), guid: bytes = bytes(16), handle:
     length = len(holder or b"")
     stored = (holder or b"") if length <= HOLDER_PLACES else b""
     return _SHEET.pack(_exactly(key, 16), _exactly(guid, 16), handle, *(time_1 or Time(0)), *time_2, _nanos(a), _nanos(b), limit,
-                       strength & 0xFFFFFFFF, bits, code, min(length, 0xFFFF), stored)
+                       _strength(code, strength), bits, code, min(length, 0xFFFF), stored)
 
 
 def _optional(bit: int, value: Optional[int]) -> int:
@@ -457,7 +476,8 @@ class State:
 
     @staticmethod
     def from_parts(head: bytes, pens: bytes, writers: bytes, lost: bytes) -> State:
-        """The state of the bytes that another one gave by `parts`; refused as 1 or 3 where they are none."""
+        """The state of the bytes that another one gave by `parts`; refused as 1 or 3 for pens and contents; ValueError for
+        another wrong length."""
         state = State.__new__(State)
         state._lend(len(pens))
         state._head.raw, state._pens.raw = _exactly(head, HEAD_BYTES), pens
@@ -585,8 +605,8 @@ class State:
     # -- calls on the writers: codes 32 to 40
 
     def matched(self, writer: bytes, kind: LivelinessKind, lease: Optional[int], now: int) -> bool:
-        """A writer matched; whether a count moved. Refused as 5 or 11."""
-        return self.raw_call(sheet(32, guid=writer, a=now, b=lease, bits=kind | _optional(BIT_LEASE, lease))).yes
+        """A writer matched; whether a count moved. Refused as 5 or 11; ValueError for a kind that is none."""
+        return self.raw_call(sheet(32, guid=writer, a=now, b=lease, bits=LivelinessKind(kind) | _optional(BIT_LEASE, lease))).yes
 
     def unmatched(self, writer: bytes) -> bool:
         """A writer was deleted; whether a count moved."""

@@ -239,6 +239,9 @@ class Header(unittest.TestCase):
 
     def test_version(self) -> None:
         self.assertEqual(dcps.version(), tuple(self.values[f"VERSION_{part}"] for part in ("MAJOR", "MINOR", "PATCH")))
+        self.assertEqual(dcps.version()[:2], dcps.VERSION)
+        for other in (0, 2, 9), (0, 4, 0), (1, 3, 0):
+            self.assertRaises(ImportError, dcps._same_version, other)
 
 
 class Reads(unittest.TestCase):
@@ -286,6 +289,31 @@ class Reads(unittest.TestCase):
         self.assertRaises(Refused, dcps.key_hash, b"abc", 2)
         self.assertRaises(OverflowError, dcps.wire_fraction, 2**32)
         self.assertRaises(ValueError, self.state.register, b"short")
+
+    def test_lengths(self) -> None:
+        head, pens, writers, lost = self.state.parts()
+        with self.assertRaises(Refused) as refused:
+            State.from_parts(head, pens[1:], writers, lost)
+        self.assertEqual(refused.exception.number, 1)
+        for parts in (head[1:], pens, writers, lost), (head, pens, writers[1:], lost), (head, pens, writers, lost[1:]):
+            self.assertRaises(ValueError, State.from_parts, *parts)
+
+    def test_numbers(self) -> None:
+        s, before = self.state, self.state.parts()
+        for strength in -2**31 - 1, 2**31:
+            self.assertRaises(OverflowError, s.update_owner_strength, self.writer, strength)
+            self.assertRaises(OverflowError, s.accept_under_exclusive_ownership, self.pen, self.writer, strength, Time(6))
+            self.assertRaises(OverflowError, s.admit, Sample(self.pen, self.writer, Time(6), strength=strength))
+            self.assertRaises(OverflowError, s.acknowledge, LivelinessChangedStatus(0, 0, 0, strength))
+        for n in -1, 2**32:
+            self.assertRaises(OverflowError, s.note_taken, self.handle, n)
+            self.assertRaises(OverflowError, s.drain_samples, self.handle, n)
+        self.assertRaises(ValueError, s.matched, self.writer, 4, None, 7)
+        self.assertEqual(s.parts(), before)
+        s.drain_samples(self.handle, 2**32 - 1)
+        for strength in -2**31, 2**31 - 1:
+            s.update_owner_strength(self.writer, strength)
+            self.assertEqual(s.get_by_keyhash(self.pen).current_owner, (self.writer, strength))
 
 
 def load_tests(_loader: unittest.TestLoader, tests: unittest.TestSuite, _pattern: Optional[str]) -> unittest.TestSuite:

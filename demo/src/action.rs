@@ -94,7 +94,13 @@ fn note(group: &Group) -> Action {
     let [.., ownership] = group.away;
     if ownership > 0 && matches!(group.cause, Cause::Unregistered | Cause::Dropped) {
         let lost = guids(&group.lost);
-        text += &format!(", and release_owner_of (code 20) for {lost} when it leaves, so that it does not go on owning the pen");
+        let call = match group.cause {
+            Cause::Dropped => "clear_owner_for_writer (code 18)",
+            _ => "release_owner_of (code 20)",
+        };
+        text += &format!(
+            ", and {call} for {lost} when it leaves, so that it does not go on owning the pen"
+        );
         plan.released.extend(&group.lost);
     }
     Action::new(Who::Maker, short, text, plan)
@@ -132,6 +138,20 @@ fn lengthen(group: &Group, history: &History) -> Action {
 }
 
 fn lengthened(lost: &[Guid], plan: &Plan) -> (String, String) {
+    if plan.leases.is_empty() {
+        let text = format!("assert {} with each sample", guids(lost));
+        return (text.clone(), text);
+    }
+    let (mut text, mut short) = longer_leases(lost, plan);
+    if !plan.asserted.is_empty() {
+        let also = format!(", and assert {} with each sample", guids(&plan.asserted));
+        text += &also;
+        short += &also;
+    }
+    (text, short)
+}
+
+fn longer_leases(lost: &[Guid], plan: &Plan) -> (String, String) {
     if let [(guid, lease)] = Vec::from_iter(&plan.leases)[..] {
         let lease = spoken(moment_of_clock(*lease));
         let writer = show_guid(guid);
@@ -141,10 +161,6 @@ fn lengthened(lost: &[Guid], plan: &Plan) -> (String, String) {
             _ => format!("set that of {writer} to {lease}"),
         };
         return (text, short);
-    }
-    if plan.leases.is_empty() {
-        let text = format!("assert {} with each sample", guids(lost));
-        return (text.clone(), text);
     }
     let leases = plan.leases.iter().take(3).map(|(guid, lease)| {
         format!("that of {} to {}", show_guid(guid), spoken(moment_of_clock(*lease)))

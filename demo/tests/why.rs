@@ -106,6 +106,21 @@ fn the_remedies_work() {
     let told = "and release_owner_of (code 20) for a/b when it leaves";
     let folded = |text: String| text.split_whitespace().collect::<Vec<_>>().join(" ");
     assert!(folded(why_of(kept, "")).contains(told));
+    let dropped = kept.replace("unregister pen from a/b", "drop_writer a/b");
+    let told = "and clear_owner_for_writer (code 18) for a/b when it leaves";
+    assert!(folded(why_of(&dropped, "")).contains(told));
+}
+
+/// Of two writers that expire together one was silent for longer than its lease, the other was not asserted.
+#[test]
+fn a_longer_lease_and_an_assertion() {
+    let day =
+        "match a/b kind automatic lease 1m at 08:00\nmatch c/d kind automatic lease 5m at 08:00\n\
+         admit pen from a/b at 08:00\nnote_writer pen from c/d\nadmit other from c/d at 08:00\n\
+         admit other from c/d at 08:04\nlapse at 08:06\nadmit pen from a/b at 08:06\n";
+    let why = why_of(day, "");
+    let told = " Maker: set that of a/b to 12 min, and assert c/d with each sample.";
+    assert!(why.lines().next().is_some_and(|first| first.ends_with(told)), "{why}");
 }
 
 fn count(page: &str, what: &str) -> usize {

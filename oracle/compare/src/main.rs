@@ -64,8 +64,7 @@ fn main() -> ExitCode {
         return ExitCode::FAILURE;
     };
     if !library::PRESENT {
-        println!("SKIPPED: no libdcps_c.a (rt staticlib dcps_c, or set DCPS_LIB_DIR)");
-        return ExitCode::SUCCESS;
+        return skipped("no libdcps_c.a (rt staticlib dcps_c, or set DCPS_LIB_DIR)");
     }
     match job {
         // Of the places the sources judge the calls where they are at hand.
@@ -74,11 +73,14 @@ fn main() -> ExitCode {
             said(run(seed, count))
         }
         Job::Calls(seed, calls) if original::PRESENT => compared(seed, calls),
-        _ => {
-            println!("SKIPPED: no sources of ZeroDDS (set ZERO_DDS_SRC)");
-            ExitCode::SUCCESS
-        }
+        _ => skipped("no sources of ZeroDDS (set ZERO_DDS_SRC)"),
     }
+}
+
+/// With CI=true what is missing is a failure.
+fn skipped(why: &str) -> ExitCode {
+    println!("SKIPPED: {why}");
+    if env::var("CI").is_ok_and(|ci| ci == "true") { ExitCode::FAILURE } else { ExitCode::SUCCESS }
 }
 
 fn said(run: Result<String, String>) -> ExitCode {

@@ -13,6 +13,8 @@ use over_bytes::over_bytes;
 #[test]
 fn many_calls_meet_every_sort() {
     if !original::PRESENT {
+        let ci = std::env::var("CI").is_ok_and(|ci| ci == "true");
+        assert!(!ci, "no sources of ZeroDDS (set ZERO_DDS_SRC)");
         return;
     }
     let call = |lent: Lent<'_>| over_bytes(lent, None);
