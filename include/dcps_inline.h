@@ -1,9 +1,12 @@
-/* Builders of sheets and accessors of answers, head and records, over include/dcps.h. C99 and C++, all static inline.
+/* SPDX-License-Identifier: Apache-2.0
  *
- * Nothing here is proved: it only lays out and reads bytes, as dcps.h says, and a test compares each builder and each
- * accessor with the Rust bindings. Every call goes through dcps_call, which judges whatever a builder made.
+ * Functions that fill in sheets (builders) and that read answers, heads and records (accessors), over include/dcps.h. C99 and
+ * C++, all static inline.
  *
- *     static struct dcps_state s;    78,912 bytes, or 29,760 of a dcps_small_state: better not on a small stack
+ * Nothing here is proved. These functions only write and read bytes, as dcps.h says. A test compares each builder and each
+ * accessor with the Rust bindings. Every call goes through dcps_call, which tests whatever a builder made.
+ *
+ *     static struct dcps_state s;    78,912 bytes, or 29,760 for a dcps_small_state: too much for a small stack
  *     uint8_t sheet[DCPS_SHEET_BYTES], answer[DCPS_ANSWER_BYTES];
  *     dcps_state_fresh(&s);
  *     dcps_sheet_register(sheet, key, holder, holder_length, NULL);
@@ -12,8 +15,8 @@
  *     DCPS_EACH_INSTANCE(r, s.head, s.pens)
  *         printf("%llu\n", (unsigned long long)dcps_instance_handle(r));
  *
- * Pointers: a sheet has 256 bytes, a key or GUID 16, a prefix 12, an answer 72, the answer of a read 24, head and buffers
- * those of dcps.h. A null pointer is allowed where a comment says so, and nowhere else.
+ * Pointers: a sheet has 256 bytes, a key or a GUID 16, a prefix 12, an answer 72, the answer of a read 24. The head and the
+ * buffers have the lengths of dcps.h. A pointer may be null only where a comment says so.
  */
 #ifndef DCPS_INLINE_H
 #define DCPS_INLINE_H
@@ -75,8 +78,8 @@ static inline void dcps_put_i32(uint8_t *b, int32_t n)
 /* ---- times */
 
 struct dcps_time {
-    int32_t sec;      /* rounded down, so that half a second before the epoch is -1 */
-    uint32_t nanosec; /* below 10^9, added to them */
+    int32_t sec;      /* rounded down: half a second before the epoch has -1 here */
+    uint32_t nanosec; /* below 10^9, and added to sec: half a second before the epoch has 500000000 here */
 };
 
 static inline struct dcps_time dcps_time_of(int32_t sec, uint32_t nanosec)
@@ -100,16 +103,16 @@ static inline void dcps_put_time(uint8_t *b, struct dcps_time time)
 
 /* ---- a state with its out, and calls on it */
 
-/* With places for 128 instances. */
+/* A state with places for 128 instances. */
 struct dcps_state {
     uint8_t head[DCPS_HEAD_BYTES];
     uint8_t pens[DCPS_PENS_BYTES];
     uint8_t writers[DCPS_WRITERS_BYTES];
     uint8_t lost[DCPS_LOST_BYTES];
-    uint8_t out[DCPS_OUT_BYTES]; /* no part of the state: the list of the latest call that gave one */
+    uint8_t out[DCPS_OUT_BYTES]; /* not part of the state: the list of the latest call that had one */
 };
 
-/* With places for 32. */
+/* A state with places for 32 instances. */
 struct dcps_small_state {
     uint8_t head[DCPS_HEAD_BYTES];
     uint8_t pens[DCPS_SMALL_PENS_BYTES];
@@ -118,7 +121,8 @@ struct dcps_small_state {
     uint8_t out[DCPS_OUT_BYTES];
 };
 
-/* Where the bytes of either are: for code that is to work with both, and for a state that lies in no struct. */
+/* Pointers to the bytes of a state of either size, and to its out. Use it for code that works with both sizes, and for a state
+ * that is in neither of the two structs. */
 struct dcps_lent {
     uint8_t *head, *pens, *writers, *lost, *out;
     size_t pens_bytes; /* DCPS_PENS_BYTES or DCPS_SMALL_PENS_BYTES */
@@ -215,7 +219,7 @@ static inline void dcps_sheet_handle(uint8_t *sheet, uint64_t handle)
     dcps_put_u64(sheet + DCPS_SHEET_HANDLE, handle);
 }
 
-/* Time 1 of a call that may go without: a null pointer is none. */
+/* Time 1 of a call where it is optional. Null: no time. */
 static inline void dcps_sheet_time_1(uint8_t *sheet, const struct dcps_time *time)
 {
     if (time) {
@@ -224,8 +228,8 @@ static inline void dcps_sheet_time_1(uint8_t *sheet, const struct dcps_time *tim
     }
 }
 
-/* A holder: a null pointer with length 0 is an empty one, and is stored as such. One longer than 144 goes by its length
- * alone, which is refused as 6. */
+/* A holder. Null with length 0: an empty holder, which is stored as an empty one. If the length is above 144, only the length
+ * is written to the sheet, and the call is refused as 6. */
 static inline void dcps_sheet_holder(uint8_t *sheet, const uint8_t *holder, size_t length)
 {
     dcps_put_u16(sheet + DCPS_SHEET_HOLDER_LENGTH, (uint16_t)(length < 0xffff ? length : 0xffff));
@@ -233,7 +237,7 @@ static inline void dcps_sheet_holder(uint8_t *sheet, const uint8_t *holder, size
         memcpy(sheet + DCPS_SHEET_HOLDER, holder, length);
 }
 
-/* B with its presence bit: a null pointer is none. */
+/* B with its presence bit. Null: B is absent. */
 static inline void dcps_sheet_optional_b(uint8_t *sheet, unsigned bit, const uint64_t *nanoseconds)
 {
     if (nanoseconds) {
@@ -242,7 +246,7 @@ static inline void dcps_sheet_optional_b(uint8_t *sheet, unsigned bit, const uin
     }
 }
 
-/* ---- a builder for each code; what each call does stands at enum dcps_code. `time` may be null: none */
+/* ---- a builder for each code; enum dcps_code says what each call does. `time` may be null: no time */
 
 static inline void dcps_sheet_register(uint8_t *sheet, const uint8_t *key, const uint8_t *holder, size_t holder_length,
                                        const struct dcps_time *time)
@@ -297,7 +301,7 @@ static inline void dcps_sheet_drop_writer(uint8_t *sheet, const uint8_t *guid, c
     dcps_sheet_time_1(sheet, time);
 }
 
-/* A null holder is none; a present empty one has a pointer and length 0. */
+/* Null: no holder. For an empty holder pass any other pointer, and length 0. */
 static inline void dcps_sheet_observe_lifecycle(uint8_t *sheet, const uint8_t *key, const uint8_t *holder,
                                                 size_t holder_length, const struct dcps_time *time)
 {
@@ -363,7 +367,7 @@ static inline void dcps_sheet_drain_samples(uint8_t *sheet, uint64_t handle, uin
     dcps_put_u32(sheet + DCPS_SHEET_STRENGTH, n);
 }
 
-/* `deadline`, in nanoseconds, may be null: none. */
+/* `deadline` is in nanoseconds, and may be null: no deadline. */
 static inline void dcps_sheet_accept_under_exclusive_ownership(uint8_t *sheet, const uint8_t *key, const uint8_t *guid,
                                                                int32_t strength, struct dcps_time now,
                                                                const uint64_t *deadline)
@@ -402,7 +406,7 @@ static inline void dcps_sheet_release_owner_of(uint8_t *sheet, const uint8_t *ke
     dcps_sheet_guid(sheet, guid);
 }
 
-/* Delays in nanoseconds; DCPS_NEVER is never. */
+/* The delays are in nanoseconds. With DCPS_NEVER nothing is removed. */
 static inline void dcps_sheet_autopurge(uint8_t *sheet, struct dcps_time now, uint64_t disposed_delay,
                                         uint64_t no_writers_delay)
 {
@@ -412,7 +416,7 @@ static inline void dcps_sheet_autopurge(uint8_t *sheet, struct dcps_time now, ui
     dcps_put_u64(sheet + DCPS_SHEET_B, no_writers_delay);
 }
 
-/* Clocks and leases in nanoseconds. `lease` may be null: infinite. Any other kind than the three is refused as 7. */
+/* Clock and lease are in nanoseconds. `lease` may be null: an infinite lease. A kind beyond the three is refused as 7. */
 static inline void dcps_sheet_matched(uint8_t *sheet, const uint8_t *guid, enum dcps_liveliness kind,
                                       const uint64_t *lease, uint64_t clock)
 {
@@ -475,21 +479,23 @@ static inline void dcps_sheet_acknowledge(uint8_t *sheet, int32_t alive_change, 
     dcps_put_i32(sheet + DCPS_SHEET_STRENGTH, not_alive_change);
 }
 
-/* A received sample, with what the reader asks of it. dcps_sample_of fills in a reader without order, filter, limit and
- * deadline, at strength 0. Ownership is exclusive all the same, and begins with the sample that starts an instance: of two
- * writers the one with the higher GUID is turned away once the other owns the instance. On a SHARED topic let `deadline`
- * point to 0, and `filter` never go back. */
+/* A received sample, and what the reader's QoS asks of it. dcps_sample_of sets the defaults: no order by source, no filter, no
+ * limit, no deadline, strength 0.
+ * Every sample asks for ownership. The writer of the sample that starts an instance owns it. Of two writers of equal strength
+ * the one with the lower GUID takes the instance over, and the samples of the other one are then turned away (outcome 4).
+ * On a SHARED topic let `deadline` point to 0, and never let `filter` go back: then every writer takes over. `filter` is your
+ * own present time; dcps_sample_of takes the sample's time for it, so set it where writers have clocks of their own. */
 struct dcps_sample {
     uint8_t key[DCPS_KEY_BYTES];
     uint8_t writer[DCPS_GUID_BYTES];
-    const uint8_t *holder; /* may be null with length 0: an empty one, which is stored where none is, and stays */
+    const uint8_t *holder; /* null with length 0: an empty holder. It is stored if the instance has none, and then stays */
     size_t holder_length;
-    struct dcps_time order;  /* of the sample and of the destination order */
-    struct dcps_time filter; /* now: of the filter and of ownership */
+    struct dcps_time order;  /* time 1: of the sample, for last sample and the destination order */
+    struct dcps_time filter; /* time 2: now, for the filter and ownership */
     int by_source;           /* 0 for no, any other number for yes */
-    uint64_t separation;     /* nanoseconds; 0 filters nothing */
-    const uint64_t *deadline; /* nanoseconds; null is none */
-    int32_t limit;           /* of instances; a negative one is none */
+    uint64_t separation;     /* nanoseconds; with 0 nothing is filtered */
+    const uint64_t *deadline; /* nanoseconds; null: no deadline */
+    int32_t limit;           /* the greatest number of instances; negative: no limit */
     int32_t strength;
 };
 
@@ -544,7 +550,7 @@ static inline void dcps_sheet_depart(uint8_t *sheet, const uint8_t *guid, const 
     dcps_sheet_time_1(sheet, time);
 }
 
-/* ---- the fields of bytes: one function for each, named after its offset in dcps.h */
+/* ---- the fields of answers, heads and records: one function for each, named after the field's offset in dcps.h */
 
 #define DCPS_FIELD_u8(b, at) ((b)[at])
 #define DCPS_FIELD_u16(b, at) dcps_get_u16((b) + (at))
@@ -615,7 +621,7 @@ DCPS_ACCESSOR(dcps_head_places, u16, uint16_t, DCPS_HEAD_PLACES)
 DCPS_ACCESSOR(dcps_head_next_handle, u64, uint64_t, DCPS_HEAD_NEXT_HANDLE)
 DCPS_ACCESSOR(dcps_head_changes, u64, uint64_t, DCPS_HEAD_CHANGES)
 
-/* The bytes of pens that go with the head, 16,384 or 65,536; 0 where its number of places is another than 32 or 128. */
+/* The length of the pens that fit the head, 16,384 or 65,536; 0 if the head's number of places is neither 32 nor 128. */
 static inline size_t dcps_head_pens_bytes(const uint8_t *head)
 {
     switch (dcps_head_places(head)) {
@@ -625,8 +631,8 @@ static inline size_t dcps_head_pens_bytes(const uint8_t *head)
     }
 }
 
-/* Carries a head over that was kept before heads had the number of places: 1, and it has 128, as its pens have 65,536 bytes.
- * Any other head stays as it is: 0. */
+/* Converts a head that version 0.2 or an earlier one stored. Such a head has 0 as its number of places; it gets 128, because its
+ * pens have 65,536 bytes, and the function returns 1. Any other head stays as it is, and the function returns 0. */
 static inline int dcps_carry_head(uint8_t *head)
 {
     if (dcps_head_places(head) != 0)
@@ -635,7 +641,7 @@ static inline int dcps_carry_head(uint8_t *head)
     return 1;
 }
 
-/* The GUID of the last writer, or null where there is none. */
+/* The GUID of the last writer, or null if there is none. */
 static inline const uint8_t *dcps_head_last_writer(const uint8_t *head)
 {
     return dcps_get_u16(head + DCPS_HEAD_LAST_WRITER_PRESENT) ? head + DCPS_HEAD_LAST_WRITER : NULL;
@@ -665,7 +671,7 @@ static inline int dcps_instance_view_new(const uint8_t *record)
     return (dcps_instance_flags(record) & DCPS_FLAG_VIEW_NEW) != 0;
 }
 
-/* A time of the record: 1 and the time, or 0 where it is absent. */
+/* A time of the record. Returns 1, or 0 if it is absent. */
 static inline int dcps_instance_time(const uint8_t *record, unsigned flag, size_t at, struct dcps_time *time)
 {
     *time = dcps_get_time(record + at);
@@ -702,16 +708,16 @@ static inline int dcps_instance_owner_at(const uint8_t *record, struct dcps_time
     return dcps_instance_time(record, DCPS_FLAG_OWNER_AT, DCPS_INSTANCE_OWNER_AT, time);
 }
 
-/* The owner's GUID, or null where there is none. */
+/* The owner's GUID, or null if there is no owner. */
 static inline const uint8_t *dcps_instance_owner(const uint8_t *record)
 {
     return dcps_instance_flags(record) & DCPS_FLAG_OWNER ? record + DCPS_INSTANCE_OWNER : NULL;
 }
 
-/* The owner's strength; 0 where there is none. */
+/* The owner's strength; 0 if there is no owner. */
 DCPS_ACCESSOR(dcps_instance_strength, i32, int32_t, DCPS_INSTANCE_STRENGTH)
 
-/* The holder, or null where none is stored; one of length 0 may be. */
+/* The holder, or null if none is stored. A stored holder may have length 0. */
 static inline const uint8_t *dcps_instance_holder(const uint8_t *record, size_t *length)
 {
     size_t stored = dcps_get_u16(record + DCPS_INSTANCE_HOLDER_LENGTH);
@@ -719,7 +725,7 @@ static inline const uint8_t *dcps_instance_holder(const uint8_t *record, size_t 
     return dcps_instance_flags(record) & DCPS_FLAG_HOLDER ? record + DCPS_INSTANCE_HOLDER : NULL;
 }
 
-/* How many writers are in its set, and the GUID at a place below that. */
+/* The number of writers in its set, and the GUID at a place below that number. */
 static inline size_t dcps_instance_set_size(const uint8_t *record)
 {
     size_t size = dcps_instance_flags(record) & DCPS_FLAGS_SET_SIZE;
@@ -752,19 +758,19 @@ static inline uint8_t dcps_writer_standing(const uint8_t *record)
     return (uint8_t)(dcps_writer_flags(record) >> DCPS_WRITER_STATE_SHIFT & 3);
 }
 
-/* 1 and the lease in nanoseconds, or 0 where it is infinite. */
+/* The lease in nanoseconds. Returns 1, or 0 if the lease is infinite. */
 static inline int dcps_writer_lease(const uint8_t *record, uint64_t *lease)
 {
     *lease = dcps_get_u64(record + DCPS_WRITER_LEASE);
     return (dcps_writer_flags(record) & DCPS_WRITER_LEASE_BIT) != 0;
 }
 
-/* ---- the tables: used records by place, in the order of keys and GUIDs, and by name
+/* ---- the tables: the used records by place (in the order of keys or GUIDs), by key, by handle and by GUID
  *
- * Pens are those that go with the head, dcps_head_pens_bytes of it, and no length is looked at: lend a state from elsewhere to
- * a call first, which refuses it as 1 or 3. */
+ * These functions test no length: pens must have the dcps_head_pens_bytes of the head. If a state comes from elsewhere, pass it
+ * to a call first; the call refuses a bad one as 1 or 3. */
 
-/* How many are used, never more than the head has places: none with a head that would be refused for their number. */
+/* The number of used records, at most the head's number of places; 0 if that is neither 32 nor 128. */
 static inline size_t dcps_instance_records(const uint8_t *head)
 {
     size_t count = dcps_head_instances(head), places = dcps_head_pens_bytes(head) / DCPS_INSTANCE_BYTES;
@@ -776,7 +782,7 @@ static inline const uint8_t *dcps_instance_at(const uint8_t *pens, size_t place)
     return pens + place * DCPS_INSTANCE_BYTES;
 }
 
-/* How many are used where no head is at hand, as the reads have it: those before the first whose handle is 0. */
+/* The number of used records, without a head, as the reads count them: those before the first one whose handle is 0. */
 static inline size_t dcps_pens_records(const uint8_t *pens, size_t pens_bytes)
 {
     size_t place = 0, places = pens_bytes / DCPS_INSTANCE_BYTES;
@@ -806,8 +812,8 @@ static inline const uint8_t *dcps_writers_end(const uint8_t *head, const uint8_t
     return dcps_writer_at(writers, dcps_writer_records(head));
 }
 
-/* for over the used records: `r` is declared as a const uint8_t * to each in turn. How many is taken before the first turn;
- * a call in the body may move the records, so collect handles or GUIDs first. */
+/* A loop over the used records: it declares `r`, a const uint8_t * to each record in turn. The number of records is read once,
+ * before the first turn. A call in the body may move records, so collect the handles or GUIDs first. */
 #define DCPS_EACH_INSTANCE(r, head, pens)                                                           \
     for (const uint8_t *r = (pens), *r##_end = dcps_instances_end((head), (pens)); r != r##_end;    \
          r += DCPS_INSTANCE_BYTES)
@@ -815,7 +821,7 @@ static inline const uint8_t *dcps_writers_end(const uint8_t *head, const uint8_t
     for (const uint8_t *r = (writers), *r##_end = dcps_writers_end((head), (writers)); r != r##_end; \
          r += DCPS_WRITER_BYTES)
 
-/* The record of a key, of a handle, of a GUID; null where there is none. */
+/* The record of a key, of a handle, of a GUID; null if there is none. */
 static inline const uint8_t *dcps_instance_by_key(const uint8_t *head, const uint8_t *pens, const uint8_t *key)
 {
     DCPS_EACH_INSTANCE(r, head, pens)
@@ -840,7 +846,7 @@ static inline const uint8_t *dcps_writer_by_guid(const uint8_t *head, const uint
     return NULL;
 }
 
-/* ---- lists: the entry at a place below `listed` of the answer (or, of lost, below dcps_head_lost) */
+/* ---- lists: the entry at a place below `listed` of the answer (in lost: below dcps_head_lost) */
 
 static inline uint64_t dcps_out_handle(const uint8_t *out, size_t place)
 {
@@ -852,19 +858,19 @@ static inline const uint8_t *dcps_out_guid(const uint8_t *out, size_t place)
     return out + place * DCPS_GUID_BYTES;
 }
 
-/* for over the first entries of out: `h` is declared as the uint64_t handle, `g` as a const uint8_t * to the GUID. `listed`
- * is taken before the first turn, so that a call in the body may use the answer again; one that lists writes to out, so give
- * it another. */
+/* A loop over the first entries of out: it declares `h`, the uint64_t handle, or `g`, a const uint8_t * to the GUID. `listed` is
+ * read once, before the first turn, so a call in the body may write to the same answer. A call that has a list needs another
+ * out. */
 #define DCPS_EACH_HANDLE(h, out, listed)                                                              \
     for (uint64_t h = 0, h##_place = 0, h##_end = (listed);                                           \
          h##_place < h##_end && ((h = dcps_out_handle((out), (size_t)h##_place)), 1); h##_place++)
 #define DCPS_EACH_GUID(g, out, listed)                                                                \
     for (const uint8_t *g = (out), *g##_end = dcps_out_guid((out), (listed)); g != g##_end; g += DCPS_GUID_BYTES)
 
-/* ---- keys from serialized ones; stamps on the wire; keys and GUIDs as the reads take them; a status's handle of a writer */
+/* ---- keys, stamps, and GUIDs as numbers */
 
-/* The key of an instance from its serialized key, by dcps_key_hash. Returns the number. Where it is not 0, key is 16 zeros,
- * which is a key too: look at the number. */
+/* Makes the key of an instance from its serialized key, by dcps_key_hash. Returns its number. Test it: if it is not 0, key is 16
+ * zeros, which could also be a key. */
 static inline uint32_t dcps_key_of(uint8_t *key, const uint8_t *serialized, size_t length, uint64_t largest)
 {
     uint8_t read[DCPS_READ_BYTES];
@@ -873,8 +879,8 @@ static inline uint32_t dcps_key_of(uint8_t *key, const uint8_t *serialized, size
     return number;
 }
 
-/* The fraction of a stamp and its remainder from nanoseconds, by dcps_wire_fraction. Returns the number. Where it is not 0,
- * both are 0, as those of a whole second are: look at the number. Both are written, so neither pointer is null. */
+/* Makes the fraction of a stamp and its remainder from nanoseconds, by dcps_wire_fraction. Returns its number. Test it: if it is
+ * not 0, both are 0, as they are for a whole second. Neither pointer may be null. */
 static inline uint32_t dcps_fraction_of(uint32_t *fraction, uint32_t *remainder, uint32_t nanosec)
 {
     uint8_t read[DCPS_READ_BYTES];
@@ -884,8 +890,8 @@ static inline uint32_t dcps_fraction_of(uint32_t *fraction, uint32_t *remainder,
     return number;
 }
 
-/* The nanoseconds of a fraction, by dcps_wire_nanos, which refuses none. The remainder of a stamp that came over the wire is
- * DCPS_REMAINDER_UNKNOWN. */
+/* Makes nanoseconds from a fraction, by dcps_wire_nanos, which takes every fraction. If the stamp came over the wire, pass
+ * DCPS_REMAINDER_UNKNOWN as the remainder. */
 static inline uint32_t dcps_nanos_of(uint32_t fraction, uint32_t remainder)
 {
     uint8_t read[DCPS_READ_BYTES];
@@ -893,6 +899,7 @@ static inline uint32_t dcps_nanos_of(uint32_t fraction, uint32_t remainder)
     return dcps_read_wire_nanos(read);
 }
 
+/* A key or a GUID as the reads take it: its first 8 bytes, and its last 8. */
 static inline uint64_t dcps_high(const uint8_t *guid)
 {
     return dcps_get_u64(guid);
@@ -903,7 +910,7 @@ static inline uint64_t dcps_low(const uint8_t *guid)
     return dcps_get_u64(guid + 8);
 }
 
-/* 64-bit FNV-1a, and 1 where that is 0. */
+/* The handle by which a status names a writer (last publication): 64-bit FNV-1a of its GUID, or 1 if that is 0. */
 static inline uint64_t dcps_handle_of_guid(const uint8_t *guid)
 {
     uint64_t hash = ((uint64_t)0xcbf29ce4u << 32) | 0x84222325u;

@@ -7,7 +7,7 @@ pub const USAGE: &str = "\
 usage: demo DAY                       plays the file and prints the instances and writers after it
        demo DAY log                   prints every call with its answer
        demo DAY explain KEY           prints the history of one instance, and why it is shown as it is
-       demo DAY lamp WRITER           prints the calls that moved a writer's lamp, and why it stands where it does
+       demo DAY lamp WRITER           prints the calls that moved a writer's lamp, and why it is where it is
        demo DAY why                   counts how often each instance was shown abandoned, and ranks the causes
        demo DAY why --csv             the same as comma-separated values, a row for each abandonment
        demo DAY why --json            the same as JSON
@@ -17,28 +17,27 @@ DAY is a file, or - for standard input.
 ";
 
 pub const HELP: &str = "
-A day's file has one call a line: the call, what it is about, then words and values in any order; # starts a
-comment. demo/README.md has all the calls. For instance:
+A day's file has one call in each line: the call, what it is about, then words and values in any order. # starts a
+comment. demo/README.md lists all calls. For example:
 
   match plotter-1/c1 kind automatic lease 10m at 08:00
   admit pen-01 from plotter-1/c1 at 2026-11-15 08:01 strength 5
   assert plotter-1/c1 at 08:05
   lapse at 08:20
 
-A key is a name without blanks. A line of its own above the first key, as
+A key is a name without blanks. A line above the first key can state the largest size of all keys of the file, in
+bytes:
 
   keys largest 64
 
-states the largest size of all keys of the file, in bytes: up to 16 a name is padded to the KeyHash, up to 4096 it is
-hashed. Without it the size is 16, or 4096 where a name is longer than 16 bytes.
+With a size of up to 16 the KeyHash of a name is the name, padded with zeros. With 17 to 4096 it is the hash of the
+name. Without this line the size is 16, or 4096 if a name is longer than 16 bytes.
 
-A console has places for 128 instances. A line of its own above the first call,
+A console has places for 128 instances. For a bench-top console with places for 32, write above the first call:
 
   places 32
 
-makes it a bench-top console with places for 32.
-
-A writer's lamp goes to the first alive instance, in the order of the keys, with that writer among its writers. To
+A writer's lamp is on the first alive instance, in the order of the keys, that has this writer among its writers. To
 see it in the middle of a day, play the first lines of the file:
 
   head -n 20 day.txt | demo - lamp plotter-1/c1
@@ -67,21 +66,24 @@ pub fn read(arguments: &[OsString]) -> Result<Asked, String> {
     if arguments.iter().any(is_help) {
         return Ok(Asked::Help);
     }
-    let (day, rest) = arguments.split_first().ok_or("no day is named")?;
+    let (day, rest) = arguments.split_first().ok_or("name the file of a day")?;
     let rest: Vec<&str> = rest
         .iter()
-        .map(|a| a.to_str().ok_or("an argument is no text"))
+        .map(|a| a.to_str().ok_or("an argument is not valid UTF-8"))
         .collect::<Result<_, _>>()?;
     if is_option(day) {
-        return Err(format!("{} stands where the day belongs", day.to_string_lossy()));
+        return Err(format!(
+            "{} is not a day: name the file of a day first",
+            day.to_string_lossy()
+        ));
     }
     let mode = match rest[..] {
         [] => Mode::Tables,
         ["log"] => Mode::Log,
         ["explain", key] => Mode::Explain(key.to_owned()),
-        ["explain"] => return Err("explain needs a key behind it".to_owned()),
+        ["explain"] => return Err("explain needs a key after it".to_owned()),
         ["lamp", writer] => Mode::Lamp(writer.to_owned()),
-        ["lamp"] => return Err("lamp needs a writer behind it, as plotter-1/c1".to_owned()),
+        ["lamp"] => return Err("lamp needs a writer after it, for example plotter-1/c1".to_owned()),
         ["why"] => Mode::Why(Form::Text),
         ["why", form] | [form] if form.starts_with('-') => Mode::Why(read_form(form)?),
         ["why", ..] => return Err("why takes one of --csv, --json and --html".to_owned()),
@@ -102,6 +104,6 @@ fn read_form(form: &str) -> Result<Form, String> {
         "--csv" => Ok(Form::Csv),
         "--json" => Ok(Form::Json),
         "--html" => Ok(Form::Html),
-        _ => Err(format!("{form} is no option: write --csv, --json or --html")),
+        _ => Err(format!("{form} is not an option: use --csv, --json or --html")),
     }
 }

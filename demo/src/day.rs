@@ -193,24 +193,24 @@ pub fn read_line(line: usize, bytes: &[u8], names: &mut Names) -> Result<Option<
 pub fn stated_size(rest: &[&str]) -> Result<u64, String> {
     match rest {
         ["largest", size] => number(size),
-        _ => Err("keys takes 'largest' and a size behind it, as keys largest 64".to_owned()),
+        _ => Err("keys takes 'largest' and a size after it, as in keys largest 64".to_owned()),
     }
 }
 
 /// What a line states behind `places`.
 fn stated_places(rest: &[&str]) -> Result<Places, String> {
     let [word] = rest else {
-        return Err("places takes one number behind it, as places 32".to_owned());
+        return Err("places takes one number after it, as in places 32".to_owned());
     };
     let places = word.parse().ok().and_then(Places::from_count);
-    places.ok_or_else(|| format!("{} is no number of places: write 32 or 128", quoted(word)))
+    places.ok_or_else(|| format!("{} is not a number of places: write 32 or 128", quoted(word)))
 }
 
 fn unknown_verb(name: &str) -> String {
     let known: Vec<_> = FORMS.iter().map(|(form, ..)| *form).collect();
     let meant = nearest(name, known.iter().copied().chain([KEYS, PLACES]));
     let meant = meant.map_or(String::new(), |form| format!(" (did you mean '{form}'?)"));
-    format!("{} is no call{meant}; the calls are {}", quoted(name), known.join(", "))
+    format!("{} is not a call{meant}; the calls are {}", quoted(name), known.join(", "))
 }
 
 /// Reads what stands behind the verb; what is left.
@@ -228,7 +228,7 @@ fn read_subject<'a, 'b>(
         Subject::WriterOrParticipant => "a writer, or PARTICIPANT/*",
     };
     let (word, rest) =
-        rest.split_first().ok_or_else(|| format!("{name} needs {wanted} behind it"))?;
+        rest.split_first().ok_or_else(|| format!("{name} needs {wanted} after it"))?;
     if subject == Subject::Key {
         words.key = names.key(word)?;
         words.names_key = true;
@@ -256,7 +256,7 @@ fn read_words(
     while let Some((word, behind)) = rest.split_first() {
         let word = known_word(name, takes, word)?;
         if seen.contains(&word) {
-            return Err(format!("'{word}' stands twice: leave one of them"));
+            return Err(format!("'{word}' appears twice: remove one of them"));
         }
         seen.push(word);
         rest = match word {
@@ -273,7 +273,7 @@ fn read_words(
     }
     let mut needed = takes.iter().filter_map(|form| form.strip_suffix('!'));
     match needed.find(|word| !seen.contains(word)) {
-        Some(word) => Err(format!("{name} needs '{word}' and a value behind it")),
+        Some(word) => Err(format!("{name} needs '{word}' and a value after it")),
         None => Ok(()),
     }
 }
@@ -357,16 +357,14 @@ fn kind(value: &str) -> Result<LivelinessKind, String> {
         "by-participant" => Ok(LivelinessKind::ManualByParticipant),
         "by-topic" => Ok(LivelinessKind::ManualByTopic),
         _ => Err(format!(
-            "{} is no kind: write automatic, by-participant or by-topic",
+            "{} is not a kind: write automatic, by-participant or by-topic",
             quoted(value)
         )),
     }
 }
 
 fn number<T: std::str::FromStr>(value: &str) -> Result<T, String> {
-    value
-        .parse()
-        .map_err(|_| format!("{} is no number that fits: write a whole number", quoted(value)))
+    value.parse().map_err(|_| format!("{} is not a whole number in range", quoted(value)))
 }
 
 /// The calls of a text, or all its faults.
@@ -422,32 +420,29 @@ mod tests {
     #[test]
     fn what_is_wrong_is_said() {
         assert!(fault("mtach a/b")
-            .starts_with("'mtach' is no call (did you mean 'match'?); the calls are match, "));
-        assert_eq!(fault("match"), "match needs a writer behind it");
-        assert_eq!(fault("match a/b kind automatic"), "match needs 'at' and a value behind it");
-        assert_eq!(fault("match a/b at 1s"), "match needs 'kind' and a value behind it");
+            .starts_with("'mtach' is not a call (did you mean 'match'?); the calls are match, "));
+        assert_eq!(fault("match"), "match needs a writer after it");
+        assert_eq!(fault("match a/b kind automatic"), "match needs 'at' and a value after it");
+        assert_eq!(fault("match a/b at 1s"), "match needs 'kind' and a value after it");
         assert_eq!(fault("part a/b at"), "'at' needs a value");
-        assert_eq!(fault("part a/b at 1s at 2s"), "'at' stands twice: leave one of them");
+        assert_eq!(fault("part a/b at 1s at 2s"), "'at' appears twice: remove one of them");
         assert_eq!(fault("part a/b on 1s"), "part takes at, not 'on'");
         assert_eq!(fault("unmatch a/b at 1s"), "unmatch takes no words, not 'at'");
-        assert!(fault("part ab").starts_with("'ab' is no writer"));
-        assert!(fault("admit pen-01 from a/b at noon").starts_with("'noon' is no time"));
-        assert!(fault("match a/b kind manual at 1s").starts_with("'manual' is no kind"));
-        assert_eq!(
-            fault("note_taken pen-01 samples -1"),
-            "'-1' is no number that fits: write a whole number"
-        );
+        assert!(fault("part ab").starts_with("'ab' is not a writer"));
+        assert!(fault("admit pen-01 from a/b at noon").starts_with("'noon' is not a time"));
+        assert!(fault("match a/b kind manual at 1s").starts_with("'manual' is not a kind"));
+        assert_eq!(fault("note_taken pen-01 samples -1"), "'-1' is not a whole number in range");
         assert!(fault("expire at -1s").contains("negative"));
         assert!(fault("key largest 64").contains("did you mean 'keys'?"));
         for line in ["keys", "keys 64", "keys largest", "keys largest 64 at 1s"] {
             assert_eq!(
                 fault(line),
-                "keys takes 'largest' and a size behind it, as keys largest 64"
+                "keys takes 'largest' and a size after it, as in keys largest 64"
             );
         }
         assert_eq!(
             fault("keys largest 18446744073709551616"),
-            "'18446744073709551616' is no number that fits: write a whole number"
+            "'18446744073709551616' is not a whole number in range"
         );
     }
 
@@ -457,11 +452,11 @@ mod tests {
         for figure in ["0", "31", "33", "64", "127", "129", "-32", "all"] {
             assert_eq!(
                 fault(&format!("places {figure}")),
-                format!("'{figure}' is no number of places: write 32 or 128")
+                format!("'{figure}' is not a number of places: write 32 or 128")
             );
         }
         for line in ["places", "places 32 128", "places for 32"] {
-            assert_eq!(fault(line), "places takes one number behind it, as places 32");
+            assert_eq!(fault(line), "places takes one number after it, as in places 32");
         }
     }
 

@@ -308,7 +308,7 @@ mod tests {
         for word in
             ["", "a", "a/", "/b", "a/b/c", "0x12", "thirteen-long/b", "/*", "thirteen-long/*"]
         {
-            assert!(writer(word).is_err_and(|e| e.contains("is no writer")), "{word}");
+            assert!(writer(word).is_err_and(|e| e.contains("is not a writer")), "{word}");
         }
         assert!(writer("a/*").is_err_and(|e| e.starts_with("'a/*' names all writers of a part")));
     }

@@ -1,6 +1,7 @@
 //! Plays a day's list of calls, shows which instances still have a writer, why others were shown abandoned, and where a
 //! writer's lamp goes.
 
+mod action;
 mod args;
 mod cause;
 mod dates;
@@ -15,6 +16,7 @@ mod marks;
 mod mirror;
 mod names;
 mod nearest;
+mod plan;
 mod play;
 mod progress;
 #[cfg(test)]
@@ -30,13 +32,14 @@ mod words;
 mod writers;
 
 use args::{Asked, Mode};
-use dcps::{KeyHash, Refusal};
+use dcps::{KeyHash, Refusal, State};
 use explain::Explain;
 use history::{Guid, History};
 use lamp::Lamp;
 use names::Names;
+use plan::Plan;
 use play::{play, Watch};
-use report::Report;
+use report::{Form, Report};
 use source::Source;
 use std::ffi::OsStr;
 use std::io::{self, Write};
@@ -96,12 +99,10 @@ fn show(day: &OsStr, mode: Mode) -> Result<String, Stop> {
         Mode::Lamp(_) => &mut lamp,
         Mode::Why(_) => &mut history,
     };
-    let mut calls = source.read("playing").map_err(unreadable)?;
-    let played = play(&mut calls, &mut names, &mut [&mut warnings, watcher]);
-    drop(calls);
-    let state = played.map_err(|stop| wrong(stopped(&name, stop)))?;
+    let watchers: &mut [&mut dyn Watch] = &mut [&mut warnings, watcher];
+    let state = played(&mut source, &name, &Plan::default(), &mut names, watchers)?;
     let refused = |refusal: Refusal| wrong(refusal.to_string());
-    let never = |word: String| wrong(format!("{word} never stands in {name}"));
+    let never = |word: String| wrong(format!("{word} does not appear in {name}"));
     let text = match mode {
         Mode::Tables => tables.text(&name, &state, &names).map_err(refused)?,
         Mode::Log => log.text(),
@@ -111,10 +112,45 @@ fn show(day: &OsStr, mode: Mode) -> Result<String, Stop> {
         Mode::Lamp(word) => {
             lamp.text(&state, &names).map_err(refused)?.ok_or_else(|| never(word))?
         }
-        Mode::Why(form) => Report::new(&name, &history, &names, &warnings).write(form),
+        Mode::Why(form) => {
+            let report = Report::new(&name, &history, &names, &warnings);
+            why(report, form, &mut source, largest)?
+        }
     };
     let _ = io::stderr().write_all(warnings.text(&name).as_bytes());
     Ok(text)
+}
+
+/// Plays the day with the changes of a plan.
+fn played(
+    source: &mut Source,
+    name: &str,
+    plan: &Plan,
+    names: &mut Names,
+    watchers: &mut [&mut dyn Watch],
+) -> Result<State, Stop> {
+    let doing = if *plan == Plan::default() { "playing" } else { "trying a change" };
+    let mut calls = source.read(doing).map_err(|e| wrong(format!("{name}: {e}")))?;
+    play(&mut calls, names, plan, watchers).map_err(|stop| wrong(stopped(name, stop)))
+}
+
+/// The answer in a form, with what its actions would save; a row of the CSV has no action.
+fn why(
+    mut report: Report<'_>,
+    form: Form,
+    source: &mut Source,
+    largest: u64,
+) -> Result<String, Stop> {
+    let name = report.name;
+    let replay = |plan: &Plan| {
+        let (mut history, mut names) = (History::default(), Names::new(largest));
+        played(source, name, plan, &mut names, &mut [&mut history])?;
+        Ok(history)
+    };
+    if form != Form::Csv {
+        report.try_actions(replay)?;
+    }
+    Ok(report.write(form))
 }
 
 /// The key and the writer that are asked about. No key where it is beyond the largest size, so that it cannot stand in the

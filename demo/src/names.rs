@@ -43,10 +43,10 @@ impl Names {
     /// Takes the largest size as a line states it.
     pub fn state(&mut self, largest: u64) -> Result<(), String> {
         if std::mem::replace(&mut self.stated, true) {
-            return Err("'keys' stands twice: leave one of them".to_owned());
+            return Err("'keys' appears twice: remove one of them".to_owned());
         }
         if self.keyed {
-            return Err("'keys' stands below a key: write it above the first one".to_owned());
+            return Err("'keys' comes after a key: put it before the first one".to_owned());
         }
         dcps::key_hash(b"", largest)
             .map_err(|refusal| format!("{refusal}: write a size of up to {LARGEST}"))?;
@@ -61,7 +61,7 @@ impl Names {
         }
         if words::is_digits(word) || !words::is_name(word) {
             return Err(format!(
-                "{} is no key: write letters, digits and signs without blanks, or 0x and 32 hexadecimal digits",
+                "{} is not a key: write letters, digits and signs without blanks, or 0x and 32 hexadecimal digits",
                 quoted(word)
             ));
         }
@@ -155,7 +155,7 @@ mod tests {
             let mut names = Names::new(largest);
             for word in ["", "ключ", "a b", "0x", "0x12", "0x00112233445566778899aabbccddeefg"]
             {
-                assert!(names.key(word).is_err_and(|e| e.contains("is no key")), "{word}");
+                assert!(names.key(word).is_err_and(|e| e.contains("is not a key")), "{word}");
             }
         }
     }
@@ -219,10 +219,10 @@ mod tests {
         let mut names = Names::default();
         assert_eq!(names.state(64), Ok(()));
         assert!(names.key(SERIALS[0]).is_ok());
-        assert_eq!(names.state(64), Err("'keys' stands twice: leave one of them".to_owned()));
+        assert_eq!(names.state(64), Err("'keys' appears twice: remove one of them".to_owned()));
         let mut names = Names::default();
         assert!(names.key("pen-01").is_ok());
-        assert!(names.state(64).is_err_and(|e| e.starts_with("'keys' stands below a key")));
+        assert!(names.state(64).is_err_and(|e| e.starts_with("'keys' comes after a key")));
         for size in [0, FITTING, LARGEST] {
             assert_eq!(Names::default().state(size), Ok(()));
         }

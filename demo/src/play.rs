@@ -5,6 +5,7 @@ use crate::day::{each_line, read_line, Call, Fault, Line};
 use crate::make::{make, Said};
 use crate::mirror::{Changes, Mirror};
 use crate::names::Names;
+use crate::plan::Plan;
 use dcps::{Places, Refusal, State};
 use std::io::{self, BufRead};
 
@@ -41,6 +42,7 @@ pub enum Stop {
 
 struct Player<'a> {
     names: &'a mut Names,
+    plan: &'a Plan,
     state: State,
     mirror: Mirror,
     /// Whether the day has stated the number of places, and whether it has made a call.
@@ -49,16 +51,17 @@ struct Player<'a> {
     faults: Faults,
 }
 
-/// Plays a day from a fresh state; the state after it. A bad line stops the play, and the rest is only read for
-/// more of them.
+/// Plays a day from a fresh state, with the changes of a plan; the state after it. A bad line stops the play, and the rest
+/// is only read for more of them.
 pub fn play(
     source: &mut dyn BufRead,
     names: &mut Names,
+    plan: &Plan,
     watchers: &mut [&mut dyn Watch],
 ) -> Result<State, Stop> {
     let faults = Faults { first: Vec::new(), all: 0 };
     let (state, mirror) = (State::new(), Mirror::default());
-    let mut player = Player { names, state, mirror, stated: false, called: false, faults };
+    let mut player = Player { names, plan, state, mirror, stated: false, called: false, faults };
     each_line(source, |line, bytes| player.line(line, bytes, watchers))
         .map_err(Stop::Unreadable)?;
     if player.faults.all == 0 {
@@ -73,7 +76,7 @@ impl Player<'_> {
         let taken = read_line(line, bytes, self.names).and_then(|read| match read {
             Some(Line::Places(places)) => self.places(places),
             Some(Line::Call(call)) => {
-                self.call(&call, watchers);
+                self.planned(*call, watchers);
                 Ok(())
             }
             None => Ok(()),
@@ -89,20 +92,31 @@ impl Player<'_> {
     /// A state has its places from its beginning, so no call may have been made on it.
     fn places(&mut self, places: Places) -> Result<(), String> {
         if std::mem::replace(&mut self.stated, true) {
-            return Err("'places' stands twice: leave one of them".to_owned());
+            return Err("'places' is there twice: remove one of them".to_owned());
         }
         if self.called {
-            return Err("'places' stands below a call: write it above the first one".to_owned());
+            return Err("'places' comes after a call: write it above the first call".to_owned());
         }
         self.state = State::with_places(places);
         Ok(())
     }
 
-    fn call(&mut self, call: &Call, watchers: &mut [&mut dyn Watch]) {
+    /// A call as the plan changes it, and those that the plan adds.
+    fn planned(&mut self, mut call: Call, watchers: &mut [&mut dyn Watch]) {
         self.called = true;
         if self.faults.all > 0 {
             return;
         }
+        if let Some(before) = self.plan.before(&mut call) {
+            let _ = self.call(&before, watchers);
+        }
+        let said = self.call(&call, watchers);
+        if let Some(after) = said.ok().and_then(|said| self.plan.after(&call, &said)) {
+            let _ = self.call(&after, watchers);
+        }
+    }
+
+    fn call(&mut self, call: &Call, watchers: &mut [&mut dyn Watch]) -> Result<Said, Refusal> {
         let said = make(&mut self.state, call);
         let changes = match &said {
             Ok(said) => self.mirror.follow(call, said, &self.state),
@@ -119,13 +133,24 @@ impl Player<'_> {
         for watcher in watchers {
             watcher.see(&step);
         }
+        said
     }
 }
 
 /// Plays a text that has no fault.
 #[cfg(test)]
 pub fn play_text(day: &str, names: &mut Names, watchers: &mut [&mut dyn Watch]) -> State {
-    match play(&mut day.as_bytes(), names, watchers) {
+    play_text_changed(day, names, &Plan::default(), watchers)
+}
+
+#[cfg(test)]
+pub fn play_text_changed(
+    day: &str,
+    names: &mut Names,
+    plan: &Plan,
+    watchers: &mut [&mut dyn Watch],
+) -> State {
+    match play(&mut day.as_bytes(), names, plan, watchers) {
         Ok(state) => state,
         Err(_) => panic!("a good day"),
     }

@@ -74,6 +74,10 @@ impl Counts {
         self.time = self.time.saturating_add(lasted(spell, day_ends));
     }
 
+    pub fn is_trouble(&self) -> bool {
+        self.abandoned > 0 || self.order_lines > 0
+    }
+
     pub fn falsely(&self) -> u64 {
         self.came_back + self.turned_away
     }

@@ -1,10 +1,11 @@
-//! Each ranked cause in a sentence, with the figures that prove it, and how to mend it.
+//! Each ranked cause in a sentence, with the figures that prove it.
 
+use crate::action::{self, Action};
 use crate::cause::Cause;
 use crate::history::{Guid, History};
 use crate::names::Names;
 use crate::rank::{Group, Verdict};
-use crate::words::{moment_of_clock, show_delay, show_guid, show_moment, spoken, Moment};
+use crate::words::{moment_of_clock, show_guid, show_moment, spoken, Moment};
 use crate::writers::Writer;
 use std::time::Duration;
 
@@ -12,7 +13,29 @@ use std::time::Duration;
 pub struct Told {
     pub title: &'static str,
     pub what: String,
-    pub mend: String,
+    /// What happened in a few words, for the first line of the answer.
+    pub short: String,
+    /// None where nobody has to act.
+    pub action: Option<Action>,
+    orders: u64,
+}
+
+impl Told {
+    /// Who has to act.
+    pub fn who(&self) -> &'static str {
+        self.action.as_ref().map_or("No action needed", |action| action.who.name())
+    }
+
+    /// What to do, and what it saves.
+    pub fn advice(&self) -> String {
+        let right = match (&self.action, self.orders) {
+            (Some(action), _) => return action.told(),
+            (None, 0) => "nothing was ordered",
+            (None, 1) => "the order is right",
+            (None, _) => "the orders are right",
+        };
+        format!("as far as this day goes, {right}.")
+    }
 }
 
 pub fn tell(group: &Group, history: &History, names: &Names) -> Told {
@@ -24,18 +47,12 @@ pub fn tell(group: &Group, history: &History, names: &Names) -> Told {
         (Verdict::TakenOver, _) => teller.taken_over(),
         (Verdict::NotAgain, _) => teller.not_again(),
     };
-    Told { title: title(group), what, mend: teller.mend() }
-}
-
-fn title(group: &Group) -> &'static str {
-    match (group.verdict, group.cause) {
-        (Verdict::TurnedAway, _) => "another writer drew on, and was turned away",
-        (Verdict::CameBack, Cause::LeaseRanOut) => "the lease is too short",
-        (Verdict::CameBack, Cause::Disposed) => "disposed, and drawn again",
-        (Verdict::CameBack, _) => "the writer left and came back",
-        (Verdict::TakenOver, _) => "drawn again by somebody else",
-        (Verdict::NotAgain, Cause::Disposed) => "disposed",
-        (Verdict::NotAgain, _) => "the writer is gone",
+    Told {
+        title: teller.title(),
+        what,
+        short: teller.short(),
+        action: action::of(group, history),
+        orders: group.counts.order_lines,
     }
 }
 
@@ -48,7 +65,7 @@ pub fn how_often(number: u64) -> String {
     }
 }
 
-/// `1 order line`, `2 order lines`.
+/// `1 order`, `2 orders`.
 pub fn counted(number: u64, one: &str) -> String {
     let s = if number == 1 { "" } else { "s" };
     format!("{number} {one}{s}")
@@ -78,16 +95,6 @@ fn between((least, most): (Moment, Moment)) -> String {
     }
 }
 
-/// Seconds, rounded up to whole minutes or hours where there are several.
-fn rounded(nanos: u64) -> u64 {
-    let seconds = nanos.div_ceil(1_000_000_000);
-    match seconds {
-        0..120 => seconds,
-        120..7_200 => seconds.div_ceil(60) * 60,
-        _ => seconds.div_ceil(3_600) * 3_600,
-    }
-}
-
 struct Teller<'a> {
     group: &'a Group,
     history: &'a History,
@@ -95,6 +102,20 @@ struct Teller<'a> {
 }
 
 impl Teller<'_> {
+    fn title(&self) -> &'static str {
+        let unasserted = || self.leased().is_some_and(|(writer, lease)| unasserted(writer, lease));
+        match (self.group.verdict, self.group.cause) {
+            (Verdict::TurnedAway, _) => "another writer was drawing, but was turned away",
+            (Verdict::CameBack, Cause::LeaseRanOut) if unasserted() => "nothing asserts the writer",
+            (Verdict::CameBack, Cause::LeaseRanOut) => "the lease is too short",
+            (Verdict::CameBack, Cause::Disposed) => "disposed, and drawn again",
+            (Verdict::CameBack, _) => "the writer left and came back",
+            (Verdict::TakenOver, _) => "drawn again by somebody else",
+            (Verdict::NotAgain, Cause::Disposed) => "disposed",
+            (Verdict::NotAgain, _) => "the writer is gone",
+        }
+    }
+
     fn lost(&self) -> String {
         guids(&self.group.lost)
     }
@@ -116,8 +137,9 @@ impl Teller<'_> {
         how_often(self.group.lines.len() as u64)
     }
 
+    /// ` 3 min later`.
     fn again(&self) -> String {
-        self.group.again.map_or(String::new(), |again| format!(", after {}", between(again)))
+        self.group.again.map_or(String::new(), |again| format!(" {} later", between(again)))
     }
 
     fn when(&self) -> String {
@@ -134,56 +156,44 @@ impl Teller<'_> {
         let (lost, losses, again) = (self.lost(), self.losses(), self.again());
         let each = if self.group.lines.len() == 1 { "" } else { " each time" };
         let Some((writer, lease)) = self.leased() else {
-            return format!("The leases of {lost} ran out together {losses}, and then one of them drew again{again}.");
+            return format!("The leases of {lost} ran out together {losses}, and one of them drew again{each}{again}.");
         };
-        let (lease, drawing) = (moment_of_clock(lease), writer.expired_drawing);
-        let gaps = match writer.samples.ends {
-            Some((least, most)) if least == most => {
-                format!("its samples come every {}", spoken(most))
-            }
-            Some((_, most)) => format!("its samples come up to {} apart", spoken(most)),
-            None => "no two of its samples have different times".to_owned(),
-        };
-        let assertions = if drawing > 0 && writer.samples.ends.is_none_or(|(_, most)| most <= lease)
-        {
-            ", but no assertion came with them (a sample asserts nothing)"
+        let unasserted = if unasserted(writer, lease) {
+            ", but nothing asserts it (a sample is no assertion)"
         } else {
             ""
         };
         format!(
-            "The lease of {lost} is {} and {gaps}{assertions}: it ran out {losses} and {lost} drew again{each}{again}.",
-            spoken(lease)
+            "The lease of {lost} is {}, and {}{unasserted}. The lease ran out {losses}, and {lost} drew again{each}{again}.",
+            spoken(moment_of_clock(lease)),
+            gaps(writer)
         )
     }
 
     fn turned_away(&self) -> String {
         let [order, filter, ownership] = self.group.away;
         let reasons = [
-            (ownership, "another writer owned the instance"),
-            (filter, "too close to the last one"),
-            (order, "not later than the last one"),
+            (ownership, "another writer owned the pen"),
+            (filter, "too close to the sample before"),
+            (order, "not later than the sample before"),
         ];
         let reasons: Vec<_> = reasons.iter().filter(|(n, _)| *n > 0).collect();
         let reasons = match reasons[..] {
             [(_, why)] => (*why).to_owned(),
             _ => reasons.iter().map(|(n, why)| format!("{n} {why}")).collect::<Vec<_>>().join(", "),
         };
+        let turned = guids(&self.group.turned);
         format!(
-            "{} while {} drew on: {} of its samples for {} had been turned away ({reasons}), and such an answer records no writer.",
+            "{} while {turned} was drawing. But {} for {} had been turned away ({reasons}), and a sample that is turned away records no writer.",
             self.happened(),
-            guids(&self.group.turned),
-            order + filter + ownership,
+            counted(order + filter + ownership, "sample"),
             self.keys()
         )
     }
 
     fn came_back(&self) -> String {
-        format!(
-            "{}, and {} drew again{}.",
-            self.happened(),
-            guids(&self.group.drawers),
-            self.again()
-        )
+        let drawers = guids(&self.group.drawers);
+        format!("{}, and {drawers} drew again{}.", self.happened(), self.again())
     }
 
     fn taken_over(&self) -> String {
@@ -214,59 +224,62 @@ impl Teller<'_> {
             }
             Cause::LeaseRanOut => {
                 let lease = self.leased().map(|(_, lease)| moment_of_clock(lease));
-                let lease = lease.map_or(String::new(), |l| format!(", {}, ", spoken(l)));
-                format!("The lease of {lost}{} ran out {when}", lease.trim_end())
+                let lease = lease.map_or(String::new(), |l| format!(" ({})", spoken(l)));
+                format!("The lease of {lost}{lease} ran out {when}")
             }
             cause => format!("{} {when}", cause.told(&lost)),
         }
     }
 
-    fn mend(&self) -> String {
+    fn short(&self) -> String {
+        let (lost, again) = (self.lost(), self.again());
         match (self.group.verdict, self.group.cause) {
-            (Verdict::TurnedAway, _) => self.mend_turned_away(),
-            (Verdict::CameBack, Cause::LeaseRanOut) => self.mend_lease(),
-            (Verdict::CameBack, Cause::Disposed) => {
-                "dispose an instance only when no writer draws it any more.".to_owned()
-            }
-            (Verdict::CameBack | Verdict::TakenOver, _) => format!(
-                "order only what stays abandoned for longer than {}.",
-                spoken(self.group.again.map_or(0, |(_, most)| most))
+            (Verdict::TurnedAway, _) => format!(
+                "{} was drawing, but its samples were turned away, and {lost} was lost",
+                guids(&self.group.turned)
             ),
-            (Verdict::NotAgain, _) if self.group.counts.order_lines == 0 => {
-                "nothing. As far as this day goes, it is abandoned.".to_owned()
+            (Verdict::CameBack, Cause::LeaseRanOut) => match self.leased() {
+                Some((writer, lease)) if unasserted(writer, lease) => {
+                    format!(
+                        "{lost} draws, but nothing asserts it within its lease of {}",
+                        spoken(moment_of_clock(lease))
+                    )
+                }
+                Some((writer, lease)) => {
+                    format!(
+                        "{lost}'s lease is {}, {}",
+                        spoken(moment_of_clock(lease)),
+                        gaps(writer)
+                    )
+                }
+                None => {
+                    format!("the leases of {lost} ran out together, and one of them drew again")
+                }
+            },
+            (Verdict::CameBack | Verdict::TakenOver, Cause::Disposed) => {
+                format!("{} disposed and drawn again", self.were())
             }
-            (Verdict::NotAgain, _) => {
-                "nothing. As far as this day goes, the order is right.".to_owned()
-            }
+            (Verdict::CameBack, _) => format!("{lost} left and came back{again}"),
+            (Verdict::TakenOver, _) => format!("{lost} left, and somebody else drew{again}"),
+            (Verdict::NotAgain, _) => format!("{} not drawn again", self.were()),
         }
     }
+}
 
-    /// Codes 5 and 7 take a writer out and let it own what it owned.
-    fn mend_turned_away(&self) -> String {
-        let mut mend = format!(
-            "call note_writer (code 6) for {} after such an answer: then it stands for the instance when the other is lost.",
-            guids(&self.group.turned)
-        );
-        let [.., ownership] = self.group.away;
-        if ownership > 0 && matches!(self.group.cause, Cause::Unregistered | Cause::Dropped) {
-            mend += &format!(
-                " Call release_owner_of (code 20) for {} when it leaves, or it goes on owning the instance.",
-                self.lost()
-            );
-        }
-        mend
-    }
+/// Its lease is longer than the gaps between its samples, and ran out all the same.
+fn unasserted(writer: &Writer, lease: Duration) -> bool {
+    writer.expired_drawing > 0 && longest_gap(writer) <= moment_of_clock(lease)
+}
 
-    fn mend_lease(&self) -> String {
-        let lost = self.lost();
-        let Some((writer, lease)) = self.leased() else {
-            return format!("offer {lost} longer leases, or assert them in between.");
-        };
-        let most = writer.samples.ends.map_or(0, |(_, most)| most);
-        if most <= moment_of_clock(lease) {
-            return format!("assert {lost} with each of its samples.");
-        }
-        let longer = show_delay(Duration::from_secs(rounded(2 * most.unsigned_abs())));
-        format!("offer a lease longer than the gaps (match {lost} .. lease {longer}), or assert {lost} in between.")
+/// The longest time between two samples.
+pub fn longest_gap(writer: &Writer) -> Moment {
+    writer.samples.ends.map_or(0, |(_, most)| most)
+}
+
+fn gaps(writer: &Writer) -> String {
+    match writer.samples.ends {
+        Some((least, most)) if least == most => format!("its samples come every {}", spoken(most)),
+        Some((_, most)) => format!("its samples come up to {} apart", spoken(most)),
+        None => "no two of its samples have different times".to_owned(),
     }
 }

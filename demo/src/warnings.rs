@@ -106,7 +106,7 @@ impl Warnings {
         for (from, to) in backs.into_iter().flatten() {
             self.warn(step.call.line, |_| {
                 format!(
-                    "the time goes back from {} to {}: put the lines in the order of their times, and dates in all of them or in none",
+                    "the time goes back from {} to {}: sort the lines by time, and write dates in all lines or in none",
                     show_moment(from),
                     show_moment(to)
                 )
@@ -133,7 +133,7 @@ impl Warnings {
             self.warn(step.call.line, |warnings| {
                 let key = step.names.show(&words.key);
                 let meant = meant(&key, warnings.keys.iter().map(|key| step.names.show(key)));
-                format!("nobody has named {key} before, so the call changes nothing{meant}")
+                format!("no call has named {key} before, so this call changes nothing{meant}")
             });
         }
     }
@@ -147,7 +147,7 @@ impl Warnings {
         self.warn(step.call.line, |_| {
             let (key, places) = (step.names.show(&step.call.words.key), step.state.places());
             format!(
-                "all {} places are taken, so {key} gets none: purge what is abandoned (autopurge) before it comes",
+                "all {} places are taken, so {key} is not tracked: purge abandoned instances before it (autopurge)",
                 places.count()
             )
         });
@@ -168,7 +168,7 @@ impl Warnings {
             let known = warnings.writers.iter().filter(|(_, signs)| signs.matched);
             let guid = show_guid(&words.writer);
             let meant = meant(&guid, known.map(|(guid, _)| show_guid(guid)));
-            format!("nobody has matched {guid} before, so it has no lease that could run out: match it first{meant}")
+            format!("{guid} was not matched before, so it has no lease that can run out: match it first{meant}")
         });
     }
 
@@ -207,7 +207,7 @@ impl Warnings {
         signs.unasserted = true;
         self.warn(step.call.line, |_| {
             let guid = show_guid(&guid);
-            format!("{guid} draws and its lease has run out; a sample asserts nothing, so no later lapse takes it out: assert {guid} with its samples")
+            format!("{guid} writes, but its lease has run out. A sample does not assert its writer, so no later lapse takes it out: assert {guid} with each sample")
         });
     }
 
@@ -257,8 +257,8 @@ mod tests {
         let day = |rest: &str| MATCH.to_owned() + rest;
         one(&day("expire at 07:59\nexpire at 07:58"), 2, "goes back from 08:00:00 to 07:59:00");
         one(&day("admit pen-01 from a/b at 08:01\ndispose pen-02"), 3, "did you mean pen-01?");
-        one("admit p from c/d at 1s\nadmit p from c/d at 2s", 1, "nobody has matched c/d before");
-        one(&day("admit p from a/c at 08:01"), 2, "nobody has matched a/c");
+        one("admit p from c/d at 1s\nadmit p from c/d at 2s", 1, "c/d was not matched before");
+        one(&day("admit p from a/c at 08:01"), 2, "a/c was not matched before");
         one(
             &day("admit p from a/b at 08:09\nadmit p from a/b at 08:18"),
             2,
@@ -316,8 +316,8 @@ mod tests {
             let calls = (0..instances).map(|n| format!("register pen-{n}\n"));
             first.to_owned() + &calls.collect::<String>()
         };
-        one(&day("places 32\n", 35), 34, "all 32 places are taken, so pen-32 gets none");
-        one(&day("", 130), 129, "all 128 places are taken, so pen-128 gets none");
+        one(&day("places 32\n", 35), 34, "all 32 places are taken, so pen-32 is not tracked");
+        one(&day("", 130), 129, "all 128 places are taken, so pen-128 is not tracked");
         assert_eq!(warned(&day("places 32\n", 32)), []);
     }
 
@@ -325,7 +325,7 @@ mod tests {
     fn a_sample_does_not_assert() {
         let day = "assert a/b at 08:01\nadmit p from a/b at 08:05\nlapse at 08:07\n\
                    admit p from a/b at 08:08\nadmit p from a/b at 08:09";
-        one(&(MATCH.to_owned() + day), 5, "a sample asserts nothing");
+        one(&(MATCH.to_owned() + day), 5, "A sample does not assert its writer");
     }
 
     #[test]

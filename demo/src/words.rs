@@ -77,7 +77,7 @@ pub fn guid(word: &str) -> Result<[u8; 16], String> {
     };
     parsed.ok_or_else(|| {
         format!(
-            "{} is no writer: write PARTICIPANT/ENTITY with up to 12 and 4 characters, or 0x and 32 hexadecimal digits",
+            "{} is not a writer: write PARTICIPANT/ENTITY with up to 12 and 4 characters, or 0x and 32 hexadecimal digits",
             quoted(word)
         )
     })
@@ -88,7 +88,7 @@ pub fn participant(word: &str) -> Option<Result<[u8; 12], String>> {
     let name = word.strip_suffix("/*")?;
     Some(named(name).ok_or_else(|| {
         format!(
-            "{} is no participant: write up to 12 characters, or 0x and 24 hexadecimal digits, before /*",
+            "{} is not a participant: write up to 12 characters, or 0x and 24 hexadecimal digits, before /*",
             quoted(word)
         )
     }))
@@ -179,7 +179,7 @@ fn nanos(word: &str) -> Option<i128> {
 fn span(word: &str) -> Result<i128, String> {
     nanos(word).ok_or_else(|| {
         format!(
-            "{} is no time: write it as 3s, 2.5s, 250ms, 10m, 08:15, 08:15:30 or 2026-11-15 08:15 (1974 to 2037)",
+            "{} is not a time: write it as 3s, 2.5s, 250ms, 10m, 08:15, 08:15:30 or 2026-11-15 08:15 (1974 to 2037)",
             quoted(word)
         )
     })
@@ -189,7 +189,7 @@ fn span(word: &str) -> Result<i128, String> {
 pub fn time(word: &str) -> Result<Time, String> {
     let nanos = span(word)?;
     let sec = i32::try_from(nanos.div_euclid(SECOND))
-        .map_err(|_| format!("{} is beyond the 2^31 seconds that a time has", quoted(word)))?;
+        .map_err(|_| format!("{} is beyond the 2^31 seconds that a time can have", quoted(word)))?;
     Ok(Time { sec, nanosec: nanos.rem_euclid(SECOND) as u32 })
 }
 

@@ -81,7 +81,7 @@ fn a_lapse_before_second_0() {
     );
     assert!(rows[1].starts_with("pen,-00:00:01,,3.000,no writers,parted,"), "{shown}");
     let output = piped(&["-", "why"], day.as_bytes());
-    assert!(text(&output.stdout).contains("from -00:00:09 to 00:00:02\n"), "{output:?}");
+    assert!(text(&output.stdout).contains(" from -00:00:09 to 00:00:02; "), "{output:?}");
 }
 
 /// Without a negative time a lapse counts at its clock.
@@ -125,7 +125,7 @@ fn a_lease_that_runs_out_before_second_0() {
         );
         text(&piped(&["-", "why"], day.as_bytes()).stdout)
     };
-    let drawing = "but no assertion came with them";
+    let drawing = "but nothing asserts it";
     assert!(told("-4s").contains(drawing), "{}", told("-4s"));
     assert!(!told("-3s").contains(drawing), "{}", told("-3s"));
 }

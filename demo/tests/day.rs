@@ -24,7 +24,7 @@ fn bad_files() {
     turned_down(&["none.txt"], 1, "none.txt: ");
     turned_down(&["src"], 1, "src: ");
     let bad = written("bad.txt", b"expire at 1s\n\npart nobody\nadmit pen from a/b\n");
-    turned_down(&[&bad], 1, "bad.txt:3: 'nobody' is no writer: write PARTICIPANT/ENTITY");
+    turned_down(&[&bad], 1, "bad.txt:3: 'nobody' is not a writer: write PARTICIPANT/ENTITY");
     turned_down(&[&bad, "log"], 1, "bad.txt:4: admit needs 'at'");
     for form in ["--csv", "--json", "--html"] {
         turned_down(&[&bad, "why", form], 1, "nothing was played");
@@ -35,21 +35,21 @@ fn bad_files() {
     turned_down(&[&written("endless.txt", &endless)], 1, "endless.txt:1: longer than 8192 bytes");
     let many = "admitt\n".repeat(1_000);
     let many = written("many.txt", many.as_bytes());
-    turned_down(&[&many], 1, "many.txt:1: 'admitt' is no call (did you mean 'admit'?)");
+    turned_down(&[&many], 1, "many.txt:1: 'admitt' is not a call (did you mean 'admit'?)");
     turned_down(&[&many], 1, "… and 980 more bad lines");
 }
 
 #[test]
 fn bad_arguments() {
     turned_down(&[], 2, "usage: demo DAY");
-    turned_down(&["day.txt", "explain"], 2, "explain needs a key behind it");
-    turned_down(&["day.txt", "explain", "pen-99"], 1, "pen-99 never stands in day.txt");
-    turned_down(&["day.txt", "explain", "a key with blanks"], 1, "is no key");
+    turned_down(&["day.txt", "explain"], 2, "explain needs a key after it");
+    turned_down(&["day.txt", "explain", "pen-99"], 1, "pen-99 does not appear in day.txt");
+    turned_down(&["day.txt", "explain", "a key with blanks"], 1, "is not a key");
     turned_down(&["day.txt", "wyh"], 2, "'wyh' is not understood here");
-    turned_down(&["day.txt", "why", "--xml"], 2, "--xml is no option: write --csv");
+    turned_down(&["day.txt", "why", "--xml"], 2, "--xml is not an option: use --csv");
     turned_down(&["day.txt", "why", "--csv", "--html"], 2, "why takes one of --csv, --json");
     turned_down(&["day.txt", "log", "pen-01"], 2, "'pen-01' is not understood here");
-    turned_down(&["--html"], 2, "--html stands where the day belongs");
+    turned_down(&["--html"], 2, "--html is not a day: name the file of a day first");
 }
 
 #[test]
@@ -93,9 +93,9 @@ fn warnings_do_not_stop_the_day() {
     let said = text(&output.stderr);
     for warning in [
         "standard input:2: warning: the lease of a/b is 5 min, and 9 min passed",
-        "standard input:3: warning: nobody has matched a/c before",
+        "standard input:3: warning: a/c was not matched before",
         "standard input:3: warning: the time goes back from 08:09:00 to 08:08:00",
-        "standard input:4: warning: nobody has named pen-02 before, so the call changes nothing (did you mean pen-01?)",
+        "standard input:4: warning: no call has named pen-02 before, so this call changes nothing (did you mean pen-01?)",
     ] {
         assert!(said.contains(warning), "{said}");
     }

@@ -78,16 +78,20 @@ fn by_digits() {
 
 #[test]
 fn what_is_turned_down() {
-    turned_down(&["lamp.txt", "lamp"], 2, "lamp needs a writer behind it, as plotter-1/c1");
+    turned_down(&["lamp.txt", "lamp"], 2, "lamp needs a writer after it, for example plotter-1/c1");
     turned_down(&["lamp.txt", "lamp", "plotter-1/c1", "pen-01"], 2, "'pen-01' is not understood");
-    turned_down(&["lamp.txt", "lamp", "plotter-9/c1"], 1, "plotter-9/c1 never stands in lamp.txt");
-    turned_down(&["lamp.txt", "lamp", "pen-01"], 1, "'pen-01' is no writer: write PARTICIPANT/");
+    turned_down(
+        &["lamp.txt", "lamp", "plotter-9/c1"],
+        1,
+        "plotter-9/c1 does not appear in lamp.txt",
+    );
+    turned_down(&["lamp.txt", "lamp", "pen-01"], 1, "'pen-01' is not a writer: write PARTICIPANT/");
     let all = "'plotter-1/*' names all writers of a participant, and each has a lamp of its own: write PARTICIPANT/ENTITY";
     turned_down(&["lamp.txt", "lamp", "plotter-1/*"], 1, all);
     turned_down(&["none.txt", "lamp", "plotter-1/c1"], 1, "none.txt: ");
     let bad = written("lamp-bad.txt", b"admit pen from a/b at 1s\npart nobody\n");
-    turned_down(&[&bad, "lamp", "a/b"], 1, "lamp-bad.txt:2: 'nobody' is no writer");
+    turned_down(&[&bad, "lamp", "a/b"], 1, "lamp-bad.txt:2: 'nobody' is not a writer");
     let output = piped(&["-", "lamp", "a/c"], b"admit pen from a/b at 1s\n");
     assert_eq!(output.status.code(), Some(1));
-    assert!(text(&output.stderr).contains("a/c never stands in standard input"));
+    assert!(text(&output.stderr).contains("a/c does not appear in standard input"));
 }

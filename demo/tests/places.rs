@@ -24,8 +24,8 @@ fn the_day_of_a_bench_top_console() {
     assert_eq!(text(&output.stdout), include_str!("bench_top.out"));
     assert_eq!(
         text(&output.stderr),
-        "bench_top.txt:44: warning: all 32 places are taken, so pen-33 gets none: \
-         purge what is abandoned (autopurge) before it comes\n"
+        "bench_top.txt:44: warning: all 32 places are taken, so pen-33 is not tracked: \
+         purge abandoned instances before it (autopurge)\n"
     );
 }
 
@@ -56,17 +56,17 @@ fn the_tables_tell_the_places() {
 fn the_warning_stands_in_the_page() {
     for form in ["--json", "--html"] {
         let shown = text(&demo(&["bench_top.txt", "why", form]).stdout);
-        assert!(shown.contains("all 32 places are taken, so pen-33 gets none"), "{form}");
+        assert!(shown.contains("all 32 places are taken, so pen-33 is not tracked"), "{form}");
     }
 }
 
 #[test]
 fn the_places_are_stated_once_and_above_the_first_call() {
     let twice = written("places-twice.txt", b"places 32\nplaces 32\n");
-    turned_down(&[&twice], 1, "places-twice.txt:2: 'places' stands twice: leave one of them");
+    turned_down(&[&twice], 1, "places-twice.txt:2: 'places' is there twice: remove one of them");
     for call in ["expire at 1s", "register pen", "take_lost"] {
         let below = written("places-below.txt", format!("{call}\nplaces 128\n").as_bytes());
-        let says = "places-below.txt:2: 'places' stands below a call: write it above the first one";
+        let says = "places-below.txt:2: 'places' comes after a call: write it above the first call";
         turned_down(&[&below], 1, says);
     }
     let good = "# a console\n\nkeys largest 64\nplaces 32 # a small one\nregister pen\n";
@@ -77,7 +77,7 @@ fn the_places_are_stated_once_and_above_the_first_call() {
 fn another_number_is_a_bad_line() {
     for number in ["0", "31", "33", "64", "127", "256", "65536", "many"] {
         let day = written("places.txt", format!("# a console\nplaces {number}\n").as_bytes());
-        let says = format!("places.txt:2: '{number}' is no number of places: write 32 or 128");
+        let says = format!("places.txt:2: '{number}' is not a number of places: write 32 or 128");
         turned_down(&[&day], 1, &says);
         turned_down(&[&day, "why", "--html"], 1, "nothing was played");
     }

@@ -24,7 +24,7 @@ fn goes_by([name, digits]: [&str; 2], day: &str) -> bool {
     let output = piped(&["-", "explain", digits], day.as_bytes());
     let known = output.status.success();
     assert_eq!(known, text(&output.stdout).starts_with(&format!("{name}: 1 call changed")));
-    assert_eq!(!known, text(&output.stderr).contains(&format!("{digits} never stands in")));
+    assert_eq!(!known, text(&output.stderr).contains(&format!("{digits} does not appear in")));
     known
 }
 
@@ -114,13 +114,9 @@ fn a_size_above_4096_is_refused_as_15() {
 #[test]
 fn the_size_is_stated_once_and_above_the_first_key() {
     let twice = written("twice.txt", b"keys largest 64\nkeys largest 64\n");
-    turned_down(&[&twice], 1, "twice.txt:2: 'keys' stands twice: leave one of them");
+    turned_down(&[&twice], 1, "twice.txt:2: 'keys' appears twice: remove one of them");
     let below = written("below.txt", b"expire at 1s\nregister abc\nkeys largest 64\n");
-    turned_down(
-        &[&below],
-        1,
-        "below.txt:3: 'keys' stands below a key: write it above the first one",
-    );
+    turned_down(&[&below], 1, "below.txt:3: 'keys' comes after a key: put it before the first one");
     assert!(shown(&["-"], "expire at 1s\nkeys largest 64\nregister abc\n").contains("\n  abc "));
 }
 
@@ -131,7 +127,7 @@ fn names_are_asked_for() {
     let serial = "pen-0.35mm/black/lot-2026-11/no-000417";
     assert!(text(&asked(serial).stdout).starts_with(&format!("{serial}: ")));
     for other in ["pen-0.35mm/black/lot-2026-11/no-000419".to_owned(), "a".repeat(65)] {
-        let says = format!("{other} never stands in serials.txt");
+        let says = format!("{other} does not appear in serials.txt");
         turned_down(&["serials.txt", "explain", &other], 1, &says);
     }
     let said =

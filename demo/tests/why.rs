@@ -2,7 +2,7 @@
 
 mod common;
 
-use common::{demo, ends_within, piped, text, written};
+use common::{browsed, browser, demo, piped, printed, text, well_formed, written};
 
 fn why(form: &[&str]) -> String {
     let output = demo(&[&["often.txt", "why"], form].concat());
@@ -28,23 +28,66 @@ fn the_golden_files() {
 
 #[test]
 fn readme_shows_it() {
-    let readme = include_str!("../../README.md");
+    let readme = concat!(include_str!("../../README.md"), include_str!("../README.md"));
     let block = |text: &str| {
         text.lines()
             .map(|l| if l.is_empty() { "\n".into() } else { format!("    {l}\n") })
             .collect()
     };
     let why: String = block(include_str!("often.out").split("\nEach").next().unwrap_or_default());
-    assert!(readme.contains(&why), "README.md has the answer for often.txt up to its tables");
+    assert!(readme.contains(&why), "a README.md has the answer for often.txt up to its tables");
+    let answer: String = block(include_str!("often.out").lines().next().unwrap_or_default());
+    assert!(include_str!("../README.md").contains(&answer), "demo/README.md has the first line");
     let tables: String = block(include_str!("day.out"));
-    assert!(readme.contains(&tables), "README.md has the tables of day.txt");
+    assert!(readme.contains(&tables), "a README.md has the tables of day.txt");
     let explained = include_str!("explain.out");
     let (from, to) = (explained.find("pen-03: ").unwrap_or(0), explained.find("pen-04: "));
     let explained: String = block(&explained[from..to.unwrap_or(from)]);
-    assert!(readme.contains(&explained), "README.md has the history of pen-03");
+    assert!(readme.contains(&explained), "a README.md has the history of pen-03");
 }
 
-/// What the answer says would mend it does.
+/// Each reason in the first line, with who has to act and what it saves.
+#[test]
+fn first_lines() {
+    let start =
+        "match a/b kind automatic lease 5m at 08:00\nadmit pen from a/b at 08:00 strength 3\n\
+                 note_taken pen samples 1\n";
+    let first = |rest: &str| {
+        let why = why_of(&(start.to_owned() + rest), "");
+        why.lines().next().unwrap_or_default().to_owned()
+    };
+    assert_eq!(first(""), "No orders: no pen was shown abandoned. No action needed.");
+    assert_eq!(first("part a/b at 08:01\n"), "The only order was not needless. No action needed.");
+    let again = "admit pen from a/b at 08:03\nnote_taken pen samples 1\n";
+    assert_eq!(
+        first(&format!("part a/b at 08:01\n{again}part a/b at 08:05\n")),
+        "1 of 2 orders was needless. Reason: a/b left and came back 2 min later. Buyer: wait 2 min before you order: 1 order fewer."
+    );
+    assert_eq!(
+        first(&format!("dispose pen at 08:01\n{again}")),
+        "No orders, though pens were shown abandoned once. Reason: pen was disposed and drawn again. Operator: dispose a pen only when no writer draws it any more."
+    );
+    assert_eq!(
+        first(&format!("{again}lapse at 08:06\nadmit pen from a/b at 08:07\n")),
+        "The only order was needless. Reason: a/b draws, but nothing asserts it within its lease of 5 min. Maker: assert a/b with each sample: 1 order fewer."
+    );
+    assert_eq!(
+        first("admit pen from c/d at 08:05\nlapse at 08:06\n"),
+        "The only order was needless. Reason: c/d was drawing, but its samples were turned away, and a/b was lost. Maker: call note_writer (code 6) for c/d when its sample is turned away: 1 order fewer."
+    );
+    assert!(first(
+        "admit pen from c/d at 08:01\nunregister pen from a/b at 08:02\nadmit pen from c/d at 08:03\n"
+    )
+    .ends_with(" for c/d when its sample is turned away: 1 order fewer."));
+    assert!(first("unregister pen from a/b at 08:01\nadmit pen from c/d at 08:03\n")
+        .ends_with(" (alone it saves no order of this day)."));
+    assert_eq!(
+        first("part a/b at 08:01\nadmit pen from c/d at 08:03\n"),
+        "The only order was not needless. Reason: a/b left, and somebody else drew 2 min later. Buyer: wait 2 min before you order: 1 order fewer."
+    );
+}
+
+/// What the answer advises helps.
 #[test]
 fn the_remedies_work() {
     let day = include_str!("../often.txt").replace("lease 5m", "lease 18m");
@@ -57,35 +100,27 @@ fn the_remedies_work() {
         }
     }
     let why = why_of(&mended, "");
-    assert!(why.contains("shown abandoned once, which makes 1 order line."), "{why}");
-    assert!(why.contains("1 of 1 order line: the writer is gone"), "{why}");
+    assert!(why.starts_with("The only order was not needless. No action needed.\n"), "{why}");
+    assert!(why.contains("1 of 1 order: the writer is gone"), "{why}");
     let kept = "admit pen from a/b at 08:00\nunregister pen from a/b at 08:01\nadmit pen from c/d at 08:03\n";
-    let told = "Call release_owner_of (code 20) for a/b when it leaves";
+    let told = "and release_owner_of (code 20) for a/b when it leaves";
     let folded = |text: String| text.split_whitespace().collect::<Vec<_>>().join(" ");
     assert!(folded(why_of(kept, "")).contains(told));
+    let dropped = kept.replace("unregister pen from a/b", "drop_writer a/b");
+    let told = "and clear_owner_for_writer (code 18) for a/b when it leaves";
+    assert!(folded(why_of(&dropped, "")).contains(told));
 }
 
-/// Tags that open and close one another, attributes in quotes: what an XML reader would take.
-fn well_formed(page: &str) -> Vec<String> {
-    let mut open: Vec<&str> = Vec::new();
-    let mut seen = Vec::new();
-    let body = page.strip_prefix("<!DOCTYPE html>").expect("a page");
-    for piece in body.split('<').skip(1) {
-        let (tag, text) = piece.split_once('>').expect("a tag ends");
-        assert!(!text.contains('>'), "{piece}");
-        assert_eq!(tag.matches('"').count() % 2, 0, "{tag}");
-        if let Some(name) = tag.strip_prefix('/') {
-            assert_eq!(open.pop(), Some(name), "{piece}");
-            continue;
-        }
-        let name = tag.split([' ', '/']).next().unwrap_or_default();
-        seen.push(tag.to_owned());
-        if !tag.ends_with('/') {
-            open.push(name);
-        }
-    }
-    assert!(open.is_empty(), "{open:?}");
-    seen
+/// Of two writers that expire together one was silent for longer than its lease, the other was not asserted.
+#[test]
+fn a_longer_lease_and_an_assertion() {
+    let day =
+        "match a/b kind automatic lease 1m at 08:00\nmatch c/d kind automatic lease 5m at 08:00\n\
+         admit pen from a/b at 08:00\nnote_writer pen from c/d\nadmit other from c/d at 08:00\n\
+         admit other from c/d at 08:04\nlapse at 08:06\nadmit pen from a/b at 08:06\n";
+    let why = why_of(day, "");
+    let told = " Maker: set that of a/b to 12 min, and assert c/d with each sample.";
+    assert!(why.lines().next().is_some_and(|first| first.ends_with(told)), "{why}");
 }
 
 fn count(page: &str, what: &str) -> usize {
@@ -103,6 +138,11 @@ fn the_page_is_whole_and_alone() {
     }
     assert_eq!(count(&page, "url("), count(&page, "url(#stripes)"));
     assert!(page.contains("prefers-color-scheme: dark") && page.contains("@media print"));
+    let answer = include_str!("often.out").lines().next().unwrap_or_default();
+    let first = page.split("<h1>").nth(1).and_then(|rest| rest.split("</h1>").next());
+    let first = first.unwrap_or_default().replace("<span>", "").replace("</span>", "");
+    assert_eq!(first.replace("&#39;", "'"), answer);
+    assert_eq!(count(&page, "<div class=\"tile\">"), 2);
     assert_eq!(count(&page, "<g class=\"instance\">"), 5);
     assert_eq!(count(&page, "<g class=\"writer\">"), 4);
     assert_eq!(count(&page, "<rect class=\"falsely\""), 12);
@@ -164,19 +204,19 @@ fn verdicts() {
     assert!(last.contains(",last registration,4,"), "{last}");
 }
 
-/// An order line is one where a pen has no writer in its set and no sample left to take.
+/// An order is made where a pen has no writer in its set and no sample left to take.
 #[test]
 fn order_lines() {
     let start = "match a/b kind automatic lease 5m at 08:00\nadmit pen from a/b at 08:00\n";
     let why = |rest: &str| why_of(&(start.to_owned() + rest), "");
     let untaken = why("part a/b at 08:01\n");
-    assert!(untaken.contains("abandoned once, which makes 0 order lines"), "{untaken}");
+    assert!(untaken.starts_with("No orders, though pens were shown abandoned once."), "{untaken}");
     assert!(untaken.contains("No call of this day takes samples"), "{untaken}");
-    assert!(untaken.contains("no order line: 1 sample to take"), "{untaken}");
+    assert!(untaken.contains("no order: 1 sample not yet taken"), "{untaken}");
     let taken = why("part a/b at 08:01\nnote_taken pen samples 1\n");
-    assert!(taken.contains("abandoned once, which makes 1 order line."), "{taken}");
+    assert!(taken.starts_with("The only order was not needless."), "{taken}");
     let registered = why_of("register pen\n", "");
-    assert!(registered.contains("1 order line without an abandonment"), "{registered}");
+    assert!(registered.contains("1 order for a pen that was registered"), "{registered}");
 }
 
 #[test]
@@ -186,7 +226,7 @@ fn a_day_without_instances() {
         let output = demo(&[&[empty.as_str(), "why"], form].concat());
         assert!(output.status.success());
     }
-    assert!(why_of("", "").contains("No instance (pen) was shown abandoned."));
+    assert!(why_of("", "").starts_with("No orders: no pen was shown abandoned."));
     well_formed(&why_of("", "--html"));
 }
 
@@ -204,29 +244,20 @@ fn a_busy_page_stays_small() {
     assert!(page.contains("parted ×"), "labels that would run into one another are one");
 }
 
-/// A browser draws it, where there is one.
+/// A browser draws and prints it, where there is one.
 #[test]
 fn a_browser_draws_it() {
-    let browser = ["chromium", "chromium-browser", "google-chrome"]
-        .into_iter()
-        .find(|name| std::process::Command::new(name).arg("--version").output().is_ok());
-    let Some(browser) = browser else {
-        eprintln!("no browser: the page was not drawn");
+    let Some(browser) = browser() else {
         return;
     };
     let page = written("often.html", why(&["--html"]).as_bytes());
     let picture = written("often.png", b"");
-    let profile = std::path::Path::new(env!("CARGO_TARGET_TMPDIR")).join("browser");
-    let mut command = std::process::Command::new(browser);
-    command
-        .args(["--headless", "--no-sandbox", "--disable-gpu", "--hide-scrollbars"])
-        .arg(format!("--user-data-dir={}", profile.display()))
-        .arg("--window-size=1180,1900")
-        .arg(format!("--screenshot={picture}"))
-        .arg(format!("file://{page}"));
-    assert!(ends_within(command, 60), "{browser} draws the page");
+    let to = format!("--screenshot={picture}");
+    browsed(browser, &page, &["--window-size=1180,1900", &to]);
     let drawn = std::fs::read(&picture).expect("the picture is there");
     assert!(drawn.starts_with(b"\x89PNG"));
     assert_eq!(drawn[16..24], [0, 0, 4, 156, 0, 0, 7, 108], "1180 times 1900 points");
     assert!(drawn.len() > 50_000, "an empty page has less: {}", drawn.len());
+    let sheets = printed(browser, &page);
+    assert!((2..=4).contains(&sheets.len()) && sheets.iter().all(|full| *full), "{sheets:?}");
 }

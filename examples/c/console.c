@@ -1,3 +1,4 @@
+/* SPDX-License-Identifier: Apache-2.0 */
 /* A small console from the two headers alone: it reads lines from standard input, one call each, and shows which instances
  * still have a writer. `console` has places for 128 instances, `console 32` for 32, in a fourth of the memory for pens.
  *

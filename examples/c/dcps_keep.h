@@ -1,3 +1,4 @@
+/* SPDX-License-Identifier: Apache-2.0 */
 /* Keeps a state where it outlives the process: two slots, each with a sequence number and a checksum. C99 and C++.
  *
  * A call is not atomic, so a state that is lent in place can be found half written, and well formed all the same. Here the

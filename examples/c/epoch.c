@@ -1,3 +1,4 @@
+/* SPDX-License-Identifier: Apache-2.0 */
 /* Times before the epoch and across it: a time stands for seconds * 10^9 + nanoseconds, with its sign. From these numbers
  * the answers are worked out here, for every pair of the times below, and compared with the library's: of the two reads, of
  * admit (outcomes 0, 1 and 2) and of autopurge. */

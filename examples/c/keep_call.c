@@ -1,3 +1,4 @@
+/* SPDX-License-Identifier: Apache-2.0 */
 /* Loads the state that a file keeps, of either size, or starts one in a new file, registers an instance, and saves:
  * keep_call FILE. A file with both slots damaged stays as it is. */
 #define _POSIX_C_SOURCE 200809L

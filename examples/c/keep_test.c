@@ -1,3 +1,4 @@
+/* SPDX-License-Identifier: Apache-2.0 */
 /* Cuts a save at every byte, in memory, and loads: the old state before the last byte, the new one behind it. Then damage to
  * either slot and to both, blocks that reach the area out of order, a head from before heads had the number of places, and a
  * file. All of it with states of either size, and an area of one size that is used for the other, or whose number of places is

@@ -1,3 +1,4 @@
+/* SPDX-License-Identifier: Apache-2.0 */
 /* Every builder and every accessor of dcps_inline.h at work, as text that the test of the Rust bindings
  * (bindings/rust/tests/inline.rs) compares with its own:
  *

@@ -1,3 +1,4 @@
+/* SPDX-License-Identifier: Apache-2.0 */
 /* How much stack the library takes: a thread's stack is painted, calls are made on it, and the paint that is gone below the
  * caller's frame is counted. Every code and every read, on a fresh, a full and a damaged state of either size; keys of many
  * lengths; stamps.

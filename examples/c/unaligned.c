@@ -1,3 +1,4 @@
+/* SPDX-License-Identifier: Apache-2.0 */
 /* The same calls, keys and stamps with every buffer at each address modulo 16, on states of either size, and in threads of
  * their own: the same states, answers, hashes and fractions. */
 #define _POSIX_C_SOURCE 200809L

@@ -1,3 +1,4 @@
+/* SPDX-License-Identifier: Apache-2.0 */
 /* What the console and the writer share: the topics, keys by name, and how to stop. */
 #ifndef COMMON_H
 #define COMMON_H

@@ -1,3 +1,4 @@
+/* SPDX-License-Identifier: Apache-2.0 */
 /* A console behind Cyclone DDS: it tells the library what a reader sees (feed.h) and, asked to look, prints Cyclone's own
  * reader cache beside the library's state, instance by instance.
  *

@@ -1,3 +1,4 @@
+/* SPDX-License-Identifier: Apache-2.0 */
 /* What a DDS reader sees, told to the library: one function for each event, in the order of docs/INTEGRATION.md. Each
  * recipe can be left out by its bit, so that tests can show what it is for. */
 #ifndef FEED_H

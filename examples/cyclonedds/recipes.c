@@ -1,3 +1,4 @@
+/* SPDX-License-Identifier: Apache-2.0 */
 /* What each recipe of docs/INTEGRATION.md is for, by the library alone: each holds with its recipe and fails without it. */
 #include "feed.h"
 

@@ -1,3 +1,4 @@
+/* SPDX-License-Identifier: Apache-2.0 */
 /* A writer in a process of its own. It does what it is told on standard input, a command a line, and answers each with
  * "ok", so that a script can wait for it.
  *

@@ -1,17 +1,17 @@
-//! Sets and gets the state of a tracker, as `src/append` of the oracle does of ZeroDDS's: through the bytes of `State`, laid
-//! out by the oracle's reading.
+//! Sets and gets the state of a tracker, as `src/append` of the oracle does for ZeroDDS's trackers. It goes through
+//! the bytes of `State`, in the layout of the oracle's reading.
 
 use dcps::{Places, Refusal, SharedState, State};
 use lists::Image;
 use reading::{Head, State as Records};
 use std::cell::{Cell, RefCell};
 
-/// No records, with the places that are set.
+/// A state without records, with the number of places that was set.
 fn fresh() -> Records {
     Records::fresh(PLACES.get().count() as u16)
 }
 
-/// The state of records; they come from one that is well formed.
+/// The state of these records. They come from a well-formed one.
 fn laid_out(mut records: Records) -> State {
     records.head.instances = records.instances.len() as u32;
     records.head.writer_records = records.writers.len() as u32;
@@ -29,19 +29,19 @@ fn laid_out(mut records: Records) -> State {
 }
 
 thread_local! {
-    /// The states that were set last: of the instances, of the writers.
+    /// The states that were set last: of the instances, and of the writers.
     static SET: RefCell<[SharedState; 2]> = RefCell::default();
-    /// For how many instances the next ones have places.
+    /// The number of places of the next ones.
     static PLACES: Cell<Places> = const { Cell::new(Places::Large) };
 }
 
-/// For how many instances the trackers have places that are set from here on. The driver does not say, as ZeroDDS has room
-/// for any number.
+/// Sets the number of places of the trackers that are made from here on. The driver does not say it, because ZeroDDS
+/// has room for any number.
 pub fn set_places(places: Places) {
     PLACES.set(places);
 }
 
-/// Why the latest call on the trackers set last was refused. The driver has no place for it, as ZeroDDS refuses nothing.
+/// Why the latest call on the trackers was refused. The driver cannot return it, because ZeroDDS refuses nothing.
 pub fn take_refusal() -> Option<Refusal> {
     SET.with_borrow(|set| set.iter().find_map(SharedState::take_refusal))
 }
@@ -109,10 +109,10 @@ pub mod liveliness {
     use reading::layout::{self, WriterKind};
     use std::time::Duration;
 
-    /// Where a writer stands.
+    /// Whether a writer is alive.
     pub use dcps::WriterLiveliness as Standing;
 
-    /// A writer as the tracker holds it.
+    /// A writer as the tracker has it.
     #[derive(Debug, Clone, Copy)]
     pub struct Writer {
         pub guid: [u8; 16],
@@ -122,7 +122,7 @@ pub mod liveliness {
         pub last_assert: Duration,
     }
 
-    /// All that a tracker holds; the writers rise by GUID.
+    /// All that a tracker has; the writers in the order of their GUIDs.
     #[derive(Debug, Clone)]
     pub struct Held {
         pub writers: Vec<Writer>,
@@ -168,7 +168,7 @@ pub mod liveliness {
         }
     }
 
-    /// The writers lost and not yet taken.
+    /// The expired writers that were not taken yet.
     pub fn lost(tracker: &LivelinessTracker) -> Vec<[u8; 16]> {
         tracker.state().lock().lost()
     }

@@ -1,5 +1,5 @@
-//! The oracle's driver calls ZeroDDS's trackers by their own names. Here it is built a second time, the same file, and
-//! the names are those of crate `dcps`: what changes for a console's transport is this `use`.
+//! The oracle's driver calls ZeroDDS's trackers by their names. Here the same file is built a second time, with the
+//! names of crate `dcps`. In a console's transport, this `use` is all that changes.
 
 pub use dcps::{LivelinessKind, sample_info, status, time};
 
@@ -10,7 +10,7 @@ pub use driver::{Original, Turn, handle_of, two_handles};
 mod access;
 pub use access::{set_places, take_refusal};
 
-/// The handles, with the counter's access that the driver asks for.
+/// The handles, and access to their counter, which the driver needs.
 pub mod instance_handle {
     pub use dcps::instance_handle::*;
 
@@ -27,13 +27,13 @@ pub mod instance_handle {
     }
 }
 
-/// The instances, with the access to their state.
+/// The instances, and access to their state.
 pub mod instance_tracker {
     pub use crate::access::instances as access;
     pub use dcps::instance_tracker::*;
 }
 
-/// The writers, with the access to their state.
+/// The writers, and access to their state.
 pub mod liveliness_tracker {
     pub use crate::access::liveliness as access;
     pub use dcps::liveliness_tracker::*;

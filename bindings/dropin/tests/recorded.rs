@@ -1,5 +1,6 @@
-//! The recorded lists, and generated ones, through the driver over our trackers: answers, Out, head and buffers are those
-//! recorded. Calls refused as 1 to 8 are not the driver's, as ZeroDDS knows no such refusal; the reading answers them.
+//! Takes the recorded lists, and generated ones, through the driver over our trackers: answers, out, head and buffers
+//! are the recorded ones. Calls that are refused as 1 to 8 do not go through the driver, because ZeroDDS has no such
+//! refusals; the oracle's reading answers them.
 
 use dcps::Places;
 use dropin::{Original, set_places, take_refusal};
@@ -8,7 +9,7 @@ use reading::{Answer, Head, Lent, Sheet, State};
 
 const SAMPLE: &[u8] = include_bytes!("../../../oracle/lists/sample.bin");
 
-/// The trackers, and the state that they are in.
+/// The trackers, and their state.
 #[derive(Default)]
 struct Beside {
     trackers: Option<(State, Original)>,
@@ -17,7 +18,7 @@ struct Beside {
 }
 
 impl Beside {
-    /// The trackers in a state: those of the last call, where that left it.
+    /// The trackers in a state. If the last call left that state, these are its trackers.
     fn at(&mut self, state: State) -> Original {
         match self.trackers.take() {
             Some((left, trackers)) if left == state => trackers,

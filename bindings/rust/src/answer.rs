@@ -3,7 +3,7 @@
 use crate::layout::{i32_at, u32_at, u64_at, ANSWER_BYTES};
 use crate::{InstanceHandle, InstanceStateKind, LivelinessChangedStatus};
 
-/// What [`State::raw_call`](crate::State::raw_call) answers. Fields that a call does not answer are 0.
+/// The answer of [`State::raw_call`](crate::State::raw_call). A field that the call does not answer is 0.
 ///
 /// ```
 /// let mut sheet = [0; 256];
@@ -22,7 +22,7 @@ pub struct Answer {
     pub present: bool,
     /// Whether the instance is new to the reader.
     pub view_new: bool,
-    /// Where the instance stands.
+    /// The instance's kind.
     pub kind: InstanceStateKind,
     /// When the next lease runs out, in nanoseconds.
     pub next_due: Option<u64>,
@@ -36,14 +36,14 @@ pub struct Answer {
     pub no_writers_generation_count: i32,
     /// Owners cleared, or instances purged.
     pub count: u32,
-    /// Entries written to Out.
+    /// Entries written to out.
     pub listed: u32,
-    /// Of code 39, with zeros elsewhere.
+    /// The status, of code 39; zeros for other codes.
     pub status: LivelinessChangedStatus,
 }
 
 impl Answer {
-    /// The answer of the 72 bytes that include/dcps.h describes, of a call that is accepted.
+    /// The answer from the 72 bytes that include/dcps.h describes, if the call was accepted.
     #[must_use]
     pub fn from_bytes(b: &[u8; ANSWER_BYTES]) -> Self {
         Self {

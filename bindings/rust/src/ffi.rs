@@ -104,16 +104,23 @@ pub(crate) fn halves(guid: &[u8; 16]) -> (u64, u64) {
     (u64_at(guid, 0), u64_at(guid, 8))
 }
 
-/// Reads by the functions of the header that have these names: what is lent, what passes by value, and 24 bytes for the
-/// answer.
+/// The reads of the header, under the same names: bytes that are read, values, bytes that are written where there are any,
+/// and 24 bytes for the answer.
 macro_rules! reads {
-    ($($name:ident = $symbol:ident($($lent:ident: $bytes:ty),*; $($value:ident: $type:ty),*);)*) => {
+    ($($name:ident = $symbol:ident(
+        $($lent:ident: $bytes:ty),*; $($value:ident: $type:ty),* $(; $($written:ident: $buffer:ty),*)?
+    );)*) => {
         $(
-            pub(crate) fn $name($($lent: $bytes,)* $($value: $type),*) -> Result<Read, Refusal> {
+            pub(crate) fn $name(
+                $($lent: $bytes,)* $($value: $type,)* $($($written: $buffer),*)?
+            ) -> Result<Read, Refusal> {
                 // SAFETY: each pointer comes from a borrow of that many bytes, and what is written overlaps with
                 // nothing else.
                 read(|answer, length| unsafe {
-                    c::$symbol($($lent.as_ptr(), $lent.len(),)* $($value,)* answer, length)
+                    c::$symbol(
+                        $($lent.as_ptr(), $lent.len(),)* $($value,)* $($($written.as_mut_ptr(), $written.len(),)*)?
+                        answer, length,
+                    )
                 })
             }
         )*
@@ -131,32 +138,11 @@ reads! {
     holder_in_force = dcps_holder_in_force(pens: &[u8]; high: u64, low: u64);
     writer_lookup = dcps_writer_lookup(pens: &[u8]; high: u64, low: u64);
     would_leave_writerless = dcps_would_leave_writerless(pens: &[u8], gone: &[u8]; view_states: u32);
+    left_writerless = dcps_left_writerless(pens: &[u8], gone: &[u8]; view_states: u32; out: &mut [u8; OUT_BYTES]);
     changes = dcps_changes(head: &[u8; HEAD_BYTES];);
     key_hash = dcps_key_hash(serialized: &[u8]; largest: u64);
     wire_fraction = dcps_wire_fraction(; nanosec: u32);
     wire_nanos = dcps_wire_nanos(; fraction: u32, remainder: u32);
-}
-
-pub(crate) fn left_writerless(
-    pens: &[u8],
-    gone: &[u8],
-    view_states: u32,
-    out: &mut [u8; OUT_BYTES],
-) -> Result<Read, Refusal> {
-    // SAFETY: as of the reads above.
-    read(|answer, length| unsafe {
-        c::dcps_left_writerless(
-            pens.as_ptr(),
-            pens.len(),
-            gone.as_ptr(),
-            gone.len(),
-            view_states,
-            out.as_mut_ptr(),
-            out.len(),
-            answer,
-            length,
-        )
-    })
 }
 
 pub(crate) fn status(head: &[u8; HEAD_BYTES]) -> (u32, [u8; ANSWER_BYTES]) {

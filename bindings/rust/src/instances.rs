@@ -11,8 +11,8 @@ use alloc::vec::Vec;
 
 /// Calls on the instances.
 impl<B: Buffers> State<B> {
-    /// An instance is registered: made known or brought back, its registrations one more, its holder
-    /// replaced (DDS 1.4, 2.2.2.4.2.5). Bringing it back does not make it new to the reader.
+    /// Registers an instance: starts it, or revives it if it is not alive. Its `writer_count` goes up by 1, and its
+    /// holder is replaced (DDS 1.4, 2.2.2.4.2.5). A revived instance does not become new to the reader.
     ///
     /// Refused as 4, 6, 9 or 13.
     ///
@@ -32,8 +32,8 @@ impl<B: Buffers> State<B> {
         Ok(self.call(&Sheet::register(&keyhash, key_holder.as_ref(), timestamp))?.handle)
     }
 
-    /// An instance is made known or brought back, with one registration at least; none where it is new and
-    /// the limit is reached. A negative limit is none.
+    /// Starts an instance, or revives it if it is not alive. A `writer_count` of 0 becomes 1. `None` if the instance
+    /// is new and there are already as many as the limit. A negative limit means no limit.
     ///
     /// Refused as 9 or 13.
     ///
@@ -51,7 +51,7 @@ impl<B: Buffers> State<B> {
         Ok(self.call(&Sheet::ensure_registered_limited(&keyhash, max_instances))?.found())
     }
 
-    /// An instance is disposed (DDS 1.4, 2.2.2.4.2.10). No where the handle is unknown.
+    /// Disposes an instance (DDS 1.4, 2.2.2.4.2.10). `false` if the handle is unknown.
     ///
     /// Refused as 4.
     ///
@@ -73,8 +73,8 @@ impl<B: Buffers> State<B> {
         Ok(self.call(&Sheet::dispose(handle, timestamp))?.yes)
     }
 
-    /// One registration fewer; without any, an instance that is not disposed has no writers
-    /// (DDS 1.4, 2.2.2.4.2.7). The set of writers stays. No where the handle is unknown.
+    /// Takes 1 off `writer_count`. If it is then 0, an instance that is not disposed becomes one without writers (DDS
+    /// 1.4, 2.2.2.4.2.7). The set of writers stays. `false` if the handle is unknown.
     ///
     /// Refused as 4.
     ///
@@ -96,8 +96,8 @@ impl<B: Buffers> State<B> {
         Ok(self.call(&Sheet::unregister(handle, timestamp))?.yes)
     }
 
-    /// A writer unregistered an instance and leaves its set; an alive one whose set is then empty has no
-    /// writers. No where the handle is unknown.
+    /// A writer unregistered an instance: it leaves the instance's set. If the instance is alive and its set is then
+    /// empty, it becomes one without writers. `false` if the handle is unknown.
     ///
     /// Refused as 4.
     ///
@@ -121,7 +121,7 @@ impl<B: Buffers> State<B> {
         Ok(self.call(&Sheet::unregister_writer(handle, &writer, timestamp))?.yes)
     }
 
-    /// A writer writes an instance: it joins its set.
+    /// A writer writes an instance: it joins the instance's set. This revives nothing.
     ///
     /// Refused as 10.
     ///
@@ -137,8 +137,8 @@ impl<B: Buffers> State<B> {
         Ok(())
     }
 
-    /// A writer is gone: it leaves every instance. The alive ones that it leaves without a writer are
-    /// answered, in the order of their keys, and have no writers from `timestamp` on.
+    /// A writer is gone: it leaves the sets of all instances. An alive instance whose last writer it was becomes one
+    /// without writers, at `timestamp`. The handles of these instances, in the order of their keys.
     ///
     /// Refused as 4.
     ///
@@ -159,7 +159,8 @@ impl<B: Buffers> State<B> {
         Ok(self.listed_handles(answer.listed).collect())
     }
 
-    /// The instance of a dispose or unregister marker, made known and counted, but not brought back.
+    /// A dispose or unregister marker came: starts the instance if the key is unknown, and counts 1 sample. This
+    /// revives nothing.
     ///
     /// Refused as 4, 6, 9 or 13.
     ///
@@ -178,9 +179,9 @@ impl<B: Buffers> State<B> {
         Ok(self.call(&Sheet::observe_lifecycle(&keyhash, key_holder, timestamp))?.handle)
     }
 
-    /// A sample of an instance that is known or has room: made known or brought back, and counted. Its
-    /// handle and its samples, or none where it is new and the limit is reached. The holder is asked for
-    /// only where none is stored.
+    /// A sample came: starts the instance, or revives it, and counts the sample. The handle and the number of
+    /// samples, or `None` if the instance is new and there are already as many as the limit. `key_holder` is called
+    /// only if no holder is stored.
     ///
     /// Refused as 4, 6, 9 or 13.
     ///
@@ -209,9 +210,9 @@ impl<B: Buffers> State<B> {
         Ok(answer.found().map(|handle| (handle, answer.samples)))
     }
 
-    /// A sample went into the cache: its times become the last of order and filter, and its writer joins
-    /// the set. Whether the instance is new to the reader, where it stands and its two generation counts;
-    /// none where the key is unknown.
+    /// A sample was admitted: its times become the last ones of the destination order and of the filter, and its
+    /// writer joins the set. Whether the instance is new to the reader, its kind, and its two generation counts;
+    /// `None` if the key is unknown.
     ///
     /// Refused as 4 or 10.
     ///
@@ -237,7 +238,7 @@ impl<B: Buffers> State<B> {
         Ok(a.present.then_some(state))
     }
 
-    /// A sample was delivered: its time becomes the last of order and filter.
+    /// A sample was delivered: its time becomes the last one of the destination order and of the filter.
     ///
     /// Refused as 4.
     ///
@@ -256,7 +257,8 @@ impl<B: Buffers> State<B> {
         Ok(())
     }
 
-    /// Samples of an instance were taken: so many fewer, and it is new no more.
+    /// Samples of an instance were taken: `n` samples fewer, but not below 0. The instance is no longer new to the
+    /// reader.
     ///
     /// ```
     /// let mut state = dcps::State::new();
@@ -271,7 +273,7 @@ impl<B: Buffers> State<B> {
         Ok(())
     }
 
-    /// An instance was seen: it is new no more.
+    /// An instance was seen: it is no longer new to the reader.
     ///
     /// ```
     /// let mut state = dcps::State::new();
@@ -285,7 +287,7 @@ impl<B: Buffers> State<B> {
         Ok(())
     }
 
-    /// An instance is new again. No where the key is unknown.
+    /// Makes an instance new to the reader again. `false` if the key is unknown.
     ///
     /// ```
     /// let mut state = dcps::State::new();
@@ -298,7 +300,7 @@ impl<B: Buffers> State<B> {
         Ok(self.call(&Sheet::mark_view_new(keyhash))?.yes)
     }
 
-    /// So many samples of an instance fewer.
+    /// `n` samples of an instance fewer, but not below 0.
     ///
     /// ```
     /// let mut state = dcps::State::new();
@@ -312,8 +314,8 @@ impl<B: Buffers> State<B> {
         Ok(())
     }
 
-    /// Whether a sample is accepted under exclusive ownership (DDS 1.4, 2.2.3.9.2); if so, its writer owns
-    /// the instance from now on. An unknown instance accepts, and stores nothing: only [`State::admit`]
+    /// Whether a writer may write an instance under exclusive ownership (DDS 1.4, 2.2.3.9.2). If so, it owns the
+    /// instance from `now` on. For an unknown key the answer is yes, and nothing is stored: only [`State::admit`]
     /// gives a new instance an owner.
     ///
     /// Refused as 4.
@@ -349,7 +351,7 @@ impl<B: Buffers> State<B> {
         Ok(self.call(&sheet)?.yes)
     }
 
-    /// [`State::accept_under_exclusive_ownership`] at second 0 and without a deadline.
+    /// [`State::accept_under_exclusive_ownership`] with second 0 as now, and without a deadline.
     ///
     /// ```
     /// let mut state = dcps::State::new();
@@ -374,7 +376,7 @@ impl<B: Buffers> State<B> {
         )
     }
 
-    /// A writer announced its strength: it holds the instances it owns at that.
+    /// A writer announced its strength: sets the owner's strength in every instance that the writer owns.
     ///
     /// ```
     /// let mut state = dcps::State::new();
@@ -393,7 +395,7 @@ impl<B: Buffers> State<B> {
         Ok(())
     }
 
-    /// A writer gives up the instances it owns; their number.
+    /// Every instance that the writer owns loses its owner. How many these were.
     ///
     /// ```
     /// let mut state = dcps::State::new();
@@ -406,7 +408,7 @@ impl<B: Buffers> State<B> {
         Ok(self.call(&Sheet::clear_owner_for_writer(&writer_guid))?.count as usize)
     }
 
-    /// The writers of a participant give up the instances they own; their number.
+    /// Every instance whose owner belongs to the participant loses its owner. How many these were.
     ///
     /// ```
     /// let mut state = dcps::State::new();
@@ -419,7 +421,7 @@ impl<B: Buffers> State<B> {
         Ok(self.call(&Sheet::clear_owner_for_writer_prefix(prefix))?.count as usize)
     }
 
-    /// A writer gives up an instance; yes if it owned it.
+    /// If the writer owns the instance, the instance loses its owner. Whether the writer owned it.
     ///
     /// ```
     /// let mut state = dcps::State::new();
@@ -437,9 +439,10 @@ impl<B: Buffers> State<B> {
         Ok(self.call(&Sheet::release_owner_of(keyhash, &writer))?.yes)
     }
 
-    /// Instances that were disposed, or without writers, for their delay go (DDS 1.4, 2.2.3.22); their
-    /// number. `u128::MAX` is never. Where `now` is earlier than an instance's time the gap counts as 0, so
-    /// that a delay of 0 purges it, and no other. [`Time`]s before the epoch count as any other.
+    /// Removes instances that were disposed, or without writers, for their delay or longer (DDS 1.4, 2.2.3.22). How
+    /// many these were. A delay of `u128::MAX` removes nothing. If `now` is earlier than the instance's time, the gap
+    /// counts as 0: a delay of 0 removes the instance, and no other delay does. [`Time`]s before the epoch count as
+    /// any other.
     ///
     /// Refused as 4.
     ///

@@ -5,8 +5,8 @@ use crate::{InstanceHandle, InstanceStateKind, KeyHash, Refusal, Sheet, State, T
 #[cfg(feature = "alloc")]
 use {alloc::vec::Vec, core::time::Duration};
 
-/// A received sample, with what the reader asks of it, for [`State::admit`]. Both its [`Time`]s may lie before the
-/// epoch.
+/// A received sample, and what the reader's QoS asks of it, for [`State::admit`]. Both its [`Time`]s may be before
+/// the epoch.
 ///
 /// ```
 /// use dcps::{Sample, Time};
@@ -18,28 +18,28 @@ use {alloc::vec::Vec, core::time::Duration};
 pub struct Sample<'a> {
     /// The instance.
     pub keyhash: KeyHash,
-    /// The serialized key; kept where the instance has none stored.
+    /// The serialized key. It is stored if the instance has none.
     pub key_holder: &'a [u8],
     /// The writer.
     pub writer: [u8; 16],
-    /// The strength that it writes with.
+    /// The writer's strength.
     pub strength: i32,
-    /// The time of the sample and of the destination order.
+    /// When the sample was written: for last sample and the destination order.
     pub order_ts: Time,
-    /// Now: the time of the filter and of ownership.
+    /// Now: for the filter and for ownership.
     pub filter_ts: Time,
-    /// Whether the destination order is by source.
+    /// Whether the destination order goes by source time.
     pub by_source_timestamp: bool,
     /// The least time between two samples of an instance.
     pub min_separation_nanos: u128,
-    /// The reader's deadline; none is infinite.
+    /// The deadline of ownership; `None` means that there is none.
     pub deadline_nanos: Option<u128>,
-    /// The most instances; a negative limit is none.
+    /// The greatest number of instances; a negative number means no limit.
     pub max_instances: i32,
 }
 
 impl Sample<'_> {
-    /// A sample of one time, from a reader that asks nothing of it.
+    /// A sample with one time for both, without order by source, filter, deadline and limit, at strength 0.
     ///
     /// ```
     /// use dcps::{Sample, State, Time};
@@ -65,36 +65,37 @@ impl Sample<'_> {
     }
 }
 
-/// What became of a sample. All but `Admitted` changed nothing.
+/// What became of a sample. All but `Admitted` change nothing, and do not record the writer: after outcomes 1, 2 and
+/// 4 call [`State::note_writer`] while the instance is alive.
 #[derive(Debug, Clone, Copy, PartialEq, Eq)]
 pub enum Admission {
-    /// Outcome 0: it is in.
+    /// Outcome 0: it is admitted.
     Admitted {
         /// The instance.
         handle: InstanceHandle,
-        /// Samples of it that were not taken yet, this one among them.
+        /// How many of its samples are not taken yet, this one included.
         samples_in_cache: u32,
         /// Whether it is new to the reader.
         view_new: bool,
-        /// Where it stands.
+        /// Its kind.
         kind: InstanceStateKind,
         /// How often it came back after a dispose.
         disposed_generation_count: i32,
         /// How often it came back after its last writer left.
         no_writers_generation_count: i32,
     },
-    /// Outcome 1: not later than the last one delivered.
+    /// Outcome 1: the order is by source, and its time is not later than that of the last sample delivered.
     DestinationOrder,
-    /// Outcome 2: too close to the last one.
+    /// Outcome 2: it is too close to the last one, by the filter.
     TimeBasedFilter,
-    /// Outcome 3: a new instance beyond the limit.
+    /// Outcome 3: the instance is new, and the limit is reached.
     MaxInstances,
     /// Outcome 4: another writer owns the instance.
     ExclusiveOwnership,
 }
 
 impl Admission {
-    /// Whether the sample is in.
+    /// Whether the sample is admitted.
     ///
     /// ```
     /// assert!(!dcps::Admission::MaxInstances.is_admitted());
@@ -113,9 +114,9 @@ pub struct Lapse {
     pub changed: bool,
     /// When the next lease runs out.
     pub next_due: Option<Duration>,
-    /// The instances that it left without a writer, in the order of their keys.
+    /// The instances that lost their last writer, in the order of their keys.
     pub writerless: Vec<InstanceHandle>,
-    /// Instances whose owner expired.
+    /// How many instances lost their owner.
     pub owners_cleared: usize,
 }
 
@@ -123,19 +124,20 @@ pub struct Lapse {
 #[cfg(feature = "alloc")]
 #[derive(Debug, Clone, PartialEq, Eq)]
 pub struct Parting {
-    /// Whether a liveliness count moved.
+    /// Whether the number of alive or of not alive writers changed.
     pub changed: bool,
-    /// The instances that it left without a writer, in the order of their keys.
+    /// The instances that lost their last writer, in the order of their keys.
     pub writerless: Vec<InstanceHandle>,
-    /// Instances that the writer owned.
+    /// How many instances lost their owner.
     pub owners_cleared: usize,
 }
 
 /// Calls on instances and writers together.
 impl<B: Buffers> State<B> {
-    /// A sample came in: destination order, filter, limit and ownership are asked in this order, and then
-    /// it is counted in its instance, with its writer. The writer of a sample that starts its instance owns
-    /// it, at its strength, from `filter_ts` on.
+    /// Admits a sample. Destination order, filter, limit and ownership are asked, in this order. Then the sample is
+    /// counted, and its writer joins the instance's set. If the sample starts its instance, the writer owns the
+    /// instance, at its strength, from `filter_ts` on. Liveliness is not touched: call [`State::writer_asserted`]
+    /// before it.
     ///
     /// Refused as 4, 6, 9, 10 or 13.
     ///
@@ -185,8 +187,8 @@ impl<B: Buffers> State<B> {
         })
     }
 
-    /// [`State::expire`], and then each writer that this call expired leaves its instances and gives up
-    /// those it owns. Instances left without a writer are so from `timestamp` on.
+    /// [`State::expire`]. Then each writer that expired in this call leaves its instances, and those that it owned
+    /// lose their owner. `timestamp` is when instances lost their last writer.
     ///
     /// Refused as 4, 5 or 12.
     ///
@@ -213,8 +215,8 @@ impl<B: Buffers> State<B> {
         })
     }
 
-    /// [`State::unmatched`], and then the writer, tracked or not, leaves its instances and gives up those
-    /// it owns.
+    /// [`State::unmatched`]. Then the writer leaves its instances, even if it is not matched, and those that it owned
+    /// lose their owner.
     ///
     /// Refused as 4.
     ///
@@ -232,7 +234,7 @@ impl<B: Buffers> State<B> {
         self.parting(&Sheet::part(&writer, timestamp))
     }
 
-    /// [`State::lost_with_participant`], and then as [`State::part`].
+    /// [`State::lost_with_participant`], and then the same as in [`State::part`].
     ///
     /// Refused as 4.
     ///

@@ -1,13 +1,14 @@
-//! Keeps a state where it outlives the process: two slots, each with a sequence number and a checksum.
+//! Persists a state, so that it outlives the process: two slots, each with a sequence number and a checksum.
 //!
-//! A call is not atomic, so bytes in which a process ended in the middle of one can be well formed and still wrong.
-//! Here the calls are made on a state in memory; after the answer, [`Keeper::save`] writes it to the older slot, first
-//! its bytes, then, once they are synced, its header. Whenever that is cut, the other slot is whole: [`Keeper::load`]
-//! gives the state of the last save that ended or of the one that was cut, and never anything else.
+//! A call is not atomic. If a process ends in the middle of a call, the bytes may be well formed and still wrong.
+//! Here the calls are made on a state in memory. After the answer, [`Keeper::save`] writes the state to the older
+//! slot: first the state's bytes, then, when they are synced, the slot's header. If the process ends during that, the
+//! other slot is whole. So [`Keeper::load`] gives the state of the last save that ended, or of the one that was cut
+//! off, and never anything else.
 //!
-//! The area is that of examples/c/dcps_keep.h, whose comment has the layout. It keeps states of one size, which any whole
-//! slot tells ([`Keeper::places`]); [`Keeper::start`] makes it one of another. The checksum tells a cut write, not a
-//! malicious one.
+//! The area has the layout of examples/c/dcps_keep.h. It keeps states of one size; [`Keeper::places`] tells which,
+//! from any whole slot, and [`Keeper::start`] can change it. The checksum finds a write that was cut off, not one
+//! that was forged.
 //!
 #![cfg_attr(feature = "alloc", doc = "```")]
 #![cfg_attr(not(feature = "alloc"), doc = "```ignore")]
@@ -42,37 +43,37 @@ use core::fmt;
 const HEADER_BYTES: usize = 64;
 const MAGIC: &[u8; 8] = b"dcpskeep";
 
-/// The length of a slot of states with 128 places.
+/// The length of a slot, with 128 places.
 pub const SLOT_BYTES: usize = slot_bytes(Places::Large);
-/// The length of an area of states with 128 places.
+/// The length of an area, with 128 places.
 pub const AREA_BYTES: usize = area_bytes(Places::Large);
 
-/// The length of a slot of states with so many places.
+/// The length of a slot, with this number of places.
 #[must_use]
 pub const fn slot_bytes(places: Places) -> usize {
     HEADER_BYTES + HEAD_BYTES + places.pens_bytes() + WRITERS_BYTES + LOST_BYTES
 }
 
-/// The length of an area of states with so many places.
+/// The length of an area, with this number of places.
 #[must_use]
 pub const fn area_bytes(places: Places) -> usize {
     2 * slot_bytes(places)
 }
 
-/// Where an area is.
+/// What an area is stored in.
 pub trait Area {
     /// Why it could not be read, written or synced.
     type Error;
-    /// Reads bytes; zeros where the area was never written. Behind its end, where a state of the larger size is looked for,
-    /// an error or zeros.
+    /// Reads bytes. Bytes that were never written are zeros. Beyond the end of the area, where a state of the larger
+    /// size is looked for, it gives an error or zeros.
     fn read(&mut self, at: usize, bytes: &mut [u8]) -> Result<(), Self::Error>;
     /// Writes bytes.
     fn write(&mut self, at: usize, bytes: &[u8]) -> Result<(), Self::Error>;
-    /// Returns when what was written is where it stays.
+    /// Returns when what was written will survive.
     fn sync(&mut self) -> Result<(), Self::Error>;
 }
 
-/// An area in memory of fewer than [`area_bytes`].
+/// An area in memory that is shorter than [`area_bytes`].
 #[derive(Debug, Clone, Copy, PartialEq, Eq)]
 pub struct TooShort;
 
@@ -84,7 +85,8 @@ impl fmt::Display for TooShort {
 
 impl core::error::Error for TooShort {}
 
-/// Memory that is shared, mapped or battery-backed. Syncing it is the caller's, where it needs more than a store.
+/// Memory that is shared, mapped or battery-backed. If it needs more than a store to be safe, the caller has to sync
+/// it.
 impl Area for &mut [u8] {
     type Error = TooShort;
 
@@ -104,7 +106,7 @@ impl Area for &mut [u8] {
     }
 }
 
-/// A file that is open to read and write.
+/// A file that is open for reading and writing.
 #[cfg(feature = "std")]
 impl Area for std::fs::File {
     type Error = std::io::Error;
@@ -141,7 +143,7 @@ pub struct Loaded {
     pub slot: usize,
     /// The number of its save, from 1.
     pub sequence: u64,
-    /// The other slot, where it is damaged; one that was never written is not.
+    /// The other slot, if it is damaged. A slot that was never written is not damaged.
     pub damaged: Option<usize>,
 }
 
@@ -150,10 +152,10 @@ pub struct Loaded {
 pub enum KeepError<E> {
     /// Neither slot is whole.
     NoneWhole {
-        /// Which are damaged; one that was never written is not.
+        /// Which slots are damaged. A slot that was never written is not damaged.
         damaged: [bool; 2],
     },
-    /// The area keeps states of another number of places.
+    /// The area keeps states with another number of places.
     OtherPlaces,
     /// The area could not be read, written or synced.
     Area(E),
@@ -179,7 +181,7 @@ impl<E: fmt::Display> fmt::Display for KeepError<E> {
 
 impl<E: fmt::Debug + fmt::Display> core::error::Error for KeepError<E> {}
 
-/// An area with the newest whole slot in it.
+/// An area, and which of its slots is the newest whole one.
 #[derive(Debug)]
 pub struct Keeper<A> {
     area: A,
@@ -195,18 +197,19 @@ enum Slot {
 }
 
 impl<A: Area> Keeper<A> {
-    /// Of an area that is to be loaded or started.
+    /// Of an area. Load it or start it next.
     pub fn new(area: A) -> Self {
         Self { area, places: None, slot: 1, sequence: 0 }
     }
 
-    /// How many places the states have that the area keeps, to load one of them; none where no slot is whole.
+    /// The number of places of the states that the area keeps, which a state needs to load one; `None` if no slot is
+    /// whole.
     pub fn places(&mut self) -> Result<Option<Places>, A::Error> {
         self.area.read(0, &mut [0; HEADER_BYTES])?;
         Ok(self.kept())
     }
 
-    /// By slot 0, or else by slot 1 of either size.
+    /// By slot 0; if that is not whole, by slot 1 of either size.
     fn kept(&mut self) -> Option<Places> {
         if let Some(places) = self.told(0) {
             return Some(places);
@@ -215,9 +218,9 @@ impl<A: Area> Keeper<A> {
         Places::ALL.into_iter().find(slot_1)
     }
 
-    /// The places of the slot that begins there, by its own head, carried over: only where it is whole at that length,
-    /// since one damaged bit makes 0, which is carried over to 128, of 32. A slot that cannot be read, as one behind the
-    /// end of the area, tells none.
+    /// The number of places of the slot that begins here, by its own head, after [`carry_head`]. It counts only if
+    /// the slot is whole at that length: one damaged bit can make 32 to 0, and `carry_head` makes 128 of 0. A slot
+    /// that cannot be read, as one beyond the end of the area, gives `None`.
     fn told(&mut self, begin: usize) -> Option<Places> {
         let (mut header, mut head) = ([0; HEADER_BYTES], [0; HEAD_BYTES]);
         self.area.read(begin, &mut header).ok()?;
@@ -228,7 +231,7 @@ impl<A: Area> Keeper<A> {
         (sum == u64_at(&header, 16)).then_some(places)
     }
 
-    /// The checksum of a slot, where no state is at hand to read it to.
+    /// The checksum of a slot, if there is no state to read it into.
     fn sum_at(&mut self, begin: usize, sequence: u64, places: Places) -> Result<u64, A::Error> {
         let (mut at, end) = (begin + HEADER_BYTES, begin + slot_bytes(places));
         let (mut some, mut sum) = ([0; 512], folded(0, &sequence.to_be_bytes()));
@@ -241,8 +244,8 @@ impl<A: Area> Keeper<A> {
         Ok(sum)
     }
 
-    /// The state goes to the older slot; on an error the newest whole one stays, and saving may be tried again. It has as
-    /// many places as the one that was loaded or started with.
+    /// Writes the state to the older slot. On an error the newest whole slot stays, and you can save again. The state
+    /// has to have as many places as the one that was loaded or started with.
     pub fn save<B: Buffers>(&mut self, state: &State<B>) -> Result<(), KeepError<A::Error>> {
         let (slot, sequence, seen) = (1 - self.slot, self.sequence + 1, state.seen());
         let places = state.places();
@@ -266,8 +269,8 @@ impl<A: Area> Keeper<A> {
         Ok(())
     }
 
-    /// A new area, or one to be given up, also one of another number of places: no slot of either size stays whole, and
-    /// the state is saved.
+    /// Starts a new area, or gives up what an area keeps, whatever its number of places: no slot of either size stays
+    /// whole. Then it saves the state.
     pub fn start<B: Buffers>(&mut self, state: &State<B>) -> Result<(), KeepError<A::Error>> {
         // An area that is too short is left as it is.
         self.area.read(area_bytes(state.places()) - 1, &mut [0])?;
@@ -285,8 +288,8 @@ impl<A: Area> Keeper<A> {
         self.save(state)
     }
 
-    /// The newest slot that is whole: its checksum fits, and the library takes its state. A head from before heads had the
-    /// number of places is carried over ([`carry_head`]). On an error the state is the fresh one.
+    /// Loads the newest slot that is whole: its checksum fits, and the library accepts its state. A head that version
+    /// 0.2 or an earlier one stored is converted ([`carry_head`]). On an error the state is a fresh one.
     pub fn load<B: Buffers>(
         &mut self,
         state: &mut State<B>,
@@ -362,14 +365,14 @@ fn parts<'a>(seen: &Seen<'a>) -> [&'a [u8]; 4] {
     [seen.head, seen.pens, seen.writers, seen.lost]
 }
 
-/// The sequence number of a header that is as a save writes it, whatever its checksum is of.
+/// The sequence number of a header that has the form which a save writes, whatever its checksum is.
 fn marked(header: &[u8; HEADER_BYTES]) -> Option<u64> {
     let sequence = u64_at(header, 8);
     let zeros = header[24..].iter().all(|byte| *byte == 0);
     (header[..8] == MAGIC[..] && sequence != 0 && zeros).then_some(sequence)
 }
 
-/// Of the sequence number and the state, so that a slot with the number of another is not whole.
+/// Over the sequence number and the state, so that a slot with the number of another one is not whole.
 fn sum(sequence: u64, seen: &Seen<'_>) -> u64 {
     parts(seen).into_iter().fold(folded(0, &sequence.to_be_bytes()), folded)
 }

@@ -1,19 +1,21 @@
-//! The key of an instance, from the bytes that its key members serialize to.
+//! The key of an instance, from its serialized key.
 
 use crate::{ffi, KeyHash, Refusal};
 
-/// The largest size that can be stated to [`key_hash()`].
+/// The greatest `largest` that [`key_hash()`] takes.
 pub const KEY_LARGEST_BYTES: u64 = 4_096;
 
-/// The KeyHash of a serialized key (DDSI-RTPS 2.5, 9.6.4.8), by which an instance is named.
+/// The KeyHash of a serialized key (DDSI-RTPS 2.5, 9.6.4.8): the key that names an instance.
 ///
-/// `serialized` has the key members, serialized by the caller: big-endian PLAIN_CDR2 in the order of their member ids,
-/// without a header. `largest` is the largest size that a serialized key of this type can have, and it decides, not the
-/// length of this key: up to 16 the KeyHash is the bytes themselves, zeros behind them; from 17 on it is their MD5 (RFC
-/// 1321), also of a short key. A `string<n>` takes 4 + n + 1 bytes: its length, its characters, the NUL. A type without
-/// a bound, or with one above 4,096, is always hashed: state [`KEY_LARGEST_BYTES`]; a key of more bytes is refused as 14.
+/// `serialized` is the key members, which the caller serializes: big-endian PLAIN_CDR2, in the order of their member
+/// ids, without a header. `largest` is the largest size that a serialized key of this type can have. A `string<n>`
+/// takes 4 + n + 1 bytes: its length, its characters, the NUL.
 ///
-/// Refused as 15 where `largest` is above [`KEY_LARGEST_BYTES`], then as 14 where the key is longer than `largest`.
+/// `largest` decides, not the length of this key. Up to 16, the KeyHash is the bytes themselves, with zeros after
+/// them. From 17 on it is their MD5 (RFC 1321), even for a short key. A type without a bound, or with a bound above
+/// 4,096, is always hashed: state [`KEY_LARGEST_BYTES`]. A key longer than that is refused as 14.
+///
+/// Refused as 15 if `largest` is above [`KEY_LARGEST_BYTES`], then as 14 if the key is longer than `largest`.
 ///
 /// ```
 /// // The key is a string<40>: its length with the NUL in 4 bytes, its characters, the NUL.

@@ -1,4 +1,5 @@
-//! Lengths of the buffers but pens, which [`Places`](crate::Places) has, and numbers in bytes, most significant byte first.
+//! The lengths of all buffers except pens ([`Places`](crate::Places) has that), and numbers in bytes, most
+//! significant byte first.
 
 use crate::InstanceHandle;
 
@@ -17,7 +18,7 @@ pub(crate) const HANDLE_BYTES: usize = 8;
 pub(crate) const HOLDER_PLACES: usize = 144;
 pub(crate) const SET_PLACES: usize = 16;
 
-/// The N bytes from `at`; zeros where the slice ends before them.
+/// The N bytes from `at` on; zeros where the slice is shorter.
 pub(crate) fn array_at<const N: usize>(b: &[u8], at: usize) -> [u8; N] {
     b.get(at..at + N).and_then(|part| part.try_into().ok()).unwrap_or([0; N])
 }
@@ -42,7 +43,7 @@ pub(crate) fn put(b: &mut [u8], at: usize, bytes: &[u8]) {
     b[at..at + bytes.len()].copy_from_slice(bytes);
 }
 
-/// The first handles of an Out.
+/// The first handles of out.
 pub(crate) fn handles(
     out: &[u8; OUT_BYTES],
     listed: u32,
@@ -51,7 +52,7 @@ pub(crate) fn handles(
     entries.map(|entry| InstanceHandle::from_raw(u64_at(entry, 0)))
 }
 
-/// The first GUIDs of a list; all of them where it has no more.
+/// The first GUIDs of a list, or all if it has fewer.
 pub(crate) fn guids(list: &[u8], listed: usize) -> &[[u8; GUID_BYTES]] {
     let (guids, _) = list.as_chunks();
     &guids[..listed.min(guids.len())]

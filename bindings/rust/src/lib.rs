@@ -64,7 +64,7 @@ pub use {
 #[cfg(feature = "std")]
 pub use trackers::{InstanceHandleAllocator, InstanceTracker, LivelinessTracker, SharedState};
 
-/// The modules of ZeroDDS in which these items are, so that a `use` changes in its first name alone.
+/// The modules in which ZeroDDS has these items. So only the first name of a `use` has to change.
 pub mod instance_handle {
     #[cfg(feature = "std")]
     pub use crate::InstanceHandleAllocator;

@@ -12,8 +12,9 @@ use core::time::Duration;
 
 /// Calls on the writers.
 impl<B: Buffers> State<B> {
-    /// A writer matched, with the liveliness that it offers. Yes if a count moved. One that is matched
-    /// already only takes the new kind and lease.
+    /// A writer is discovered: it takes this kind and this lease. A new writer is unasserted. A departed one comes
+    /// back not alive, with a last assertion of 0. An automatic writer that was new or departed is then asserted. Any
+    /// other writer keeps its state. Whether a count changed.
     ///
     /// Refused as 5 or 11.
     ///
@@ -38,7 +39,7 @@ impl<B: Buffers> State<B> {
         Ok(self.call(&Sheet::matched(&writer, kind, lease, now))?.yes)
     }
 
-    /// A writer is matched no more, deleted as usual. Yes if a count moved.
+    /// A writer was deleted: its record goes, unless it is departed. Whether a count changed.
     ///
     /// ```
     /// use dcps::{LivelinessKind, State};
@@ -54,8 +55,8 @@ impl<B: Buffers> State<B> {
         Ok(self.call(&Sheet::unmatched(&writer))?.yes)
     }
 
-    /// A writer is matched no more because its participant fell silent: it counts as not alive until it
-    /// matches again and asserts. Yes if a count moved.
+    /// A writer was lost with its participant. An unasserted writer's record goes. Any other one becomes departed: it
+    /// counts as not alive until it is matched again and asserted. Whether a count changed.
     ///
     /// ```
     /// use dcps::{LivelinessKind, State, WriterLiveliness};
@@ -72,7 +73,8 @@ impl<B: Buffers> State<B> {
         Ok(self.call(&Sheet::lost_with_participant(&writer))?.yes)
     }
 
-    /// A writer asserted itself, which asserts its participant too. Yes if a count moved.
+    /// A writer asserted itself. This also asserts the automatic and the by-participant writers of its participant.
+    /// Whether a count changed.
     ///
     /// Refused as 5.
     ///
@@ -89,8 +91,8 @@ impl<B: Buffers> State<B> {
         Ok(self.call(&Sheet::writer_asserted(&writer, now))?.yes)
     }
 
-    /// A participant was heard: asserts its automatic writers and, where it was a manual assertion, those
-    /// by participant. Yes if a count moved.
+    /// A participant was heard from: asserts its automatic writers and, if `manual` is set, its by-participant
+    /// writers. Whether a count changed.
     ///
     /// Refused as 5.
     ///
@@ -113,10 +115,10 @@ impl<B: Buffers> State<B> {
         Ok(self.call(&Sheet::participant_asserted(prefix, manual, now))?.yes)
     }
 
-    /// Alive writers whose lease ran out become not alive and go to Lost. Whether a count moved, and when
-    /// the next lease runs out.
+    /// Alive writers whose lease ran out become not alive, and go to lost. Whether a count changed, and when the next
+    /// lease runs out.
     ///
-    /// Refused as 5 or 12. [`State::lapse`] also takes them out of their instances.
+    /// Refused as 5 or 12. The writers stay in the sets of their instances; [`State::lapse`] takes them out.
     ///
     /// ```
     /// use dcps::{LivelinessKind, State};
@@ -134,7 +136,7 @@ impl<B: Buffers> State<B> {
         Ok((answer.yes, answer.next_due.map(Duration::from_nanos)))
     }
 
-    /// The writers that expired since the last time, in the order of their expiry; Lost is then empty.
+    /// The writers that expired since the last call, in the order of expiry. Lost is then empty.
     ///
     /// ```
     /// use dcps::{LivelinessKind, State};
@@ -154,7 +156,7 @@ impl<B: Buffers> State<B> {
         Ok(self.listed_guids(answer.listed).copied().collect())
     }
 
-    /// The status; its changes are then acknowledged.
+    /// The status. Both its changes are then 0.
     ///
     /// ```
     /// use dcps::{LivelinessKind, State};
@@ -170,7 +172,7 @@ impl<B: Buffers> State<B> {
         Ok(self.call(&Sheet::take_status())?.status)
     }
 
-    /// A listener was handed a status: its changes are pending no more, later ones still are.
+    /// A listener has got a status: subtracts the status's changes from those pending. Later changes stay pending.
     ///
     /// Refused as 8.
     ///

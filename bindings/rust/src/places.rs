@@ -1,11 +1,11 @@
-//! For how many instances a state has places: the head's figure, and the length of pens.
+//! The number of places for instances: in the head, and by the length of pens.
 
 use crate::layout::{put, u16_at, INSTANCE_BYTES};
 
-/// Where a head has the figure.
+/// Where in the head the number is.
 const HEAD_PLACES: usize = 30;
 
-/// How many instances a state has places for. It has them from its start, and every call keeps the number.
+/// How many instances a state has places for. The number is set when the state is made, and no call changes it.
 ///
 /// ```
 /// use dcps::{Places, Refusal, State};
@@ -46,7 +46,7 @@ impl Places {
         self.count() * INSTANCE_BYTES
     }
 
-    /// Those of a number; none where it is another than 32 or 128.
+    /// The one with this number; `None` if it is neither 32 nor 128.
     ///
     /// ```
     /// use dcps::Places;
@@ -62,15 +62,16 @@ impl Places {
         }
     }
 
-    /// Those of a head; none where it has another number, as one has that was kept before heads had one ([`carry_head`]).
+    /// The one of a head; `None` if its number is neither 32 nor 128, as in a head that version 0.2 or an earlier one
+    /// stored ([`carry_head`]).
     #[must_use]
     pub fn of_head(head: &[u8; 64]) -> Option<Self> {
         Self::from_count(u16_at(head, HEAD_PLACES).into())
     }
 }
 
-/// Carries a head over that was kept before heads had the number of places: it has 0 there, its pens have 65,536 bytes, and
-/// it gets 128. Whether it was such a head; any other stays as it is.
+/// Converts a head that version 0.2 or an earlier one stored. Such a head has 0 as its number of places; it gets 128,
+/// because its pens have 65,536 bytes. Whether it was such a head; any other stays as it is.
 ///
 /// ```
 /// use dcps::{carry_head, Places, Refusal, State};

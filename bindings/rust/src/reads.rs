@@ -34,8 +34,8 @@ impl Iterator for Walker<'_> {
 
 /// Reads.
 impl<B: Buffers> State<B> {
-    /// Whether a sample is delivered under the time-based filter (DDS 1.4, 2.2.3.12): earlier than the last
-    /// one, or so far from it. Yes where there is no last one. [`Time`]s before the epoch count as any other.
+    /// Whether the time-based filter (DDS 1.4, 2.2.3.12) lets a sample in: if it is earlier than the last one, or at
+    /// least the separation after it, or if there is no last one. [`Time`]s before the epoch count as any other.
     ///
     /// Refused as 4.
     ///
@@ -67,9 +67,8 @@ impl<B: Buffers> State<B> {
         Ok(ffi::filter(self.seen().pens, high, low, sec, nanosec, separation)?.yes)
     }
 
-    /// Whether a sample is delivered under the destination order (DDS 1.4, 2.2.3.17): by source, later than
-    /// the last one. Yes where there is no last one, and by reception. [`Time`]s before the epoch count as any
-    /// other.
+    /// Whether the destination order (DDS 1.4, 2.2.3.17) lets a sample in: by source, if it is later than the last
+    /// one, or if there is no last one; by reception, always. [`Time`]s before the epoch count as any other.
     ///
     /// Refused as 4.
     ///
@@ -99,7 +98,7 @@ impl<B: Buffers> State<B> {
         Ok(ffi::order(self.seen().pens, high, low, sec, nanosec, by_source)?.yes)
     }
 
-    /// When a sample of an instance was delivered last.
+    /// The time of an instance's last delivered sample.
     ///
     /// ```
     /// use dcps::{State, Time};
@@ -117,8 +116,8 @@ impl<B: Buffers> State<B> {
         Ok(read.present.then_some(read.time))
     }
 
-    /// Whether the loss of these writers would leave an alive instance, of a view state in the mask, without
-    /// writers.
+    /// Whether there is an alive instance that has writers now, and would have none without these writers. Only
+    /// instances of a view state in the mask count.
     ///
     /// Refused as 1 for more than 256 writers.
     ///
@@ -165,7 +164,7 @@ impl<B: Buffers> State<B> {
         Ok(handles(&out, read.listed).collect())
     }
 
-    /// The same, to the front of Out, where [`State::listed_handles`] reads them: how many.
+    /// The same, written to the front of out: how many. [`State::listed_handles`] reads them.
     ///
     /// Refused as 1 for more than 256 writers.
     pub fn list_left_writerless(
@@ -178,8 +177,8 @@ impl<B: Buffers> State<B> {
         Ok(read.listed)
     }
 
-    /// The handle that follows another in the order of the keys; the first one after nil. None after the
-    /// last and after one that is unknown.
+    /// The handle that comes after another in the order of the keys. After nil comes the first one. After the last
+    /// one and after an unknown one comes `None`.
     ///
     /// ```
     /// use dcps::HANDLE_NIL;
@@ -211,7 +210,7 @@ impl<B: Buffers> State<B> {
         Walker { pens: self.seen().pens, position: 0 }
     }
 
-    /// The bytes from which an instance's key was made: those stored, or, where none are, those offered.
+    /// The bytes that an instance's key was made from: the stored ones, or if there are none, `offered`.
     ///
     /// ```
     /// let mut state = dcps::State::new();
@@ -228,12 +227,13 @@ impl<B: Buffers> State<B> {
         stored.map_or(offered, |(at, length)| &pens[at..at + length])
     }
 
-    /// The first instance, in the order of the keys, that is alive and that a writer writes: its GUID is in the
-    /// set. None exactly where there is no such instance.
+    /// The first instance, in the order of the keys, that is alive and has the writer in its set. `None` if there is
+    /// no such instance.
     ///
-    /// First is the lowest key, compared as bytes, and not the lowest handle. An instance that is not alive
-    /// never counts, also where the writer is still in its set. Over the same bytes the answer is the same; no
-    /// change of times, counts, view or owners moves it, and nothing that becomes of the instances behind it.
+    /// The first one has the lowest key, compared as bytes, and need not have the lowest handle. An instance that is
+    /// not alive never counts, even if the writer is still in its set. The same bytes give the same answer. Changes
+    /// of times, counts, view and owners do not change the answer, and neither does anything that happens to the
+    /// instances after it.
     ///
     /// ```
     /// let mut state = dcps::State::new();
@@ -254,7 +254,7 @@ impl<B: Buffers> State<B> {
         Ok(ffi::writer_lookup(self.seen().pens, high, low)?.found())
     }
 
-    /// The status, whose changes stay pending.
+    /// The status. Its changes stay pending.
     ///
     /// ```
     /// use dcps::{LivelinessKind, State};
@@ -271,7 +271,7 @@ impl<B: Buffers> State<B> {
         Ok(accepted(number, &answer)?.status)
     }
 
-    /// How often a writer moved one of the status's counts, modulo 2^64.
+    /// How often a writer moved between alive, not alive and neither, modulo 2^64.
     ///
     /// ```
     /// use dcps::{LivelinessKind, State};

@@ -5,8 +5,9 @@ use core::fmt;
 
 /// Why a call was refused. A refused call leaves the state as it was.
 ///
-/// Numbers and words are those of the scope document's section 8, and those that requests added to it;
-/// of several that apply, the lowest answers, but 3 for the head's number of places before 1, and 15 before 14.
+/// The numbers and words are those of the scope document's section 8, and of the requests that came after it. If
+/// several apply, the lowest number is returned, with two exceptions: 15 comes before 14, and 3 for the head's number
+/// of places comes before 1.
 ///
 /// ```
 /// use dcps::{LivelinessKind, Refusal, State};
@@ -22,14 +23,14 @@ use core::fmt;
 #[derive(Debug, Clone, Copy, PartialEq, Eq, Hash)]
 #[non_exhaustive]
 pub enum Refusal {
-    /// 1: a buffer length other than stated. Only pens that a state is made of can meet it, where they are not as
-    /// long as the head's places ask for, or, in [`State::fresh_over`](crate::State::fresh_over), of neither length;
-    /// and reads that take a list of GUIDs.
+    /// 1: a buffer length other than stated. It is met where a state is made of bytes, if the length of pens does not
+    /// fit the head's number of places ([`State::fresh_over`](crate::State::fresh_over): if it is neither of the two
+    /// lengths); and in reads that take a list of GUIDs.
     BufferLength,
     /// 2: unknown code. Only [`State::raw_call`](crate::State::raw_call) can meet it.
     UnknownCode,
-    /// 3: not well formed, or a head with another number of places than 32 or 128. Only bytes that a state is made
-    /// of can meet it, in [`State::from_parts`](crate::State::from_parts) and [`State::over`](crate::State::over).
+    /// 3: not well formed, or a head whose number of places is neither 32 nor 128. Only
+    /// [`State::from_parts`](crate::State::from_parts) and [`State::over`](crate::State::over) can meet it.
     NotWellFormed,
     /// 4: nanoseconds of 10^9 or more, in a used time or in [`wire_fraction`](crate::wire_fraction).
     Nanoseconds,

@@ -14,8 +14,9 @@ const BY_SOURCE: u8 = 0x04;
 const BITS: usize = 80;
 const CODE: usize = 81;
 
-/// A call with what it takes, for [`State::call`](crate::State::call): a function for each code, which fills in the 256 bytes
-/// that include/dcps.h describes. What a call does stands at the method of [`State`](crate::State) that has its name.
+/// A call and its arguments, for [`State::call`](crate::State::call): the 256 bytes that include/dcps.h describes.
+/// There is one function for each code. The method of [`State`](crate::State) with the same name says what the call
+/// does.
 ///
 /// ```
 /// use dcps::{Sheet, State};
@@ -281,7 +282,7 @@ impl Sheet {
     }
 }
 
-/// The bytes of any sheet, also of one that no call reads.
+/// The bytes of any sheet, even of one with an unknown code.
 impl From<[u8; 256]> for Sheet {
     fn from(bytes: [u8; 256]) -> Self {
         Self(bytes)
@@ -328,12 +329,12 @@ impl Sheet {
         self.with(32, &handle.as_raw().to_be_bytes())
     }
 
-    /// Time 1 of a call that takes it in any case.
+    /// Time 1 of a call that always uses it.
     fn time1(self, time: Time) -> Self {
         self.time(40, time)
     }
 
-    /// Time 1 of a call that may go without.
+    /// Time 1 of a call where it is optional.
     fn optional_time1(self, time: Option<Time>) -> Self {
         match time {
             Some(time) => self.time1(time).bit(TIME1, true),
@@ -397,15 +398,15 @@ impl Sheet {
         self.bit(kind.bits(), true)
     }
 
-    /// The holder of a call that takes it in any case. One that is too long goes by its length alone,
-    /// which is refused as 6.
+    /// The holder of a call that always uses it. If it is too long, only its length is written, and the call is
+    /// refused as 6.
     fn holder(self, holder: &[u8]) -> Self {
         let length = u16::try_from(holder.len()).unwrap_or(u16::MAX);
         let kept = if holder.len() <= HOLDER_PLACES { holder } else { &[] };
         self.with(82, &length.to_be_bytes()).with(84, kept)
     }
 
-    /// The holder of a call that may go without.
+    /// The holder of a call where it is optional.
     fn optional_holder(self, holder: Option<&[u8]>) -> Self {
         match holder {
             Some(holder) => self.holder(holder).bit(HOLDER, true),
@@ -414,12 +415,12 @@ impl Sheet {
     }
 }
 
-/// A clock or lease in nanoseconds; one beyond 64 bits stays beyond what a call takes.
+/// A clock or lease in nanoseconds. One that needs more than 64 bits becomes one that is refused.
 pub(crate) fn nanos(duration: Duration) -> u64 {
     u64::try_from(duration.as_nanos()).unwrap_or(u64::MAX)
 }
 
-/// A delay in 64 bits. No two times lie 2^64 - 1 nanoseconds apart, so a longer one is as good as that.
+/// A delay in 64 bits. No two times are 2^64 - 1 nanoseconds apart, so no longer delay ever runs out either.
 pub(crate) fn delay(nanos: u128) -> u64 {
     u64::try_from(nanos).unwrap_or(u64::MAX)
 }

@@ -1,5 +1,5 @@
-//! The records of the state as plain structs, for display. They are decoded here, by the scope document's
-//! section 2; the library's proof does not cover the decoding.
+//! The records of the state as plain structs, for display. They are decoded here, in Rust, and the library's proof
+//! does not cover that.
 //!
 //! Names from instance_tracker.rs and liveliness_tracker.rs of ZeroDDS.
 //! Copyright 2026 ZeroDDS Contributors. SPDX-License-Identifier: Apache-2.0. Changed: written anew, over bytes.
@@ -14,7 +14,7 @@ use core::time::Duration;
 #[cfg(feature = "alloc")]
 use {crate::Vec, alloc::collections::BTreeSet};
 
-/// An instance as its record has it, its holder and its writers borrowed from there.
+/// An instance as in its record. Holder and writers are borrowed from there.
 #[derive(Debug, Clone, Copy, PartialEq, Eq)]
 #[non_exhaustive]
 pub struct Instance<'a> {
@@ -22,7 +22,7 @@ pub struct Instance<'a> {
     pub keyhash: KeyHash,
     /// Its handle.
     pub handle: InstanceHandle,
-    /// Where it stands.
+    /// Its kind.
     pub kind: InstanceStateKind,
     /// How often it came back after a dispose.
     pub disposed_generation_count: i32,
@@ -30,37 +30,37 @@ pub struct Instance<'a> {
     pub no_writers_generation_count: i32,
     /// Registrations less unregistrations; independent of `writers`.
     pub writer_count: u32,
-    /// The time of the latest sample or marker that had one.
+    /// The time of the latest sample or marker with a time.
     pub last_sample_timestamp: Option<Time>,
     /// What the destination order compares with.
     pub last_delivered_ts: Option<Time>,
     /// What the time-based filter compares with.
     pub last_filter_ts: Option<Time>,
-    /// When it was disposed; stays when it comes back.
+    /// When it was disposed. It stays when the instance is revived.
     pub disposed_at: Option<Time>,
-    /// When its last writer left it; stays when it comes back.
+    /// When its last writer left. It stays when the instance is revived.
     pub no_writers_at: Option<Time>,
-    /// The writer that owns it, and at which strength.
+    /// The writer that owns it, and that writer's strength.
     pub current_owner: Option<([u8; 16], i32)>,
-    /// When a sample of an owner was accepted last.
+    /// When the owner's last sample was accepted.
     pub owner_at: Option<Time>,
-    /// The serialized key.
+    /// The holder: the serialized key.
     pub key_holder: Option<&'a [u8]>,
-    /// The writers that write it, rising.
+    /// The writers in its set, rising.
     pub writers: &'a [[u8; 16]],
     /// Whether it is new to the reader.
     pub reader_view_new: bool,
-    /// Samples of it that were not taken yet.
+    /// How many of its samples are not taken yet.
     pub samples_in_cache: u32,
 }
 
-/// An instance as its record has it, with the fields of ZeroDDS's.
+/// An instance as in its record, with the fields that ZeroDDS has.
 #[cfg(feature = "alloc")]
 #[derive(Debug, Clone, PartialEq, Eq)]
 pub struct InstanceState {
     /// Its handle.
     pub handle: InstanceHandle,
-    /// Where it stands.
+    /// Its kind.
     pub kind: InstanceStateKind,
     /// How often it came back after a dispose.
     pub disposed_generation_count: i32,
@@ -68,56 +68,56 @@ pub struct InstanceState {
     pub no_writers_generation_count: i32,
     /// Registrations less unregistrations; independent of `writers`.
     pub writer_count: u32,
-    /// The time of the latest sample or marker that had one.
+    /// The time of the latest sample or marker with a time.
     pub last_sample_timestamp: Option<Time>,
     /// What the destination order compares with.
     pub last_delivered_ts: Option<Time>,
     /// What the time-based filter compares with.
     pub last_filter_ts: Option<Time>,
-    /// When it was disposed; stays when it comes back.
+    /// When it was disposed. It stays when the instance is revived.
     pub disposed_at: Option<Time>,
-    /// When its last writer left it; stays when it comes back.
+    /// When its last writer left. It stays when the instance is revived.
     pub no_writers_at: Option<Time>,
-    /// The writer that owns it, and at which strength.
+    /// The writer that owns it, and that writer's strength.
     pub current_owner: Option<([u8; 16], i32)>,
-    /// When a sample of an owner was accepted last.
+    /// When the owner's last sample was accepted.
     pub owner_at: Option<Time>,
-    /// The serialized key.
+    /// The holder: the serialized key.
     pub key_holder: Option<Vec<u8>>,
-    /// The writers that write it.
+    /// The writers in its set.
     pub writers: BTreeSet<[u8; 16]>,
     /// Whether it is new to the reader.
     pub reader_view_new: bool,
-    /// Samples of it that were not taken yet.
+    /// How many of its samples are not taken yet.
     pub samples_in_cache: u32,
 }
 
-/// Where a writer stands.
+/// Whether a writer is alive.
 #[derive(Debug, Clone, Copy, PartialEq, Eq, Hash)]
 pub enum WriterLiveliness {
-    /// Matched; it has not asserted yet.
+    /// Matched, and not asserted yet.
     Unasserted,
-    /// Asserted within its lease.
+    /// Asserted, and no [`State::expire`] or [`State::lapse`] has found its lease run out since.
     Alive,
-    /// Its lease ran out, or it came back from a lost participant and has not asserted since.
+    /// Its lease ran out; or it was departed, is matched again, and is not asserted since.
     NotAlive,
     /// Lost with its participant, and not matched since.
     Departed,
 }
 
-/// A writer as its record has it.
+/// A writer as in its record.
 #[derive(Debug, Clone, Copy, PartialEq, Eq)]
 #[non_exhaustive]
 pub struct WriterState {
     /// Its GUID.
     pub guid: [u8; 16],
-    /// Where it stands.
+    /// Whether it is alive.
     pub state: WriterLiveliness,
-    /// What asserts it; automatic where it departed.
+    /// What asserts it; automatic if it is departed.
     pub kind: LivelinessKind,
-    /// Its lease; none is infinite.
+    /// Its lease; `None` is infinite.
     pub lease: Option<Duration>,
-    /// When it was asserted last, or else matched.
+    /// When it was asserted last. Before the first assertion: when it was matched, or 0 if it was departed then.
     pub last_assert: Duration,
 }
 
@@ -200,7 +200,7 @@ impl WriterState {
     }
 }
 
-/// What the records hold, read in Rust.
+/// The records, decoded in Rust.
 impl<B: Buffers> State<B> {
     fn records(&self) -> impl Iterator<Item = &[u8]> {
         let used = self.head().instance_count as usize;
@@ -239,7 +239,7 @@ impl<B: Buffers> State<B> {
         self.record_of_handle(handle).map(Instance::of)
     }
 
-    /// The writers, in the order of their GUIDs, those that departed among them.
+    /// The writers, in the order of their GUIDs, departed ones included.
     ///
     /// ```
     /// use dcps::{LivelinessKind, State, WriterLiveliness};
@@ -257,7 +257,7 @@ impl<B: Buffers> State<B> {
         self.seen().writers.chunks_exact(WRITER_BYTES).take(used).map(WriterState::of)
     }
 
-    /// The writers that expired since [`State::take_lost`], in the order of their expiry, left in place.
+    /// The writers that expired since the last [`State::take_lost`], in the order of expiry. They stay in lost.
     ///
     /// ```
     /// use dcps::{LivelinessKind, State};
@@ -332,7 +332,7 @@ impl<B: Buffers> State<B> {
         self.record_of_handle(handle).map(|record| array_at(record, 0))
     }
 
-    /// The handle of a key, and where its instance stands.
+    /// The handle of a key, and the instance's kind.
     ///
     /// ```
     /// use dcps::{InstanceStateKind, State};
@@ -350,7 +350,7 @@ impl<B: Buffers> State<B> {
         self.instance_of_key(keyhash).map(|instance| (instance.handle, instance.kind))
     }
 
-    /// The serialized key of a handle, where it is stored.
+    /// The holder of a handle, if one is stored.
     ///
     /// ```
     /// let mut state = dcps::State::new();
@@ -436,7 +436,7 @@ impl<B: Buffers> State<B> {
         self.writers().filter(matched).map(|w| w.guid).collect()
     }
 
-    /// Whether a writer is matched and its lease ran out.
+    /// Whether a writer is matched and not alive.
     ///
     /// ```
     /// use dcps::{LivelinessKind, State};

@@ -11,13 +11,13 @@ use {
     alloc::boxed::Box,
 };
 
-/// The instances and the writers of one reader, with what the library asks to be lent for them.
+/// The instances and the writers of one reader.
 ///
-/// Calls take `&mut self` where ZeroDDS has a lock inside; who shares a state puts it behind one, as
+/// Calls take `&mut self`; ZeroDDS has a lock inside. To share a state, put it behind a lock, as
 /// [`InstanceTracker`](crate::InstanceTracker) does. A refused call leaves the state as it was.
 ///
-/// It has places for 128 instances or for 32 ([`Places`]). The bytes are its own, on the heap ([`State::new`],
-/// [`State::with_places`]), or borrowed ([`State::fresh_over`], [`State::over`]).
+/// It has places for 128 instances or for 32 ([`Places`]). It owns its bytes, on the heap ([`State::new`],
+/// [`State::with_places`]), or borrows them ([`State::fresh_over`], [`State::over`]).
 ///
 /// ```
 /// use dcps::{InstanceStateKind, State, Time};
@@ -42,7 +42,8 @@ pub struct State<B> {
     buffers: B,
 }
 
-/// Head and buffers where they are, and Out, which is no part of the state: it keeps the list of an earlier call.
+/// The borrowed bytes of a state, and out. Out is not part of the state: it has the list of the latest call that had
+/// one.
 ///
 /// ```
 /// use dcps::{Lent, Places, Sheet, State};
@@ -58,38 +59,38 @@ pub struct State<B> {
 /// ```
 #[derive(Debug)]
 pub struct Lent<'a> {
-    /// The counts.
+    /// The head: counts, next handle, number of places.
     pub head: &'a mut [u8; 64],
     /// The instances' records: 16,384 bytes or 65,536.
     pub pens: &'a mut [u8],
     /// The writers' records.
     pub writers: &'a mut [u8; 5_120],
-    /// The writers that expired.
+    /// The writers that expired and were not taken yet.
     pub lost: &'a mut [u8; 4_096],
     /// Where lists go.
     pub out: &'a mut [u8; 4_096],
 }
 
-/// The same, to be read.
+/// The same, to read only.
 #[derive(Debug, Clone, Copy)]
 pub struct Seen<'a> {
-    /// The counts.
+    /// The head.
     pub head: &'a [u8; 64],
     /// The instances' records: 16,384 bytes or 65,536.
     pub pens: &'a [u8],
     /// The writers' records.
     pub writers: &'a [u8; 5_120],
-    /// The writers that expired.
+    /// The writers that expired and were not taken yet.
     pub lost: &'a [u8; 4_096],
-    /// The list of the latest call that gave one.
+    /// The list of the latest call that had one.
     pub out: &'a [u8; 4_096],
 }
 
 /// What a [`State`] keeps its bytes in: [`Owned`] or [`Lent`].
 pub trait Buffers: sealed::Sealed {
-    /// Lent to a call.
+    /// The bytes, for a call.
     fn lent(&mut self) -> Lent<'_>;
-    /// Lent to a read.
+    /// The bytes, for a read.
     fn seen(&self) -> Seen<'_>;
 }
 
@@ -112,7 +113,7 @@ impl Buffers for Lent<'_> {
     }
 }
 
-/// Bytes of a [`State`]'s own on the heap: 78,912, or 29,760 of one with 32 places.
+/// Bytes on the heap that a [`State`] owns: 78,912, or 29,760 with 32 places.
 #[cfg(feature = "alloc")]
 #[derive(Clone)]
 pub struct Owned {
@@ -156,37 +157,37 @@ impl Buffers for Owned {
     }
 }
 
-/// The counts that the library keeps beside the tables.
+/// The values in the head.
 #[derive(Debug, Clone, Copy, PartialEq, Eq)]
 #[non_exhaustive]
 pub struct Head {
     /// Instances in the table.
     pub instance_count: u32,
-    /// Writers with a record, those lost with their participant among them.
+    /// Writers with a record, departed ones included.
     pub writer_count: u32,
-    /// Entries of Lost.
+    /// Entries of lost.
     pub lost_count: u32,
     /// Writers that are alive.
     pub alive: u32,
-    /// Writers that are not alive any more.
+    /// Writers that are not alive, departed ones included.
     pub not_alive: u32,
-    /// By how much `alive` moved since it was acknowledged.
+    /// How much `alive` has changed since it was acknowledged.
     pub alive_change: i32,
-    /// By how much `not_alive` moved since it was acknowledged.
+    /// How much `not_alive` has changed since it was acknowledged.
     pub not_alive_change: i32,
     /// The handle that the next new instance gets.
     pub next_handle: InstanceHandle,
-    /// How often a writer moved one of the two counts, modulo 2^64.
+    /// How often a writer moved between alive, not alive and neither, modulo 2^64.
     pub changes: u64,
-    /// The writer that did so last.
+    /// The writer that moved last.
     pub last_writer: Option<[u8; 16]>,
-    /// For how many instances there are places.
+    /// The number of places for instances.
     pub places: Places,
 }
 
 #[cfg(feature = "alloc")]
 impl State {
-    /// A fresh state: no instance, no writer, and 1 the next handle; with places for 128 instances.
+    /// A fresh state: no instances, no writers, next handle 1, places for 128 instances.
     ///
     /// ```
     /// let state = dcps::State::new();
@@ -198,7 +199,7 @@ impl State {
         Self::with_places(Places::Large)
     }
 
-    /// A fresh state with places for so many instances.
+    /// A fresh state with this number of places for instances.
     ///
     /// ```
     /// use dcps::{Places, State};
@@ -213,11 +214,11 @@ impl State {
         state
     }
 
-    /// The state of the bytes that another one gave by [`Self::parts`]; refused as 3 where they are
-    /// not well formed, and as 1 where pens are not as long as the head's places ask for.
+    /// The state that these bytes hold, as [`Self::parts`] gave them. Refused as 3 if they are not well formed, and
+    /// as 1 if the length of pens does not fit the head's number of places.
     ///
-    /// A head kept from before heads had the number of places is refused as 3:
-    /// [`carry_head`](crate::carry_head) first.
+    /// A head that version 0.2 or an earlier one stored is refused as 3: call [`carry_head`](crate::carry_head)
+    /// first.
     ///
     /// ```
     /// use dcps::{Refusal, State};
@@ -246,8 +247,8 @@ impl State {
 }
 
 impl<'a> State<Lent<'a>> {
-    /// A fresh state in borrowed bytes, whatever they held, with as many places as pens have; refused as 1
-    /// where that is neither 32 nor 128.
+    /// Makes a fresh state in borrowed bytes, whatever they hold. The length of pens decides how many places it has;
+    /// refused as 1 if it is neither that of 32 places nor that of 128.
     pub fn fresh_over(mut lent: Lent<'a>) -> Result<Self, Refusal> {
         match refusal(ffi::fresh(lent.lent())) {
             None => Ok(Self { buffers: lent }),
@@ -255,24 +256,24 @@ impl<'a> State<Lent<'a>> {
         }
     }
 
-    /// The state that borrowed bytes hold; refused as 3 where they are not well formed, and as 1 where pens
-    /// are not as long as the head's places ask for.
+    /// The state that borrowed bytes hold. Refused as 3 if they are not well formed, and as 1 if the length of pens
+    /// does not fit the head's number of places.
     ///
-    /// A call is not atomic: bytes in which a process ended in the middle of one may be well formed and
-    /// still wrong. [`keep`](crate::keep) is for those that have to outlive it.
+    /// A call is not atomic. If a process ends in the middle of a call, the bytes may be well formed and still wrong.
+    /// If you persist a state, use [`keep`](crate::keep).
     pub fn over(lent: Lent<'a>) -> Result<Self, Refusal> {
         Self { buffers: lent }.judged()
     }
 }
 
 impl<B: Buffers> State<B> {
-    /// Every call judges the whole state, and nil names no instance, so this one only judges.
+    /// Every call tests the whole state, and this one changes nothing, because nil names no instance.
     fn judged(mut self) -> Result<Self, Refusal> {
         self.mark_view_seen(InstanceHandle::NIL)?;
         Ok(self)
     }
 
-    /// Head, instances, writers and Lost as the library lays them out.
+    /// The bytes of the head, the instances, the writers and lost, as include/dcps.h describes them.
     ///
     /// ```
     /// let state = dcps::State::new();
@@ -286,7 +287,7 @@ impl<B: Buffers> State<B> {
         (seen.head, seen.pens, seen.writers, seen.lost)
     }
 
-    /// Out: the list of the latest call that gave one stands at its front.
+    /// Out: at its front is the list of the latest call that had one.
     ///
     /// ```
     /// let mut state = dcps::State::new();
@@ -301,7 +302,7 @@ impl<B: Buffers> State<B> {
         self.seen().out
     }
 
-    /// For how many instances it has places.
+    /// The number of places for instances.
     #[must_use]
     pub fn places(&self) -> Places {
         // The library took head and pens, so pens have one of two lengths.
@@ -313,7 +314,7 @@ impl<B: Buffers> State<B> {
         }
     }
 
-    /// The counts of the head.
+    /// The values in the head.
     ///
     /// ```
     /// let mut state = dcps::State::new();
@@ -339,13 +340,13 @@ impl<B: Buffers> State<B> {
         }
     }
 
-    /// The fresh state of its places, whatever it held.
+    /// Makes it a fresh state with the same number of places.
     pub(crate) fn make_fresh(&mut self) {
         let number = ffi::fresh(self.buffers.lent());
         debug_assert_eq!(number, 0, "only lengths are refused");
     }
 
-    /// Any call, by its sheet; lists are in [`Self::out`].
+    /// Makes any call, by its sheet. Its list is in [`Self::out`].
     ///
     /// ```
     /// use dcps::{Sheet, State};
@@ -362,7 +363,7 @@ impl<B: Buffers> State<B> {
         accepted(number, &answer)
     }
 
-    /// Any call, by the 256 bytes of its sheet.
+    /// Makes any call, by the 256 bytes of its sheet.
     ///
     /// ```
     /// use dcps::{Refusal, State};
@@ -380,12 +381,12 @@ impl<B: Buffers> State<B> {
         self.call(&Sheet::from(*sheet))
     }
 
-    /// The first handles of Out, as many as an answer's `listed`.
+    /// The first handles of out; `listed` is that of the answer.
     pub fn listed_handles(&self, listed: u32) -> impl Iterator<Item = InstanceHandle> + '_ {
         handles(self.seen().out, listed)
     }
 
-    /// The first GUIDs of Out, as many as an answer's `listed`.
+    /// The first GUIDs of out; `listed` is that of the answer.
     pub fn listed_guids(&self, listed: u32) -> core::slice::Iter<'_, [u8; GUID_BYTES]> {
         guids(self.seen().out, listed as usize).iter()
     }
@@ -421,7 +422,7 @@ impl Default for State {
     }
 }
 
-/// Out is no part of the state: it keeps the list of an earlier call.
+/// Out is not part of the state, so it is not compared.
 impl<B: Buffers, C: Buffers> PartialEq<State<C>> for State<B> {
     fn eq(&self, other: &State<C>) -> bool {
         self.parts() == other.parts()
@@ -430,7 +431,7 @@ impl<B: Buffers, C: Buffers> PartialEq<State<C>> for State<B> {
 
 impl<B: Buffers> Eq for State<B> {}
 
-/// The records in words, not the bytes.
+/// Shows the records, not the bytes.
 impl<B: Buffers> fmt::Debug for State<B> {
     fn fmt(&self, f: &mut fmt::Formatter<'_>) -> fmt::Result {
         let mut text = f.debug_struct("State");
@@ -446,7 +447,7 @@ impl<B: Buffers> fmt::Debug for State<B> {
 /// The version of the library: major, minor, patch.
 ///
 /// ```
-/// assert_eq!(dcps::version(), (0, 2, 0));
+/// assert_eq!(dcps::version(), (0, 3, 0));
 /// ```
 #[must_use]
 pub fn version() -> (u32, u32, u32) {

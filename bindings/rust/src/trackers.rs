@@ -11,7 +11,7 @@ use std::collections::BTreeMap;
 use std::sync::{Arc, Mutex, MutexGuard};
 use std::time::Duration;
 
-/// The highest next handle of a state: at it, a new instance is refused as 13.
+/// The highest next handle of a state: with it, a new instance is refused as 13.
 const LAST_NEXT: u64 = 1 << 63;
 
 fn locked<T>(mutex: &Mutex<T>) -> MutexGuard<'_, T> {
@@ -19,7 +19,7 @@ fn locked<T>(mutex: &Mutex<T>) -> MutexGuard<'_, T> {
     mutex.lock().unwrap_or_else(|e| e.into_inner())
 }
 
-/// The handles that several trackers draw from.
+/// Handles that several trackers share.
 ///
 /// ```
 /// use dcps::{InstanceHandleAllocator, InstanceTracker};
@@ -52,13 +52,13 @@ impl InstanceHandleAllocator {
         Self { next: Mutex::new(next) }
     }
 
-    /// The handle to come, which is not given yet.
+    /// The handle that [`Self::allocate`] gives next.
     #[must_use]
     pub fn next(&self) -> u64 {
         *locked(&self.next)
     }
 
-    /// The next handle.
+    /// Gives the next handle.
     #[must_use]
     pub fn allocate(&self) -> InstanceHandle {
         let mut next = locked(&self.next);
@@ -74,7 +74,7 @@ impl Default for InstanceHandleAllocator {
     }
 }
 
-/// A state behind a lock, which any number of trackers share.
+/// A state behind a lock. Any number of trackers can share it.
 ///
 /// ```
 /// use dcps::{LivelinessKind, Sample, SharedState, Time};
@@ -107,7 +107,7 @@ impl SharedState {
         Self::default()
     }
 
-    /// A fresh state with places for so many instances.
+    /// A fresh state with this number of places for instances.
     ///
     /// ```
     /// use dcps::{Places, Refusal, SharedState};
@@ -126,7 +126,7 @@ impl SharedState {
         Self(Arc::new(Shared { state: state.into(), refused: Mutex::default(), allocator }))
     }
 
-    /// The state, locked: for joined calls, for its bytes, and for calls whose refusal is to be seen.
+    /// The state, locked: for the joined calls, for its bytes, and for calls whose refusal you want to see.
     pub fn lock(&self) -> MutexGuard<'_, State> {
         locked(&self.0.state)
     }
@@ -143,12 +143,13 @@ impl SharedState {
         LivelinessTracker { shared: self.clone() }
     }
 
-    /// Why the latest refused call of a tracker of this state was refused; none after that, until the next one.
+    /// Why the latest refused call of a tracker of this state was refused. It is told once: then `None`, until the
+    /// next refused call.
     pub fn take_refusal(&self) -> Option<Refusal> {
         locked(&self.0.refused).take()
     }
 
-    /// The answer, or none of a call that is refused, and the refusal is noted.
+    /// The answer; if the call is refused, `None`, and the refusal is noted.
     fn accepted<T>(&self, result: Result<T, Refusal>) -> Option<T> {
         result.map_err(|refusal| *locked(&self.0.refused) = Some(refusal)).ok()
     }
@@ -157,7 +158,7 @@ impl SharedState {
         self.accepted(self.lock().call(sheet))
     }
 
-    /// A call that may start an instance: its handle is the allocator's next, where one is shared.
+    /// A call that may start an instance. If an allocator is shared, the handle is the allocator's next.
     fn starting<T>(&self, call: impl FnOnce(&mut State) -> Result<T, Refusal>) -> Option<T> {
         let Some(allocator) = &self.0.allocator else {
             return self.accepted(call(&mut self.lock()));
@@ -183,11 +184,11 @@ impl From<State> for SharedState {
     }
 }
 
-/// ZeroDDS's `InstanceTracker`. Before the epoch times count as [`Time`] has it, also where ZeroDDS takes them as in the
-/// epoch's first second.
+/// ZeroDDS's `InstanceTracker`. Times before the epoch count as [`Time`] says; ZeroDDS takes some of them as if they
+/// were in the epoch's first second.
 ///
-/// A call that is refused changes nothing and answers as on an unknown instance: [`InstanceHandle::NIL`], none, no,
-/// 0 or an empty list; [`Self::take_refusal`] then says why. A sample that cannot be judged is not accepted and not
+/// A refused call changes nothing and answers as for an unknown instance: [`InstanceHandle::NIL`], `None`, `false`, 0
+/// or an empty list. [`Self::take_refusal`] then says why. A sample that is refused is not accepted and not
 /// delivered.
 ///
 /// ```
@@ -212,13 +213,13 @@ impl InstanceTracker {
         Self::default()
     }
 
-    /// A tracker that draws its handles from an allocator.
+    /// A tracker that takes its handles from an allocator.
     #[must_use]
     pub fn with_allocator(allocator: Arc<InstanceHandleAllocator>) -> Self {
         Self::with_allocator_and_places(allocator, Places::Large)
     }
 
-    /// The same, with places for so many instances.
+    /// The same, with this number of places for instances.
     #[must_use]
     pub fn with_allocator_and_places(
         allocator: Arc<InstanceHandleAllocator>,
@@ -518,7 +519,7 @@ impl InstanceTracker {
         self.shared.lock().get_by_handle(handle)
     }
 
-    /// Where each known instance stands, and whether it is new to the reader.
+    /// The kind of each known instance, and whether it is new to the reader.
     #[must_use]
     pub fn current_states(
         &self,
@@ -583,7 +584,7 @@ impl InstanceTracker {
 
 /// ZeroDDS's `LivelinessTracker`.
 ///
-/// A call that is refused changes nothing and answers no, none or an empty list; [`Self::take_refusal`] then says why.
+/// A refused call changes nothing and answers `false`, `None` or an empty list. [`Self::take_refusal`] then says why.
 ///
 /// ```
 /// use dcps::{LivelinessKind, LivelinessTracker};
@@ -653,7 +654,7 @@ impl LivelinessTracker {
         self.moved(&Sheet::participant_asserted(prefix, manual, now))
     }
 
-    /// As [`State::expire`]. Where 256 expired writers were not taken it is refused: [`Self::take_lost`] first.
+    /// As [`State::expire`]. It is refused if lost has no room for all that expire: call [`Self::take_lost`] first.
     pub fn expire(&self, now: Duration) -> (bool, Option<Duration>) {
         let expired = self.shared.lock().expire(now);
         self.shared.accepted(expired).unwrap_or_default()

@@ -5,7 +5,8 @@
 
 use core::fmt;
 
-/// The 16 bytes that name an instance (DDSI-RTPS KeyHash); [`key_hash`](crate::key_hash()) makes them from a serialized key.
+/// The 16 bytes that name an instance (DDSI-RTPS KeyHash). [`key_hash`](crate::key_hash()) makes them from a
+/// serialized key.
 pub type KeyHash = [u8; 16];
 
 /// Bits of a mask of view states.
@@ -15,17 +16,17 @@ pub type KeyHash = [u8; 16];
 /// assert_eq!((NEW, NOT_NEW), (1, 2));
 /// ```
 pub mod view_state_mask {
-    /// Instances that the reader has not seen since they came or came back.
+    /// Instances that the reader has not seen since they came, or since they came back.
     pub const NEW: u32 = 1;
     /// The others.
     pub const NOT_NEW: u32 = 2;
 }
 
-/// A time of DDS: seconds, and nanoseconds below 10^9, of any epoch. It stands for seconds × 10^9 + nanoseconds; calls
-/// and reads go by that number, and so does the order of times here.
+/// A time of DDS: seconds, and nanoseconds below 10^9, from any epoch. Its value is seconds × 10^9 + nanoseconds.
+/// Calls and reads compare times by this value, and so does the order of times here.
 ///
-/// A time before the epoch is negative. Its seconds are rounded down, and the nanoseconds added to them: half a second
-/// before the epoch is second -1 and 500,000,000 nanoseconds.
+/// A time before the epoch is negative: the seconds are rounded down, and the nanoseconds are added to them. So half
+/// a second before the epoch is second -1 and 500,000,000 nanoseconds.
 ///
 /// ```
 /// use dcps::Time;
@@ -43,7 +44,7 @@ pub mod view_state_mask {
 pub struct Time {
     /// Seconds, rounded down: negative before the epoch.
     pub sec: i32,
-    /// Nanoseconds; a call that uses 10^9 or more of them is refused as 4. [`wire_nanos`](crate::wire_nanos) makes them
+    /// Nanoseconds below 10^9; a call that uses more is refused as 4. [`wire_nanos`](crate::wire_nanos) makes them
     /// from the fraction of a stamp that came over the wire.
     pub nanosec: u32,
 }
@@ -94,7 +95,7 @@ impl InstanceHandle {
         self.0 == 0
     }
 
-    /// The handle by which a status names a writer: 64-bit FNV-1a of its GUID, and 1 where that is 0.
+    /// The handle by which a status names a writer: 64-bit FNV-1a of its GUID, or 1 if that is 0.
     ///
     /// ```
     /// use dcps::{InstanceHandle, LivelinessKind, State};
@@ -123,7 +124,7 @@ impl fmt::Display for InstanceHandle {
     }
 }
 
-/// Where an instance stands (DDS 1.4, 2.2.2.5.1.3).
+/// The kind of an instance (DDS 1.4, 2.2.2.5.1.3).
 #[derive(Debug, Clone, Copy, PartialEq, Eq, Hash, Default)]
 pub enum InstanceStateKind {
     /// It has a writer, or none has left it yet.
@@ -151,9 +152,9 @@ pub enum LivelinessKind {
     /// Any sign of its participant.
     #[default]
     Automatic,
-    /// A manual assertion of its participant or of a writer of it.
+    /// A manual assertion of its participant, or of any writer of its participant.
     ManualByParticipant,
-    /// Its own assertions alone.
+    /// Only its own assertions.
     ManualByTopic,
 }
 
@@ -180,12 +181,12 @@ impl LivelinessKind {
 pub struct LivelinessChangedStatus {
     /// Writers that are alive.
     pub alive_count: i32,
-    /// Writers that were alive and are not, those lost with their participant among them.
+    /// Writers that were alive and are not any more, departed ones included.
     pub not_alive_count: i32,
-    /// By how much `alive_count` moved since it was acknowledged.
+    /// How much `alive_count` has changed since it was acknowledged.
     pub alive_count_change: i32,
-    /// By how much `not_alive_count` moved since it was acknowledged.
+    /// How much `not_alive_count` has changed since it was acknowledged.
     pub not_alive_count_change: i32,
-    /// The writer that moved one of them last, or nil.
+    /// The writer that changed one of them last, or nil.
     pub last_publication_handle: InstanceHandle,
 }

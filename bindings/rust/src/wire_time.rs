@@ -2,23 +2,23 @@
 
 use crate::{ffi, Refusal};
 
-/// In the place of a remainder that is not known, as that of a stamp which came over the wire: see [`wire_nanos`].
+/// The remainder to pass to [`wire_nanos`] if it is not known, as for a stamp that came over the wire.
 pub const REMAINDER_UNKNOWN: u32 = 999_999_999;
 
-/// What [`wire_fraction`] makes of nanoseconds: `fraction` × 10^9 + `remainder` is the nanoseconds × 2^32.
+/// What [`wire_fraction`] makes: `fraction` × 10^9 + `remainder` is the nanoseconds × 2^32.
 #[derive(Debug, Clone, Copy, PartialEq, Eq, Hash, PartialOrd, Ord, Default)]
 pub struct WireFraction {
-    /// The fraction of a second, in units of 2^-32 s: what a stamp carries.
+    /// The fraction of a second that a stamp has, in units of 2^-32 s.
     pub fraction: u32,
-    /// What the division leaves that gave the fraction, below 10^9. A stamp has no place for it: who stores one keeps it
-    /// beside.
+    /// The remainder of the division that gave the fraction, below 10^9. A stamp has no place for it. If you store
+    /// the stamp, store the remainder with it.
     pub remainder: u32,
 }
 
-/// Nanoseconds as the fraction of a second that a stamp of RTPS carries: nanoseconds × 2^32 / 10^9 rounded down, with the
-/// remainder of that division. The seconds of a stamp are the caller's.
+/// Makes the fraction of a second that a stamp of RTPS has: nanoseconds × 2^32 / 10^9, rounded down, and the
+/// remainder of this division. The seconds of a stamp are not converted.
 ///
-/// Refused as 4 where `nanosec` is 10^9 or more.
+/// Refused as 4 if `nanosec` is 10^9 or more.
 ///
 /// ```
 /// use dcps::{wire_fraction, wire_nanos, Refusal, WireFraction};
@@ -34,14 +34,16 @@ pub fn wire_fraction(nanosec: u32) -> Result<WireFraction, Refusal> {
     Ok(ffi::wire_fraction(nanosec)?.wire)
 }
 
-/// The nanoseconds of a fraction of a second: (`fraction` × 10^9 + `remainder`) / 2^32 rounded down.
+/// Makes nanoseconds from a fraction of a second: (`fraction` × 10^9 + `remainder`) / 2^32, rounded down.
 ///
-/// Of what [`wire_fraction`] gave, these are the nanoseconds that it was given. A stamp that came over the wire has the
-/// fraction alone: with [`REMAINDER_UNKNOWN`] they are the sender's too, whichever way it rounded, as long as its fraction
-/// is less than 1 from nanoseconds × 2^32 / 10^9. With a remainder of 0 they can be 1 less. A stamp that means "invalid" or
-/// "infinite" has a fraction too: look for it first.
+/// - With fraction and remainder from [`wire_fraction`], these are the nanoseconds that it was given.
+/// - With [`REMAINDER_UNKNOWN`], they are the sender's nanoseconds, if the fraction is less than 1 away from
+///   nanoseconds × 2^32 / 10^9. So it does not matter which way the sender rounded.
+/// - With a remainder of 0 they can be 1 too low.
 ///
-/// No fraction and no remainder is refused. The result is below 10^9 where the remainder is, and 10^9 at most.
+/// A stamp that means "invalid" or "infinite" has a fraction too: test for it first.
+///
+/// Nothing is refused. The result is below 10^9 if the remainder is, and never above 10^9.
 ///
 /// ```
 /// use dcps::{wire_nanos, REMAINDER_UNKNOWN};

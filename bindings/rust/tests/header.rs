@@ -28,6 +28,7 @@ fn rust_type(c: &str) -> &str {
         "uint64_t" => "u64",
         "uint32_t" => "u32",
         "int32_t" => "i32",
+        "int64_t" => "i64",
         "uint8_t" => "u8",
         other => panic!("{other}"),
     }
@@ -83,25 +84,58 @@ fn version() {
     let of = |part| number(&format!("DCPS_VERSION_{part}"));
     let (major, minor, patch) = (of("MAJOR"), of("MINOR"), of("PATCH"));
     assert_eq!(dcps::version(), (major, minor, patch));
-    assert!(HEADER.contains(&format!("#define DCPS_VERSION \"{major}.{minor}.{patch}\"")));
-    assert_eq!(env!("CARGO_PKG_VERSION"), format!("{major}.{minor}.{patch}"));
+    let version = format!("{major}.{minor}.{patch}");
+    assert!(HEADER.contains(&format!("#define DCPS_VERSION \"{version}\"")));
+    assert_eq!(env!("CARGO_PKG_VERSION"), version);
+    let spdx = include_str!("../../../dcps.spdx");
+    assert!(spdx.contains(&format!("\nPackageVersion: {version}\n")));
+    assert!(include_str!("../../../CHANGELOG.md").contains(&format!("\n## {version}\n")));
 }
 
+/// The names of the header's numbers that begin so, each without that, and its number.
+fn numbered(start: &str) -> Vec<(&'static str, u32)> {
+    let lines = HEADER.lines().map(str::trim).filter(|line| line.starts_with(start));
+    let names = lines.filter_map(|line| line.split_once(" = ")).map(|(name, _)| name);
+    names.map(|name| (&name[start.len()..], number(name))).collect()
+}
+
+/// Each code has a function of its name that makes its sheet, and there is no other.
 #[test]
-fn codes_and_refusals() {
-    let codes = [
-        ("REGISTER", Sheet::register(&[0; 16], b"", None)),
-        ("TAKE_LOST", Sheet::take_lost()),
-        ("DEPART", Sheet::depart(&[0; 16], None)),
-    ];
-    for (name, sheet) in codes {
-        let code = number(&format!("DCPS_CODE_{name}"));
-        assert_eq!(sheet.bytes()[number("DCPS_SHEET_CODE") as usize], code as u8);
+fn codes() {
+    const SHEETS: &str = include_str!("../src/sheet.rs");
+    let codes = numbered("DCPS_CODE_");
+    for (name, code) in &codes {
+        let start = format!("pub fn {}(", name.to_lowercase());
+        let (_, function) = SHEETS.split_once(&start).unwrap_or_else(|| panic!("{start}"));
+        let (_, body) = function.split_once("Self::of(").expect("a code");
+        assert_eq!(body.split(')').next(), Some(code.to_string().as_str()), "{name}");
     }
-    assert_eq!(number("DCPS_REFUSED_LENGTH"), Refusal::BufferLength.number().into());
-    assert_eq!(number("DCPS_REFUSED_HANDLES"), Refusal::HandlesSpent.number().into());
-    assert_eq!(number("DCPS_REFUSED_KEY_LENGTH"), Refusal::KeyLength.number().into());
-    assert_eq!(number("DCPS_REFUSED_LARGEST_SIZE"), Refusal::LargestSize.number().into());
+    assert_eq!(SHEETS.matches("Self::of(").count(), codes.len());
+    let place = number("DCPS_SHEET_CODE") as usize;
+    assert_eq!(u32::from(Sheet::take_lost().bytes()[place]), number("DCPS_CODE_TAKE_LOST"));
+}
+
+/// This crate knows each refusal, and dcps_refusal_text has its words; there is no other.
+#[test]
+fn refusals() {
+    const INLINE: &str = include_str!("../../../include/dcps_inline.h");
+    let texts = INLINE.replace(r#"\xc2\xb1" ""#, "±");
+    let refusals = numbered("DCPS_REFUSED_");
+    for ((name, number), rising) in refusals.iter().zip(1..) {
+        assert_eq!(*number, rising, "{name}");
+        let refusal = Refusal::from_number(rising as u8).expect("not 0");
+        assert_ne!(refusal, Refusal::Other(rising as u8), "{name}");
+        assert_eq!(u32::from(refusal.number()), rising);
+        let said = refusal.to_string();
+        let (_, words) = said.split_once(": ").expect("words behind the number");
+        assert!(
+            texts.contains(&format!("case DCPS_REFUSED_{name}: return \"{words}\";")),
+            "{said}"
+        );
+    }
+    let next = refusals.len() as u8 + 1;
+    assert_eq!(Refusal::from_number(next), Some(Refusal::Other(next)));
+    assert_eq!(texts.matches("case DCPS_REFUSED_").count(), refusals.len());
 }
 
 /// The two sizes.

@@ -1,4 +1,4 @@
-//! The recorded lists (docs/LISTS.md) through `raw_call`: number, answer, head, buffers and Out are the recorded
+//! The recorded lists (docs/evidence/LISTS.md) through `raw_call`: number, answer, head, buffers and Out are the recorded
 //! ones. Calls with other lengths are left to program `replay`, as this crate cannot make them.
 
 use dcps::{

@@ -1,6 +1,5 @@
 -- The claims, for every list of a console from fresh and for any number of places.
 --     no-false-abandonment, no-missed-abandonment, shown-if-no-one, set-is-who-stands
--- Assumes nothing.
 use mathlib.Core.Bool.{true, false}
 use mathlib.Core.List.{List, [], _∷_}
 use mathlib.Core.Option.{Option, none, some}

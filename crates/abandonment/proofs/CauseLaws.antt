@@ -4,7 +4,6 @@
 --     lost-abandoned     several lost writers
 --     counted-out        code 4
 --     unregistered-kind, unregistered-writer-kind      the kinds that codes 4 and 5 leave
--- Assumes nothing.
 use mathlib.Core.Bool.{Bool, true, false, not, _||_, cond}
 use mathlib.Core.List.{List, [], _∷_}
 use mathlib.Core.Path.{_≡_, refl, sym, ap, _∙_}
@@ -24,9 +23,10 @@ use Rattle.model.specs.Tables.{all}
 use Rattle.model.proofs.Tests.{split}
 use Rattle.accounts.specs.Ranges.{bound}
 use Rattle.accounts.proofs.Basics.{never, eqb-sym}
+use Rattle.accounts.proofs.Sound.{remove-within}
 use Rattle.accounts.proofs.TurnLaws.{Within}
 use Rattle.abandonment.specs.Causes.{isNoWriters, leavesAll}
-use Rattle.abandonment.proofs.SetLaws.{has-below, remove-absent, remove-within, and-true, and-never}
+use Rattle.abandonment.proofs.SetLaws.{has-below, remove-absent, and-true, and-never}
 use Rattle.abandonment.proofs.KindLaws.{left-kind, left-set, not-empty}
 
 -- the writer is g

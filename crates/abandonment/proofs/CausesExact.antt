@@ -1,6 +1,5 @@
 -- The calls that turn an alive instance to no-writers are the causes, for every list.
--- Assumes nothing.
-use mathlib.Core.Bool.{Bool, true, false, not, _&&_, _||_, cond}
+use mathlib.Core.Bool.{Bool, true, false, not, _&&_, cond}
 use mathlib.Core.List.{List, [], _∷_}
 use mathlib.Core.Option.{Option, none, some}
 use mathlib.Core.Path.{_≡_, refl, sym, ap, _∙_}
@@ -16,8 +15,6 @@ use Rattle.model.specs.declared.MaybeTime.{MaybeTime}
 use Rattle.model.specs.Call.{callIn}
 use Rattle.model.specs.declared.InstanceCall.{InstanceCall}
 use Rattle.model.specs.declared.InstanceCall.the-variants.{Register as register, EnsureRegisteredLimited as ensureRegisteredLimited, Dispose as dispose, Unregister as unregister, UnregisterWriter as unregisterWriter, NoteWriter as noteWriter, DropWriter as dropWriter, ObserveLifecycle as observeLifecycle, ObserveAdmitted as observeAdmitted, NoteAdmitted as noteAdmitted, RecordDelivery as recordDelivery, NoteTaken as noteTaken, MarkViewSeen as markViewSeen, MarkViewNew as markViewNew, DrainSamples as drainSamples, AcceptUnderExclusiveOwnership as acceptUnderExclusiveOwnership, UpdateOwnerStrength as updateOwnerStrength, ClearOwnerForWriter as clearOwnerForWriter, ClearOwnerForWriterPrefix as clearOwnerForWriterPrefix, ReleaseOwnerOf as releaseOwnerOf, Autopurge as autopurge}
-use Rattle.model.specs.declared.TrackerCall.{TrackerCall}
-use Rattle.model.specs.declared.TrackerCall.the-variants.{Matched as matched, Unmatched as unmatched, LostWithParticipant as lostWithParticipant, WriterAsserted as writerAsserted, ParticipantAsserted as participantAsserted, Expire as expire, TakeLost as takeLost, TakeStatus as takeStatus, Acknowledge as acknowledge}
 use Rattle.model.specs.declared.JoinedCall.the-variants.{Admit as admit, Lapse as lapse, Part as part, Depart as depart}
 use Rattle.model.specs.Calls.{Call, instances, tracker, joined, calls, amongst}
 use Rattle.model.specs.Guids.{num}
@@ -25,13 +22,14 @@ use Rattle.model.specs.Instances.{effect, disposed, writerNoted, leftBy, admitt
 use Rattle.model.specs.Joined.{leftWithoutAll}
 use Rattle.model.specs.Sets.{has, remove, isEmpty}
 use Rattle.model.specs.State.{Lent}
+use Rattle.model.specs.Tables.{all, pick}
 use Rattle.model.specs.Times.{ifPresent}
 use Rattle.model.proofs.Tests.{split}
 use Rattle.accounts.specs.Accounts.{Accounts, accepted, goneBy, advance, accountsOf}
 use Rattle.accounts.specs.InstanceAccounts.{Event, wayOf, reachedBy, isKeyed, onPresent}
 use Rattle.accounts.specs.Ranges.{bound}
 use Rattle.accounts.specs.WriterAccounts.{Writers, expiredAt, expiredIn}
-use Rattle.accounts.proofs.Basics.{never, missing, eqb-sym}
+use Rattle.accounts.proofs.Basics.{never, missing}
 use Rattle.accounts.proofs.Demand3.{After, after-fresh}
 use Rattle.accounts.proofs.Sound.{SoundState}
 use Rattle.accounts.proofs.TurnLaws.{Within}
@@ -41,7 +39,8 @@ use Rattle.abandonment.specs.Claims.{ran, left, after, lastEvent, ExactC
 use Rattle.abandonment.proofs.SetLaws.{has-expired, has-within}
 use Rattle.abandonment.proofs.KindLaws.{Quiet, quiet-delivery, quiet-taken, quiet-seen, quiet-new, quiet-drained, quiet-tried, quiet-strength, quiet-cleared, quiet-prefix, quiet-released, alive-registered, alive-ensured, alive-lifecycle, alive-observed, admittedly-kind, noted-kind, admitted-alive, dropped-kind, sound-set}
 use Rattle.abandonment.proofs.CauseLaws.{is, isIn, empty-removed, leaves-one, told-kind, all-same, lost-abandoned, counted-out, unregistered-kind, unregistered-writer-kind}
-use Rattle.abandonment.proofs.Steps.{by-code, accepted-code, test, unknown-code}
+use Rattle.abandonment.proofs.OnInstance.{one-gone as named-gone}
+use Rattle.abandonment.proofs.Steps.{_⨾_, by-code, apart, onWriters, test, NoneOf, none-of, none-known}
 use Rattle.abandonment.proofs.Abandonment.{pen-after, sound-at, after-one}
 
 -- ---- the causes of a code
@@ -49,31 +48,14 @@ use Rattle.abandonment.proofs.Abandonment.{pen-after, sound-at, after-o
 abbrev namedOnly : Event → Instance → Bool
 namedOnly e x = leavesAll (named e) (writersIn (x .state))
 
-causes-refused : (e : Event) (before after : Writers) (x : Instance) → eqb (e .number) 0 ≡ false →
-    causes e before after x ≡ false
+-- the codes that can leave an instance without writers
+abbrev leaving : List ℕ
+leaving = 4 ∷ 5 ∷ 7 ∷ 50 ∷ 51 ∷ 49 ∷ []
+
+causes-other : (e : Event) (before after : Writers) (x : Instance) → NoneOf e leaving → causes e before after x ≡ false
 unfolding causes
-causes-refused e before after x z = rw z
-
-abbrev other : ℕ → Bool
-other n = not (eqb n 4 || (eqb n 5 || ((eqb n 7 || (eqb n 50 || eqb n 51)) || eqb n 49)))
-
-six : (a b c f g h : Bool) → not (a || (b || ((c || (f || g)) || h))) ≡ true →
-    (a ≡ false) × (b ≡ false) × (c ≡ false) × (f ≡ false) × (g ≡ false) × (h ≡ false)
-six true b c f g h q = never (sym q)
-six false true c f g h q = never (sym q)
-six false false true f g h q = never (sym q)
-six false false false true g h q = never (sym q)
-six false false false false true h q = never (sym q)
-six false false false false false true q = never (sym q)
-six false false false false false false q = (refl, refl, refl, refl, refl, refl)
-
-causes-other : (e : Event) (before after : Writers) (x : Instance) → other (e .sheet .code) ≡ true →
-    causes e before after x ≡ false
-unfolding causes
-causes-other e before after x o =
-    let n : ℕ = e .sheet .code in
-    let q = six (eqb n 4) (eqb n 5) (eqb n 7) (eqb n 50) (eqb n 51) (eqb n 49) o in
-    split (eqb (e .number) 0) (λ z. rw (z, q .0, q .1, q .2, q .3, q .4, q .5)) (λ z. rw z)
+causes-other e before after x q =
+    split (eqb (e .number) 0) (λ z. rw (z, q .0, q .1 .0, q .1 .1 .0, q .1 .1 .1 .0, q .1 .1 .1 .1 .0, q .1 .1 .1 .1 .1 .0)) (λ z. rw z)
 
 -- ---- each code
 
@@ -94,15 +76,15 @@ module _ (e : Event) (before after : Writers) (k : ℕ) (x : Instance) (alive : 
       isAbandoned (onPresent c e (goneBy c (e .sheet) (expiredIn before after)) k x) ≡ causes e before after x
 
   -- a call that leaves what it reaches in a kind other than no-writers
-  steady : (n : ℕ) (c : InstanceCall) (y : InstanceState) → other n ≡ true → effect c (e .sheet) (x .state) ≡ some y →
+  steady : (n : ℕ) (c : InstanceCall) (y : InstanceState) → apart leaving n ≡ true → effect c (e .sheet) (x .state) ≡ some y →
       isNoWriters (y .life .kind) ≡ false → Step n (instances c)
   steady n c y o is f d z =
       split (reachedBy (wayOf c) (e .sheet) k x)
       (λ r. rw (r, is) f)
       (λ r. rw r (ap isNoWriters alive))
-      ∙ sym (causes-other e before after x (ap other d ∙ o))
+      ∙ sym (causes-other e before after x (none-of e n leaving d o))
 
-  quiet : (n : ℕ) (c : InstanceCall) → other n ≡ true → Quiet c (e .sheet) (x .state) → Step n (instances c)
+  quiet : (n : ℕ) (c : InstanceCall) → apart leaving n ≡ true → Quiet c (e .sheet) (x .state) → Step n (instances c)
   quiet n c o q = steady n c (q .left) o (q .is) (ap isNoWriters (q .kind ∙ alive))
 
   disposes : Step 3 (instances dispose)
@@ -121,7 +103,7 @@ module _ (e : Event) (before after : Writers) (k : ℕ) (x : Instance) (alive : 
   unregisters : Step 4 (instances unregister)
   unregisters d z =
       unfold causes in
-      rw (z, test e 4 4 true d refl)
+      rw (z, test e 4 4 d)
       (split (isAt e x)
       (λ r. rw (r, unregistered-kind at (x .state) alive)
       (told-kind (eqb (x .state .life .«writer_count» - 1) 0) ∙ counted-out (x .state .life .«writer_count»)))
@@ -130,7 +112,7 @@ module _ (e : Event) (before after : Writers) (k : ℕ) (x : Instance) (alive : 
   unregisters-writer : Step 5 (instances unregisterWriter)
   unregisters-writer d z =
       unfold causes in
-      rw (z, test e 5 4 false d refl, test e 5 5 true d refl)
+      rw (z, test e 5 4 d, test e 5 5 d)
       (split (isAt e x)
       (λ r. rw (r, unregistered-writer-kind (e .sheet .guid) at (x .state) alive)
       (told-kind (isEmpty (remove (e .sheet .guid) set)) ∙ empty-removed 0 bound (e .sheet .guid) set rises))
@@ -139,7 +121,7 @@ module _ (e : Event) (before after : Writers) (k : ℕ) (x : Instance) (alive : 
   drops : Step 7 (instances dropWriter)
   drops d z =
       unfold causes in
-      rw (z, test e 7 4 false d refl, test e 7 5 false d refl, test e 7 7 true d refl)
+      rw (z, test e 7 4 d, test e 7 5 d, test e 7 7 d)
       (ap isNoWriters
       (dropped-kind (e .sheet .guid) at (x .state)
       ∙ ap (λ (j : InstanceStateKind). cond (leftBy (e .sheet .guid) (x .state)) NotAliveNoWriters j) alive)
@@ -147,25 +129,27 @@ module _ (e : Event) (before after : Writers) (k : ℕ) (x : Instance) (alive : 
       ∙ leaves-one (e .sheet .guid) (x .state) rises alive)
 
   purges : Step 21 (instances autopurge)
-  purges d z = rw kept (ap isNoWriters alive ∙ sym (causes-other e before after x (ap other d)))
+  purges d z = rw kept (ap isNoWriters alive ∙ sym (causes-other e before after x (none-of e 21 leaving d refl)))
     where
       kept : purged (e .sheet) (x .state) ≡ false
       kept = unfold purged in rw alive
 
-  tracks : (n : ℕ) (c : TrackerCall) → other n ≡ true → Step n (tracker c)
-  tracks n c o d z = ap isNoWriters alive ∙ sym (causes-other e before after x (ap other d ∙ o))
+  tracks : (n : ℕ) (c : Call) → onWriters leaving n c ≡ true → Step n c
+  tracks n (instances c) o = never (sym o)
+  tracks n (tracker c) o = λ d z. ap isNoWriters alive ∙ sym (causes-other e before after x (none-of e n leaving d o))
+  tracks n (joined c) o = never (sym o)
 
   admits : Step 48 (joined admit)
   admits d z =
       split (isKeyed (e .sheet) k && eqb (e .outcome) 0)
       (λ r. rw r (ap isNoWriters (admitted-alive (e .sheet) (ownershipTried (e .sheet) (x .state)))))
       (λ r. rw r (ap isNoWriters alive))
-      ∙ sym (causes-other e before after x (ap other d))
+      ∙ sym (causes-other e before after x (none-of e 48 leaving d refl))
 
   lapses : Step 49 (joined lapse)
   lapses d z =
       unfold causes in
-      rw (z, test e 49 4 false d refl, test e 49 5 false d refl, test e 49 7 false d refl, test e 49 50 false d refl, test e 49 51 false d refl, test e 49 49 true d refl)
+      rw (z, test e 49 4 d, test e 49 5 d, test e 49 7 d, test e 49 50 d, test e 49 51 d, test e 49 49 d)
       (lost-abandoned (expiredIn before after) at (x .state) rises alive
       ∙ ap (λ (b : Bool). not (isEmpty set) && b) (all-same (isIn (expiredIn before after)) (expires before after) set expired))
     where
@@ -175,146 +159,56 @@ module _ (e : Event) (before after : Writers) (k : ℕ) (x : Instance) (alive : 
   one-gone : isNoWriters (leftWithoutAll (e .sheet .guid ∷ []) at (x .state) .life .kind) ≡ namedOnly e x
   one-gone =
       lost-abandoned (e .sheet .guid ∷ []) at (x .state) rises alive
-      ∙ ap (λ (b : Bool). not (isEmpty set) && b) (all-same (isIn (e .sheet .guid ∷ [])) (named e) set (λ m h. only m))
-    where
-      only : (m : Guid) → has m (e .sheet .guid ∷ []) ≡ named e m
-      only m =
-          unfold has in
-          rw (eqb-sym (num (e .sheet .guid)) (num m)) (split (named e m) (λ d. rw d) (λ d. rw d))
+      ∙ ap (λ (b : Bool). not (isEmpty set) && b) (all-same (isIn (e .sheet .guid ∷ [])) (named e) set (λ m h. named-gone e m))
 
   parts : Step 50 (joined part)
-  parts d z = unfold causes in rw (z, test e 50 4 false d refl, test e 50 5 false d refl, test e 50 7 false d refl, test e 50 50 true d refl) one-gone
+  parts d z = unfold causes in rw (z, test e 50 4 d, test e 50 5 d, test e 50 7 d, test e 50 50 d) one-gone
 
   departs : Step 51 (joined depart)
-  departs d z = unfold causes in rw (z, test e 51 4 false d refl, test e 51 5 false d refl, test e 51 7 false d refl, test e 51 50 false d refl, test e 51 51 true d refl) one-gone
+  departs d z = unfold causes in rw (z, test e 51 4 d, test e 51 5 d, test e 51 7 d, test e 51 50 d, test e 51 51 d) one-gone
 
-  -- in the order of the codes
-  steps : All (λ n. Step (n .code) (n .call)) calls
-  unfolding calls
-  steps = (
-    quiet 1 register refl (alive-registered (e .sheet) (x .state) alive),
-    (
-      quiet 2 ensureRegisteredLimited refl (alive-ensured (e .sheet) (x .state) alive),
-      (
-        disposes,
-        (
-          unregisters,
-          (
-            unregisters-writer,
-            (
-              notes,
-              (
-                drops,
-                (
-                  quiet 8 observeLifecycle refl (alive-lifecycle (e .sheet) (x .state) alive),
-                  (
-                    quiet 9 observeAdmitted refl (alive-observed (e .sheet) (x .state) alive),
-                    (
-                      notes-admitted,
-                      (
-                        quiet 11 recordDelivery refl (quiet-delivery (e .sheet) (x .state)),
-                        (
-                          quiet 12 noteTaken refl (quiet-taken (e .sheet) (x .state)),
-                          (
-                            quiet 13 markViewSeen refl (quiet-seen (e .sheet) (x .state)),
-                            (
-                              quiet 14 markViewNew refl (quiet-new (e .sheet) (x .state)),
-                              (
-                                quiet 15 drainSamples refl (quiet-drained (e .sheet) (x .state)),
-                                (
-                                  quiet 16 acceptUnderExclusiveOwnership refl (quiet-tried (e .sheet) (x .state)),
-                                  (
-                                    quiet 17 updateOwnerStrength refl (quiet-strength (e .sheet) (x .state)),
-                                    (
-                                      quiet 18 clearOwnerForWriter refl (quiet-cleared (e .sheet) (x .state)),
-                                      (
-                                        quiet 19 clearOwnerForWriterPrefix refl (quiet-prefix (e .sheet) (x .state)),
-                                        (
-                                          quiet 20 releaseOwnerOf refl (quiet-released (e .sheet) (x .state)),
-                                          (
-                                            purges,
-                                            (
-                                              tracks 32 matched refl,
-                                              (
-                                                tracks 33 unmatched refl,
-                                                (
-                                                  tracks 34 lostWithParticipant refl,
-                                                  (
-                                                    tracks 35 writerAsserted refl,
-                                                    (
-                                                      tracks 36 participantAsserted refl,
-                                                      (
-                                                        tracks 37 expire refl,
-                                                        (
-                                                          tracks 38 takeLost refl,
-                                                          (
-                                                            tracks 39 takeStatus refl,
-                                                            (
-                                                              tracks 40 acknowledge refl,
-                                                              (
-                                                                admits,
-                                                                (
-                                                                  lapses,
-                                                                  (
-                                                                    parts,
-                                                                    (
-                                                                      departs,
-                                                                      tt,
-                                                                    ),
-                                                                  ),
-                                                                ),
-                                                              ),
-                                                            ),
-                                                          ),
-                                                        ),
-                                                      ),
-                                                    ),
-                                                  ),
-                                                ),
-                                              ),
-                                            ),
-                                          ),
-                                        ),
-                                      ),
-                                    ),
-                                  ),
-                                ),
-                              ),
-                            ),
-                          ),
-                        ),
-                      ),
-                    ),
-                  ),
-                ),
-              ),
-            ),
-          ),
-        ),
-      ),
-    ),
-  )
+  -- but for those on writers, in the order of the codes
+  steps : All (λ n. Step (n .code) (n .call)) (pick (λ n. not (onWriters leaving (n .code) (n .call))) calls)
+  unfolding calls pick
+  steps =
+      quiet 1 register refl (alive-registered (e .sheet) (x .state) alive)
+      ⨾ quiet 2 ensureRegisteredLimited refl (alive-ensured (e .sheet) (x .state) alive)
+      ⨾ disposes
+      ⨾ unregisters
+      ⨾ unregisters-writer
+      ⨾ notes
+      ⨾ drops
+      ⨾ quiet 8 observeLifecycle refl (alive-lifecycle (e .sheet) (x .state) alive)
+      ⨾ quiet 9 observeAdmitted refl (alive-observed (e .sheet) (x .state) alive)
+      ⨾ notes-admitted
+      ⨾ quiet 11 recordDelivery refl (quiet-delivery (e .sheet) (x .state))
+      ⨾ quiet 12 noteTaken refl (quiet-taken (e .sheet) (x .state))
+      ⨾ quiet 13 markViewSeen refl (quiet-seen (e .sheet) (x .state))
+      ⨾ quiet 14 markViewNew refl (quiet-new (e .sheet) (x .state))
+      ⨾ quiet 15 drainSamples refl (quiet-drained (e .sheet) (x .state))
+      ⨾ quiet 16 acceptUnderExclusiveOwnership refl (quiet-tried (e .sheet) (x .state))
+      ⨾ quiet 17 updateOwnerStrength refl (quiet-strength (e .sheet) (x .state))
+      ⨾ quiet 18 clearOwnerForWriter refl (quiet-cleared (e .sheet) (x .state))
+      ⨾ quiet 19 clearOwnerForWriterPrefix refl (quiet-prefix (e .sheet) (x .state))
+      ⨾ quiet 20 releaseOwnerOf refl (quiet-released (e .sheet) (x .state))
+      ⨾ purges
+      ⨾ admits
+      ⨾ lapses
+      ⨾ parts
+      ⨾ departs
+      ⨾ tt
 
   pub step : (c : Call) → accepted e ≡ some c → eqb (e .number) 0 ≡ true →
       isAbandoned (onPresent c e (goneBy c (e .sheet) (expiredIn before after)) k x) ≡ causes e before after x
-  step c a z = by-code Step steps (e .sheet .code) c (accepted-code e c a) refl z
+  step c a z = by-code Step (onWriters leaving) tracks steps e c a refl z
 
 -- ---- a call that is skipped
 
 unheard : (e : Event) (before after : Writers) (x : Instance) → accepted e ≡ none → causes e before after x ≡ false
 unheard e before after x q =
     split (eqb (e .number) 0)
-    (λ z.
-    causes-other e before after x
-    (rw (
-      unknown-code e 4 q z (unfold amongst calls in refl),
-      unknown-code e 5 q z (unfold amongst calls in refl),
-      unknown-code e 7 q z (unfold amongst calls in refl),
-      unknown-code e 49 q z (unfold amongst calls in refl),
-      unknown-code e 50 q z (unfold amongst calls in refl),
-      unknown-code e 51 q z (unfold amongst calls in refl),
-    )))
-    (λ z. causes-refused e before after x z)
+    (λ z. causes-other e before after x (none-known e leaving q z (unfold all amongst calls in refl)))
+    (λ z. unfold causes in rw z)
 
 accepted-zero : (e : Event) (c : Call) → accepted e ≡ some c → eqb (e .number) 0 ≡ true
 accepted-zero e c q = split (eqb (e .number) 0) (λ z. z) (λ z. missing (rw z at q))

@@ -1,7 +1,6 @@
 -- All claims, with either number of places.
 --     abandonment; abandonment-32, abandonment-128
 --     free-keeps      which lists are a console's, whatever is answered
--- Assumes nothing.
 use mathlib.Core.Bool.{true}
 use mathlib.Core.List.{List, [], _∷_}
 use mathlib.Core.Path.{_≡_, refl}
@@ -13,7 +12,7 @@ use Rattle.accounts.specs.Accounts.{Accounts, absent, advance}
 use Rattle.accounts.specs.InstanceAccounts.{Event}
 use Rattle.accounts.proofs.Runs.{left-in, told-in, after-in}
 use Rattle.abandonment.specs.Standing.{Stand, nobody}
-use Rattle.abandonment.specs.Console.{among, Fits, free, standsAfter, KeepsFrom, Keeps}
+use Rattle.abandonment.specs.Console.{among, free, standsAfter, KeepsFrom, Keeps}
 use Rattle.abandonment.specs.Claims.{OnEvery, NoFalseAbandonment, NoMissedAbandonment, ShownIfNoOne, SetIsWhoStands, Abandonment}
 use Rattle.abandonment.proofs.Abandonment.{no-false-abandonment, no-missed-abandonment, shown-if-no-one, set-is-who-stands}
 use Rattle.abandonment.proofs.CausesExact.{exact-causes}

@@ -4,7 +4,6 @@
 --     left-kind, left-set      a lost writer
 --     Shown, left-shown        alive exactly while the set is not empty
 --     lost-shown, lost-has     several lost writers
--- Assumes nothing.
 use mathlib.Core.Bool.{Bool, true, false, not, _&&_, _||_, cond}
 use mathlib.Core.List.{List, [], _∷_}
 use mathlib.Core.Option.{some}
@@ -29,9 +28,9 @@ use Rattle.model.proofs.SetLaws.{members-of}
 use Rattle.model.proofs.Tests.{both, split}
 use Rattle.accounts.specs.Ranges.{bound}
 use Rattle.accounts.proofs.Basics.{never, eqb-sym}
-use Rattle.accounts.proofs.Sound.{SoundState}
+use Rattle.accounts.proofs.Sound.{remove-within, SoundState}
 use Rattle.accounts.proofs.TurnLaws.{Within}
-use Rattle.abandonment.proofs.SetLaws.{has-remove, remove-absent, remove-within, none-in, and-true}
+use Rattle.abandonment.proofs.SetLaws.{has-remove, remove-absent, none-in, and-true}
 
 -- ---- calls that leave kind and set
 
@@ -68,50 +67,35 @@ tried-kind s x = split (takesOver s x) (λ e. rw e) (λ e. rw e)
 pub quiet-tried : (s : Sheet) (x : InstanceState) → Quiet acceptUnderExclusiveOwnership s x
 quiet-tried s x = record { left = ownershipTried s x; is = refl; kind = tried-kind s x; writers = tried-writers s x }
 
-strength-kind : (g : Guid) (n : ℕ) (x : InstanceState) → strengthUpdated g n x .life .kind ≡ x .life .kind
+-- a change of the owner where a test holds
+strength-keeps : (g : Guid) (n : ℕ) (x : InstanceState) →
+    (strengthUpdated g n x .life .kind ≡ x .life .kind) × (strengthUpdated g n x .writers ≡ x .writers)
 unfolding strengthUpdated
-strength-kind g n x = split (owns g (x .owner)) (λ e. rw e) (λ e. rw e)
+strength-keeps g n x = split (owns g (x .owner)) (λ e. rw e (refl, refl)) (λ e. rw e (refl, refl))
 
-strength-writers : (g : Guid) (n : ℕ) (x : InstanceState) → strengthUpdated g n x .writers ≡ x .writers
-unfolding strengthUpdated
-strength-writers g n x = split (owns g (x .owner)) (λ e. rw e) (λ e. rw e)
+cleared-keeps : (g : Guid) (x : InstanceState) → (ownerCleared g x .life .kind ≡ x .life .kind) × (ownerCleared g x .writers ≡ x .writers)
+unfolding ownerCleared
+cleared-keeps g x = split (owns g (x .owner)) (λ e. rw e (refl, refl)) (λ e. rw e (refl, refl))
+
+prefix-keeps : (g : Guid) (x : InstanceState) → (prefixCleared g x .life .kind ≡ x .life .kind) × (prefixCleared g x .writers ≡ x .writers)
+unfolding prefixCleared
+prefix-keeps g x = split (ownsPrefix g (x .owner)) (λ e. rw e (refl, refl)) (λ e. rw e (refl, refl))
+
+quietly : {c : InstanceCall} {s : Sheet} {x : InstanceState} (y : InstanceState) → effect c s x ≡ some y →
+    (y .life .kind ≡ x .life .kind) × (y .writers ≡ x .writers) → Quiet c s x
+quietly y e k = record { left = y; is = e; kind = k .0; writers = k .1 }
 
 pub quiet-strength : (s : Sheet) (x : InstanceState) → Quiet updateOwnerStrength s x
-quiet-strength s x =
-    record {
-      left = strengthUpdated (s .guid) (s .second) x;
-      is = refl;
-      kind = strength-kind (s .guid) (s .second) x;
-      writers = strength-writers (s .guid) (s .second) x;
-    }
-
-cleared-kind : (g : Guid) (x : InstanceState) → ownerCleared g x .life .kind ≡ x .life .kind
-unfolding ownerCleared
-cleared-kind g x = split (owns g (x .owner)) (λ e. rw e) (λ e. rw e)
-
-cleared-writers : (g : Guid) (x : InstanceState) → ownerCleared g x .writers ≡ x .writers
-unfolding ownerCleared
-cleared-writers g x = split (owns g (x .owner)) (λ e. rw e) (λ e. rw e)
+quiet-strength s x = quietly (strengthUpdated (s .guid) (s .second) x) refl (strength-keeps (s .guid) (s .second) x)
 
 pub quiet-cleared : (s : Sheet) (x : InstanceState) → Quiet clearOwnerForWriter s x
-quiet-cleared s x =
-    record { left = ownerCleared (s .guid) x; is = refl; kind = cleared-kind (s .guid) x; writers = cleared-writers (s .guid) x }
-
-pub quiet-released : (s : Sheet) (x : InstanceState) → Quiet releaseOwnerOf s x
-quiet-released s x =
-    record { left = ownerCleared (s .guid) x; is = refl; kind = cleared-kind (s .guid) x; writers = cleared-writers (s .guid) x }
-
-prefix-kind : (g : Guid) (x : InstanceState) → prefixCleared g x .life .kind ≡ x .life .kind
-unfolding prefixCleared
-prefix-kind g x = split (ownsPrefix g (x .owner)) (λ e. rw e) (λ e. rw e)
-
-prefix-writers : (g : Guid) (x : InstanceState) → prefixCleared g x .writers ≡ x .writers
-unfolding prefixCleared
-prefix-writers g x = split (ownsPrefix g (x .owner)) (λ e. rw e) (λ e. rw e)
+quiet-cleared s x = quietly (ownerCleared (s .guid) x) refl (cleared-keeps (s .guid) x)
 
 pub quiet-prefix : (s : Sheet) (x : InstanceState) → Quiet clearOwnerForWriterPrefix s x
-quiet-prefix s x =
-    record { left = prefixCleared (s .guid) x; is = refl; kind = prefix-kind (s .guid) x; writers = prefix-writers (s .guid) x }
+quiet-prefix s x = quietly (prefixCleared (s .guid) x) refl (prefix-keeps (s .guid) x)
+
+pub quiet-released : (s : Sheet) (x : InstanceState) → Quiet releaseOwnerOf s x
+quiet-released s x = quietly (ownerCleared (s .guid) x) refl (cleared-keeps (s .guid) x)
 
 -- ---- calls that revive
 
@@ -203,10 +187,10 @@ dropped-set g at x =
 
 pub left-kind : (g : Guid) (at : MaybeTime) (x : InstanceState) →
     leftWithout g at x .life .kind ≡ cond (leftBy g x) NotAliveNoWriters (x .life .kind)
-left-kind g at x = cleared-kind g (writerDropped g at x) ∙ dropped-kind g at x
+left-kind g at x = cleared-keeps g (writerDropped g at x) .0 ∙ dropped-kind g at x
 
 pub left-set : (g : Guid) (at : MaybeTime) (x : InstanceState) → writersIn (leftWithout g at x) ≡ remove g (writersIn x)
-left-set g at x = ap members (cleared-writers g (writerDropped g at x)) ∙ dropped-set g at x
+left-set g at x = ap members (cleared-keeps g (writerDropped g at x) .1) ∙ dropped-set g at x
 
 -- ---- alive exactly while the set is not empty
 

@@ -1,6 +1,5 @@
 -- After an accepted lapse no writer that is alive has its lease run out, and who is alive no more had its lease run out.
 --     lapse-leaves-none, lapse-takes-none-early
--- Assumes nothing.
 use mathlib.Core.Bool.{Bool, true, false, _&&_}
 use mathlib.Core.List.{List}
 use mathlib.Core.Option.{Option, none, some}

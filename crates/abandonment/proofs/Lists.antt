@@ -2,7 +2,6 @@
 --     turned-away-does-not-stand, noted-stands      a sample turned away, and the remedy
 --     turned-away-leaves      such a sample never makes its writer stand
 --     noted-keeps      the remedy's list is a console's
--- Assumes nothing.
 use mathlib.Core.Bool.{true, false}
 use mathlib.Core.Option.{Option, none, some}
 use mathlib.Core.Path.{_≡_, refl, sym, _∙_}
@@ -19,7 +18,7 @@ use Rattle.model.specs.Joined.{sampled, firstOwned, admitted, admitWith, afterL
 use Rattle.model.specs.Sets.{setOf, has, insert, remove}
 use Rattle.model.specs.State.{freshState}
 use Rattle.model.specs.Tables.{find, pick, any, put, sift}
-use Rattle.model.specs.Times.{nanosOf, filterAdmits, orderAdmits, deadlineMissed}
+use Rattle.model.specs.Times.{timeValue, filterAdmits, orderAdmits, deadlineMissed}
 use Rattle.model.specs.Writers as W
 use Rattle.model.proofs.Tests.{split}
 use Rattle.accounts.specs.Accounts.{Accounts, absent, accepted, seen, advanceBy, advance}
@@ -32,7 +31,7 @@ use Rattle.abandonment.specs.Lists.{events, ending, Holds, turnedAway, n
 use Rattle.abandonment.proofs.OnInstance.{turned-away}
 
 pub all-rows : All Holds rows
-unfolding calls amongst callOfCode num allocated handleBytes instanceTurn instanceCall instancesAfter begun nextAfter lateRefusal revived revivedNew admittedObserved admittedNoted writerNoted ownershipTried takesOver outbids ownerCleared leftBy writerDropped startedState started sampled firstOwned admitted admitWith afterLoss lossCall leftWithoutAll leftByOne clearings clearingsIn setOf has insert remove find pick any put sift nanosOf filterAdmits orderAdmits deadlineMissed W.covers W.renews W.asserted W.expires W.expired W.unmatchedFrom W.writersAfter W.movers W.lastAfter W.nextDue W.trackerState W.trackerTurn W.trackerCall asserts lapses writersAfter standAfter standFrom events ending
+unfolding calls amongst callOfCode num allocated handleBytes instanceTurn instanceCall instancesAfter begun nextAfter lateRefusal revived revivedNew admittedObserved admittedNoted writerNoted ownershipTried takesOver outbids ownerCleared leftBy writerDropped startedState started sampled firstOwned admitted admitWith afterLoss lossCall leftWithoutAll leftByOne clearings clearingsIn setOf has insert remove find pick any put sift timeValue filterAdmits orderAdmits deadlineMissed W.covers W.renews W.asserted W.expires W.expired W.unmatchedFrom W.writersAfter W.movers W.lastAfter W.nextDue W.trackerState W.trackerTurn W.trackerCall asserts lapses writersAfter standAfter standFrom events ending
 all-rows = (refl, (refl, (refl, (refl, (refl, (refl, (refl, (refl, (refl, (refl, (refl, tt)))))))))))
 
 -- an admit with another outcome than 0 leaves who stands, whatever the list before it
@@ -70,7 +69,7 @@ never-there a b c k x q f g h =
     ∙ q)
 
 pub noted-keeps : Keeps (events (notedAfter .calls) freshState)
-unfolding calls amongst callOfCode num allocated handleBytes instanceTurn instanceCall instancesAfter begun nextAfter lateRefusal revived revivedNew admittedObserved admittedNoted writerNoted ownershipTried takesOver outbids ownerCleared leftBy writerDropped startedState started sampled firstOwned admitted admitWith afterLoss lossCall leftWithoutAll leftByOne clearings clearingsIn setOf has insert remove find pick any put sift nanosOf filterAdmits orderAdmits deadlineMissed W.covers W.renews W.asserted W.expires W.expired W.unmatchedFrom W.writersAfter W.movers W.lastAfter W.nextDue W.trackerState W.trackerTurn W.trackerCall asserts lapses writersAfter standAfter standFrom events ending KeepsFrom
+unfolding calls amongst callOfCode num allocated handleBytes instanceTurn instanceCall instancesAfter begun nextAfter lateRefusal revived revivedNew admittedObserved admittedNoted writerNoted ownershipTried takesOver outbids ownerCleared leftBy writerDropped startedState started sampled firstOwned admitted admitWith afterLoss lossCall leftWithoutAll leftByOne clearings clearingsIn setOf has insert remove find pick any put sift timeValue filterAdmits orderAdmits deadlineMissed W.covers W.renews W.asserted W.expires W.expired W.unmatchedFrom W.writersAfter W.movers W.lastAfter W.nextDue W.trackerState W.trackerTurn W.trackerCall asserts lapses writersAfter standAfter standFrom events ending KeepsFrom
 noted-keeps = (
   free refl,
   (

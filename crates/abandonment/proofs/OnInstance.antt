@@ -1,13 +1,12 @@
 -- One instance beside who stands for it: each call keeps the two in step.
 --     Stands, Agrees      what that is, of an instance that is there and of one that is not
 --     *-on                the calls, each on one account
--- Assumes nothing.
 use mathlib.Core.Bool.{Bool, true, false, not, _&&_, _||_}
 use mathlib.Core.List.{List, [], _∷_}
 use mathlib.Core.Option.{Option, none, some}
 use mathlib.Core.Path.{_≡_, refl, sym, ap, _∙_}
 use Prim.Native.Nat.{ℕ, _<_}
-use borrow.Author.Tests.{eqb-true}
+use borrow.Author.Tests.{eqb-true, not-true}
 use lib.Dec.{eqb}
 use Rattle.model.specs.declared.Guid.{Guid}
 use Rattle.model.specs.declared.Instance.{Instance}
@@ -19,7 +18,7 @@ use Rattle.model.specs.declared.InstanceCall.{InstanceCall}
 use Rattle.model.specs.declared.InstanceCall.the-variants.{NoteWriter as noteWriter, Autopurge as autopurge}
 use Rattle.model.specs.declared.TrackerCall.{TrackerCall}
 use Rattle.model.specs.declared.JoinedCall.{JoinedCall}
-use Rattle.model.specs.declared.JoinedCall.the-variants.{Admit as admit, Lapse as lapse, Part as part, Depart as depart}
+use Rattle.model.specs.declared.JoinedCall.the-variants.{Admit as admit, Lapse as lapse}
 use Rattle.model.specs.Calls.{Call, instances, tracker, joined}
 use Rattle.model.specs.Guids.{num, same}
 use Rattle.model.specs.Instances.{effect, purgedAs, purged, writerNoted, writersIn, started, startedState, ownedFrom, ownershipTried, admittedObserved, admittedNoted}
@@ -61,15 +60,11 @@ nobody-stands x m = ap not (nobody-empty x m)
 pub absent-stands : {A : Type 0} (x : Stand) → ((g : Guid) → has g (x .writers) ≡ false) → someone x ≡ true → A
 absent-stands x m e = never (sym e ∙ nobody-stands x m)
 
-not-empty : (b : Bool) → not b ≡ true → b ≡ false
-not-empty true e = never (sym e)
-not-empty false e = refl
-
 pub same-shown : (i : Instance) (x : Stand) → Stands i x → i .state .life .kind ≡ shown (isEmpty (x .writers))
 same-shown i x m = m .shown ∙ ap shown (same-empty (writersIn (i .state)) (x .writers) (m .who))
 
 pub stands-alive : (i : Instance) (x : Stand) → Stands i x → someone x ≡ true → i .state .life .kind ≡ Alive
-stands-alive i x m e = same-shown i x m ∙ ap shown (not-empty (isEmpty (x .writers)) e)
+stands-alive i x m e = same-shown i x m ∙ ap shown (not-true (isEmpty (x .writers)) e)
 
 -- another state of the instance, of the same kind and set
 kept-stands : (i : Instance) (y : InstanceState) (x : Stand) → y .life .kind ≡ i .state .life .kind →
@@ -282,20 +277,15 @@ lapse-on e before after k o x z sound m =
     loss-on lapse e (expiredIn before after) (expires before after) k o x (λ j. refl) z (by-expires before after)
     (λ g l. unfold expiredIn in has-expired (expiredAt before after) g l) sound m
 
-one-gone : (e : Event) (g : Guid) → has g (e .sheet .guid ∷ []) ≡ named e g
+pub one-gone : (e : Event) (g : Guid) → has g (e .sheet .guid ∷ []) ≡ named e g
 unfolding has
 one-gone e g =
     rw (eqb-sym (num (e .sheet .guid)) (num g)) (split (named e g) (λ d. rw d) (λ d. rw d))
 
 -- codes 50 and 51
-pub part-on : (e : Event) (k : ℕ) (o : Option Instance) (x : Stand) → e .handle ≡ 0 →
+pub leave-on : (c : JoinedCall) (e : Event) (k : ℕ) (o : Option Instance) (x : Stand) →
+    ((j : Instance) → onPresent (joined c) e (e .sheet .guid ∷ []) k j ≡ losing (e .sheet .guid ∷ []) (e .sheet) j) → e .handle ≡ 0 →
     ((i : Instance) → o ≡ some i → SoundState (i .state)) → Agrees o x →
-    Agrees (onInstance (joined part) e (e .sheet .guid ∷ []) k o) (loses (named e) x)
-part-on e k o x z sound m =
-    loss-on part e (e .sheet .guid ∷ []) (named e) k o x (λ j. refl) z (by-named e) (λ g l. one-gone e g) sound m
-
-pub depart-on : (e : Event) (k : ℕ) (o : Option Instance) (x : Stand) → e .handle ≡ 0 →
-    ((i : Instance) → o ≡ some i → SoundState (i .state)) → Agrees o x →
-    Agrees (onInstance (joined depart) e (e .sheet .guid ∷ []) k o) (loses (named e) x)
-depart-on e k o x z sound m =
-    loss-on depart e (e .sheet .guid ∷ []) (named e) k o x (λ j. refl) z (by-named e) (λ g l. one-gone e g) sound m
+    Agrees (onInstance (joined c) e (e .sheet .guid ∷ []) k o) (loses (named e) x)
+leave-on c e k o x l z sound m =
+    loss-on c e (e .sheet .guid ∷ []) (named e) k o x l z (by-named e) (λ g l. one-gone e g) sound m

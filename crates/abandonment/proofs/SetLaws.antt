@@ -1,9 +1,8 @@
 -- What is in a set of writers.
 --     has-insert, has-remove, has-pick      what is in it after a writer is put in, taken out, or several are
 --     has-expired        the GUIDs of a test on numbers are those that pass it
---     remove-absent, remove-within, has-within      sets that rise
+--     remove-absent, has-within      sets that rise
 --     none-in, same-empty, some-in      an empty set has none, and one that is not has one
--- Assumes nothing.
 use mathlib.Core.Bool.{Bool, true, false, not, _&&_, _||_}
 use mathlib.Core.List.{List, [], _∷_, map}
 use mathlib.Core.Path.{_≡_, refl, sym, ap, _∙_}
@@ -19,7 +18,7 @@ use Rattle.model.specs.Tables.{pick}
 use Rattle.model.proofs.Tests.{split}
 use Rattle.accounts.specs.Ranges.{bound, guidNumbered, between}
 use Rattle.accounts.proofs.Basics.{never}
-use Rattle.accounts.proofs.TurnLaws.{Within, within-weaken}
+use Rattle.accounts.proofs.TurnLaws.{Within}
 
 -- ---- tests
 
@@ -94,14 +93,6 @@ remove-absent g (x ∷ xs) e =
     split (same x g)
     (λ d. never (rw d at e))
     (λ d. rw d (ap {B = List Guid} (λ l. x ∷ l) (remove-absent g xs (rw d at e))))
-
-pub remove-within : (lo hi : ℕ) (g : Guid) (xs : List Guid) → Within num lo hi xs → Within num lo hi (remove g xs)
-unfolding remove
-remove-within lo hi g [] w = tt
-remove-within lo hi g (x ∷ xs) w =
-    split (same x g)
-    (λ e. rw e (within-weaken num (suc (num x)) lo hi xs (omega (arith, w .0)) (w .2)))
-    (λ e. rw e (w .0, w .1, remove-within (suc (num x)) hi g xs (w .2)))
 
 -- ---- those who stay
 

@@ -1,107 +1,112 @@
 -- A call of a console's list keeps every instance in step with who stands for it.
---     by-code        a claim on each code and its call
---     accepted-code, unknown-code      the code of a call that is heard, or not
+--     by-code, onWriters      a claim on each code and its call; one law for all calls on writers
+--     none-of, none-known     a code of none of some, by its number or where it is unknown
 --     step           a call of the list
--- Assumes nothing.
-use mathlib.Core.Bool.{Bool, true, false, not, _||_}
+use mathlib.Core.Bool.{Bool, true, false, not, _&&_, _||_}
 use mathlib.Core.List.{List, [], _∷_}
 use mathlib.Core.Option.{none, some}
 use mathlib.Core.Path.{_≡_, refl, sym, ap, _∙_, subst}
 use Prim.Native.Nat.{ℕ}
-use borrow.Author.Tests.{eqb-true}
+use borrow.Author.Tests.{eqb-true, not-true}
 use lib.Dec.{eqb}
 use Rattle.octets.specs.Lay.{All}
 use Rattle.model.specs.declared.Instance.{Instance}
 use Rattle.model.specs.declared.InstanceState.{InstanceState}
 use Rattle.model.specs.declared.InstanceCall.{InstanceCall}
 use Rattle.model.specs.declared.InstanceCall.the-variants.{Register as register, EnsureRegisteredLimited as ensureRegisteredLimited, Dispose as dispose, Unregister as unregister, UnregisterWriter as unregisterWriter, NoteWriter as noteWriter, DropWriter as dropWriter, ObserveLifecycle as observeLifecycle, ObserveAdmitted as observeAdmitted, NoteAdmitted as noteAdmitted, RecordDelivery as recordDelivery, NoteTaken as noteTaken, MarkViewSeen as markViewSeen, MarkViewNew as markViewNew, DrainSamples as drainSamples, AcceptUnderExclusiveOwnership as acceptUnderExclusiveOwnership, UpdateOwnerStrength as updateOwnerStrength, ClearOwnerForWriter as clearOwnerForWriter, ClearOwnerForWriterPrefix as clearOwnerForWriterPrefix, ReleaseOwnerOf as releaseOwnerOf, Autopurge as autopurge}
-use Rattle.model.specs.declared.TrackerCall.{TrackerCall}
-use Rattle.model.specs.declared.TrackerCall.the-variants.{Matched as matched, Unmatched as unmatched, LostWithParticipant as lostWithParticipant, WriterAsserted as writerAsserted, ParticipantAsserted as participantAsserted, Expire as expire, TakeLost as takeLost, TakeStatus as takeStatus, Acknowledge as acknowledge}
 use Rattle.model.specs.declared.JoinedCall.the-variants.{Admit as admit, Lapse as lapse, Part as part, Depart as depart}
 use Rattle.model.specs.Calls.{Call, instances, tracker, joined, Numbered, calls, amongst, callOfCode}
 use Rattle.model.specs.Guids.{num}
 use Rattle.model.specs.declared.InstanceStateKind.the-variants.{Alive}
 use Rattle.model.specs.Instances.{rule, startsBy}
-use Rattle.model.specs.Tables.{isSome}
-use Rattle.model.proofs.Tests.{split}
+use Rattle.model.specs.Tables.{all, isSome, pick}
+use Rattle.model.proofs.Tests.{both, split}
 use Rattle.accounts.specs.Accounts.{Accounts, accepted, goneBy}
 use Rattle.accounts.specs.InstanceAccounts.{Event, byKey, wayOf, isKeyed, onInstance}
 use Rattle.accounts.specs.WriterAccounts.{Writers, expiredIn}
 use Rattle.accounts.proofs.Basics.{never, missing}
 use Rattle.accounts.proofs.Sound.{SoundState}
-use Rattle.abandonment.specs.Standing.{Stand, someone, standAfter}
+use Rattle.abandonment.specs.Standing.{Stand, someone, isCode, standAfter}
 use Rattle.abandonment.specs.Console.{among, AtStanding, Fits, skipped, free, noting, keyed}
 use Rattle.abandonment.proofs.KindLaws.{Quiet, quiet-delivery, quiet-taken, quiet-seen, quiet-new, quiet-drained, quiet-tried, quiet-strength, quiet-cleared, quiet-prefix, quiet-released, alive-registered, alive-ensured, alive-lifecycle, alive-observed}
-use Rattle.abandonment.proofs.OnInstance.{Agrees, quiet-on, keyed-on, note-on, purge-on, tracker-on, stopped-on, admit-on, lapse-on, part-on, depart-on}
+use Rattle.abandonment.proofs.OnInstance.{Agrees, quiet-on, keyed-on, note-on, purge-on, tracker-on, stopped-on, admit-on, lapse-on, leave-on}
 use Rattle.accounts.proofs.Answered.{Real}
+
+infixr 1 _⨾_
+-- what is known of the first, and of the others
+abbrev pub _⨾_ : {A B : Type 0} → A → B → A × B
+a ⨾ b = (a, b)
 
 -- ---- each code and its call
 
-found : (P : ℕ → Call → Type 0) (n : ℕ) (c : Call) (cs : List Numbered) → All (λ m. P (m .code) (m .call)) cs →
-    amongst n cs ≡ some c → P n c
-unfolding amongst
-found P n c [] a e = missing e
-found P n c (m ∷ cs) a e =
+-- a claim on each: by a law where that serves, and one by one for the others
+found : (P : ℕ → Call → Type 0) (p : ℕ → Call → Bool) → ((n : ℕ) (c : Call) → p n c ≡ true → P n c) → (n : ℕ) (c : Call) (cs : List Numbered) →
+    All (λ m. P (m .code) (m .call)) (pick (λ m. not (p (m .code) (m .call))) cs) → amongst n cs ≡ some c → P n c
+unfolding amongst pick
+found P p h n c [] a e = missing e
+found P p h n c (m ∷ cs) a e =
+    let b : P (m .code) (m .call) × All (λ o. P (o .code) (o .call)) (pick (λ o. not (p (o .code) (o .call))) cs) =
+    split (p (m .code) (m .call)) (λ s. (h (m .code) (m .call) s, rw s at a)) (λ s. rw s at a) in
     split (eqb (m .code) n)
     (λ d.
     let q : some (m .call) ≡ some c = rw d at e in
-    let p : m .call ≡ c = cc in
-    subst (P n) p (subst (λ (j : ℕ). P j (m .call)) (eqb-true (m .code) n d) (a .0)))
-    (λ d. found P n c cs (a .1) (rw d at e))
+    let r : m .call ≡ c = cc in
+    subst (P n) r (subst (λ (j : ℕ). P j (m .call)) (eqb-true (m .code) n d) (b .0)))
+    (λ d. found P p h n c cs (b .1) (rw d at e))
 
-pub by-code : (P : ℕ → Call → Type 0) → All (λ m. P (m .code) (m .call)) calls → (n : ℕ) (c : Call) →
-    callOfCode n ≡ some c → P n c
+pub by-code : (P : ℕ → Call → Type 0) (p : ℕ → Call → Bool) → ((n : ℕ) (c : Call) → p n c ≡ true → P n c) →
+    All (λ m. P (m .code) (m .call)) (pick (λ m. not (p (m .code) (m .call))) calls) → (e : Event) (c : Call) → accepted e ≡ some c → P (e .sheet .code) c
 unfolding callOfCode
-by-code P a n c e = found P n c calls a e
+by-code P p h a e c is =
+    found P p h (e .sheet .code) c calls a (split (eqb (e .number) 0) (λ z. rw z at is) (λ z. missing (rw z at is)))
 
-pub accepted-code : (e : Event) (c : Call) → accepted e ≡ some c → callOfCode (e .sheet .code) ≡ some c
-accepted-code e c is = split (eqb (e .number) 0) (λ z. rw z at is) (λ z. missing (rw z at is))
+abbrev pub apart : List ℕ → ℕ → Bool
+apart [] n = true
+apart (m ∷ ns) n = not (eqb n m) && apart ns n
 
--- a test of the code
-pub test : (e : Event) (n m : ℕ) (b : Bool) → e .sheet .code ≡ n → eqb n m ≡ b → eqb (e .sheet .code) m ≡ b
-test e n m b d q = ap (λ (j : ℕ). eqb j m) d ∙ q
+-- a call on writers, with a code of none of these
+abbrev pub onWriters : List ℕ → ℕ → Call → Bool
+onWriters ns n (instances c) = false
+onWriters ns n (tracker c) = apart ns n
+onWriters ns n (joined c) = false
+
+-- ---- tests of the code
+
+pub test : (e : Event) (n m : ℕ) → e .sheet .code ≡ n → isCode m e ≡ eqb n m
+test e n m d = ap (λ (j : ℕ). eqb j m) d
+
+abbrev pub NoneOf : Event → List ℕ → Type 0
+NoneOf e ns = All (λ n. isCode n e ≡ false) ns
+
+pub none-of : (e : Event) (n : ℕ) (ns : List ℕ) → e .sheet .code ≡ n → apart ns n ≡ true → NoneOf e ns
+none-of e n [] d o = tt
+none-of e n (m ∷ ns) d o =
+    let h = both (not (eqb n m)) _ o in (test e n m d ∙ not-true (eqb n m) (h .0), none-of e n ns d (h .1))
 
 abbrev isKnown : ℕ → Bool
 isKnown n = isSome (amongst n calls)
 
 -- an unknown code is none of the known ones
-pub unknown-code : (e : Event) (n : ℕ) → accepted e ≡ none → eqb (e .number) 0 ≡ true → isKnown n ≡ true →
-    eqb (e .sheet .code) n ≡ false
-unfolding callOfCode
-unknown-code e n q z s =
-    split (eqb (e .sheet .code) n)
-    (λ d.
-    let p : callOfCode (e .sheet .code) ≡ none = rw z at q in
-    never (sym s ∙ ap isKnown (sym (eqb-true (e .sheet .code) n d)) ∙ ap isSome p))
-    (λ d. d)
+pub none-known : (e : Event) (ns : List ℕ) → accepted e ≡ none → eqb (e .number) 0 ≡ true → all isKnown ns ≡ true → NoneOf e ns
+unfolding all callOfCode
+none-known e [] q z s = tt
+none-known e (n ∷ ns) q z s =
+    let h = both (isKnown n) _ s in
+    let p : callOfCode (e .sheet .code) ≡ none = rw z at q in (
+      split (isCode n e) (λ d. never (sym (h .0) ∙ ap isKnown (sym (eqb-true (e .sheet .code) n d)) ∙ ap isSome p)) (λ d. d),
+      none-known e ns q z (h .1),
+    )
 
 -- ---- who stands after a call of each code
 
--- neither 48, 6, 49, 50 nor 51
-abbrev other : ℕ → Bool
-other n = not (eqb n 48 || (eqb n 6 || (eqb n 49 || (eqb n 50 || eqb n 51))))
+-- the codes that change who stands
+abbrev standing : List ℕ
+standing = 48 ∷ 6 ∷ 49 ∷ 50 ∷ 51 ∷ []
 
-stand-refused : (e : Event) (before after : Writers) (k : ℕ) (x : Stand) → eqb (e .number) 0 ≡ false →
-    standAfter e before after k x ≡ x
+stand-other : (e : Event) (before after : Writers) (k : ℕ) (x : Stand) → NoneOf e standing → standAfter e before after k x ≡ x
 unfolding standAfter
-stand-refused e before after k x z = rw z
-
-five : (a b c f g : Bool) → not (a || (b || (c || (f || g)))) ≡ true →
-    (a ≡ false) × (b ≡ false) × (c ≡ false) × (f ≡ false) × (g ≡ false)
-five true b c f g q = never (sym q)
-five false true c f g q = never (sym q)
-five false false true f g q = never (sym q)
-five false false false true g q = never (sym q)
-five false false false false true q = never (sym q)
-five false false false false false q = (refl, refl, refl, refl, refl)
-
-stand-other : (e : Event) (before after : Writers) (k : ℕ) (x : Stand) → other (e .sheet .code) ≡ true →
-    standAfter e before after k x ≡ x
-unfolding standAfter
-stand-other e before after k x o =
-    let n : ℕ = e .sheet .code in
-    let q = five (eqb n 48) (eqb n 6) (eqb n 49) (eqb n 50) (eqb n 51) o in
-    split (eqb (e .number) 0) (λ z. rw (z, q .0, q .1, q .2, q .3, q .4)) (λ z. rw z)
+stand-other e before after k x q =
+    split (eqb (e .number) 0) (λ z. rw (z, q .0, q .1 .0, q .1 .1 .0, q .1 .1 .1 .0, q .1 .1 .1 .1 .0)) (λ z. rw z)
 
 -- ---- a call of the list
 
@@ -132,16 +137,16 @@ module _ (e : Event) (acc : Accounts) (stands : ℕ → Stand) (m : (k : ℕ) �
   barred n c a b f d is r fits =
       fits-cases n c d is (λ g. never (sym g ∙ a)) (λ g h. never (sym g ∙ b)) (λ g h. never (sym g ∙ f)) fits
 
-  quiet : (n : ℕ) (c : InstanceCall) → other n ≡ true → startsBy (rule c .reach) ≡ false →
+  quiet : (n : ℕ) (c : InstanceCall) → apart standing n ≡ true → startsBy (rule c .reach) ≡ false →
       ((y : InstanceState) → Quiet c (e .sheet) y) → Step n (instances c)
   quiet n c o s q d is r fits k =
-      rw (stand-other e before after k (stands k) (ap other d ∙ o))
+      rw (stand-other e before after k (stands k) (none-of e n standing d o))
       (quiet-on c e [] k (acc .instances .at k) (stands k) (r .silent s) q (m k))
 
-  by-key : (n : ℕ) (c : InstanceCall) → among n ≡ false → eqb n 6 ≡ false → other n ≡ true → wayOf c ≡ byKey →
+  by-key : (n : ℕ) (c : InstanceCall) → among n ≡ false → eqb n 6 ≡ false → apart standing n ≡ true → wayOf c ≡ byKey →
       ((y : InstanceState) → y .life .kind ≡ Alive → Quiet c (e .sheet) y) → Step n (instances c)
   by-key n c a b o w q d is r fits k =
-      rw (stand-other e before after k (stands k) (ap other d ∙ o))
+      rw (stand-other e before after k (stands k) (none-of e n standing d o))
       (keyed-on c e [] k (acc .instances .at k) (stands k) w q someones (m k))
     where
       someones : isKeyed (e .sheet) k ≡ true → someone (stands k) ≡ true
@@ -152,7 +157,7 @@ module _ (e : Event) (acc : Accounts) (stands : ℕ → Stand) (m : (k : ℕ) �
   notes-step : Step 6 (instances noteWriter)
   notes-step d is r fits k =
       unfold standAfter in
-      rw (r .number, test e 6 48 false d refl, test e 6 6 true d refl)
+      rw (r .number, test e 6 48 d, test e 6 6 d)
       (note-on e [] k (acc .instances .at k) (stands k) (r .silent refl) standing (m k))
     where
       standing : (i : Instance) → acc .instances .at k ≡ some i → i .handle .0 ≡ e .sheet .handle .0 →
@@ -162,23 +167,24 @@ module _ (e : Event) (acc : Accounts) (stands : ℕ → Stand) (m : (k : ℕ) �
 
   purges : Step 21 (instances autopurge)
   purges d is r fits k =
-      rw (stand-other e before after k (stands k) (ap other d))
+      rw (stand-other e before after k (stands k) (none-of e 21 standing d refl))
       (purge-on e [] k (acc .instances .at k) (stands k) (r .silent refl) (m k))
 
-  tracks : (n : ℕ) (c : TrackerCall) → other n ≡ true → Step n (tracker c)
-  tracks n c o d is r fits k =
-      rw (stand-other e before after k (stands k) (ap other d ∙ o))
+  tracks : (n : ℕ) (c : Call) → onWriters standing n c ≡ true → Step n c
+  tracks n (instances c) o = never (sym o)
+  tracks n (tracker c) o = λ d is r fits k. rw (stand-other e before after k (stands k) (none-of e n standing d o))
       (tracker-on c e [] k (acc .instances .at k) (stands k) (r .silent refl) (m k))
+  tracks n (joined c) o = never (sym o)
 
   admit-step : Step 48 (joined admit)
   admit-step d is r fits k =
       unfold standAfter in
-      rw (r .number, test e 48 48 true d refl)
+      rw (r .number, test e 48 48 d)
       (split (eqb (e .outcome) 0)
       (λ t.
       admit-on e [] k (acc .instances .at k) (stands k) t
-      (λ f o. r .admitted .2 t (at-key f ∙ o)) (λ f i o. r .admitted .1 t i (at-key f ∙ o)) (m k))
-      (λ t. stopped-on e [] k (acc .instances .at k) (stands k) t (r .admitted .0 t) (m k)))
+      (λ f o. r .admitted .absent t (at-key f ∙ o)) (λ f i o. r .admitted .present t i (at-key f ∙ o)) (m k))
+      (λ t. stopped-on e [] k (acc .instances .at k) (stands k) t (r .admitted .stopped t) (m k)))
     where
       at-key : isKeyed (e .sheet) k ≡ true → acc .instances .at (num (e .sheet .key)) ≡ acc .instances .at k
       at-key f = ap (acc .instances .at) (sym (eqb-true k (num (e .sheet .key)) f))
@@ -186,143 +192,59 @@ module _ (e : Event) (acc : Accounts) (stands : ℕ → Stand) (m : (k : ℕ) �
   lapse-step : Step 49 (joined lapse)
   lapse-step d is r fits k =
       unfold standAfter in
-      rw (r .number, test e 49 48 false d refl, test e 49 6 false d refl, test e 49 49 true d refl)
+      rw (r .number, test e 49 48 d, test e 49 6 d, test e 49 49 d)
       (lapse-on e before after k (acc .instances .at k) (stands k) (r .silent refl) (sound k) (m k))
 
   part-step : Step 50 (joined part)
   part-step d is r fits k =
       unfold standAfter in
-      rw (r .number, test e 50 48 false d refl, test e 50 6 false d refl, test e 50 49 false d refl, test e 50 50 true d refl)
-      (part-on e k (acc .instances .at k) (stands k) (r .silent refl) (sound k) (m k))
+      rw (r .number, test e 50 48 d, test e 50 6 d, test e 50 49 d, test e 50 50 d)
+      (leave-on part e k (acc .instances .at k) (stands k) (λ j. refl) (r .silent refl) (sound k) (m k))
 
   depart-step : Step 51 (joined depart)
   depart-step d is r fits k =
       unfold standAfter in
-      rw (r .number, test e 51 48 false d refl, test e 51 6 false d refl, test e 51 49 false d refl, test e 51 50 false d refl, test e 51 51 true d refl)
-      (depart-on e k (acc .instances .at k) (stands k) (r .silent refl) (sound k) (m k))
+      rw (r .number, test e 51 48 d, test e 51 6 d, test e 51 49 d, test e 51 50 d, test e 51 51 d)
+      (leave-on depart e k (acc .instances .at k) (stands k) (λ j. refl) (r .silent refl) (sound k) (m k))
 
-  -- in the order of the codes
-  steps : All (λ n. Step (n .code) (n .call)) calls
-  unfolding calls
-  steps = (
-    by-key 1 register refl refl refl refl (alive-registered (e .sheet)),
-    (
-      by-key 2 ensureRegisteredLimited refl refl refl refl (alive-ensured (e .sheet)),
-      (
-        barred 3 (instances dispose) refl refl refl,
-        (
-          barred 4 (instances unregister) refl refl refl,
-          (
-            barred 5 (instances unregisterWriter) refl refl refl,
-            (
-              notes-step,
-              (
-                barred 7 (instances dropWriter) refl refl refl,
-                (
-                  by-key 8 observeLifecycle refl refl refl refl (alive-lifecycle (e .sheet)),
-                  (
-                    by-key 9 observeAdmitted refl refl refl refl (alive-observed (e .sheet)),
-                    (
-                      barred 10 (instances noteAdmitted) refl refl refl,
-                      (
-                        quiet 11 recordDelivery refl refl (quiet-delivery (e .sheet)),
-                        (
-                          quiet 12 noteTaken refl refl (quiet-taken (e .sheet)),
-                          (
-                            quiet 13 markViewSeen refl refl (quiet-seen (e .sheet)),
-                            (
-                              quiet 14 markViewNew refl refl (quiet-new (e .sheet)),
-                              (
-                                quiet 15 drainSamples refl refl (quiet-drained (e .sheet)),
-                                (
-                                  quiet 16 acceptUnderExclusiveOwnership refl refl (quiet-tried (e .sheet)),
-                                  (
-                                    quiet 17 updateOwnerStrength refl refl (quiet-strength (e .sheet)),
-                                    (
-                                      quiet 18 clearOwnerForWriter refl refl (quiet-cleared (e .sheet)),
-                                      (
-                                        quiet 19 clearOwnerForWriterPrefix refl refl (quiet-prefix (e .sheet)),
-                                        (
-                                          quiet 20 releaseOwnerOf refl refl (quiet-released (e .sheet)),
-                                          (
-                                            purges,
-                                            (
-                                              tracks 32 matched refl,
-                                              (
-                                                tracks 33 unmatched refl,
-                                                (
-                                                  tracks 34 lostWithParticipant refl,
-                                                  (
-                                                    tracks 35 writerAsserted refl,
-                                                    (
-                                                      tracks 36 participantAsserted refl,
-                                                      (
-                                                        tracks 37 expire refl,
-                                                        (
-                                                          tracks 38 takeLost refl,
-                                                          (
-                                                            tracks 39 takeStatus refl,
-                                                            (
-                                                              tracks 40 acknowledge refl,
-                                                              (
-                                                                admit-step,
-                                                                (
-                                                                  lapse-step,
-                                                                  (
-                                                                    part-step,
-                                                                    (
-                                                                      depart-step,
-                                                                      tt,
-                                                                    ),
-                                                                  ),
-                                                                ),
-                                                              ),
-                                                            ),
-                                                          ),
-                                                        ),
-                                                      ),
-                                                    ),
-                                                  ),
-                                                ),
-                                              ),
-                                            ),
-                                          ),
-                                        ),
-                                      ),
-                                    ),
-                                  ),
-                                ),
-                              ),
-                            ),
-                          ),
-                        ),
-                      ),
-                    ),
-                  ),
-                ),
-              ),
-            ),
-          ),
-        ),
-      ),
-    ),
-  )
+  -- but for those on writers, in the order of the codes
+  steps : All (λ n. Step (n .code) (n .call)) (pick (λ n. not (onWriters standing (n .code) (n .call))) calls)
+  unfolding calls pick
+  steps =
+      by-key 1 register refl refl refl refl (alive-registered (e .sheet))
+      ⨾ by-key 2 ensureRegisteredLimited refl refl refl refl (alive-ensured (e .sheet))
+      ⨾ barred 3 (instances dispose) refl refl refl
+      ⨾ barred 4 (instances unregister) refl refl refl
+      ⨾ barred 5 (instances unregisterWriter) refl refl refl
+      ⨾ notes-step
+      ⨾ barred 7 (instances dropWriter) refl refl refl
+      ⨾ by-key 8 observeLifecycle refl refl refl refl (alive-lifecycle (e .sheet))
+      ⨾ by-key 9 observeAdmitted refl refl refl refl (alive-observed (e .sheet))
+      ⨾ barred 10 (instances noteAdmitted) refl refl refl
+      ⨾ quiet 11 recordDelivery refl refl (quiet-delivery (e .sheet))
+      ⨾ quiet 12 noteTaken refl refl (quiet-taken (e .sheet))
+      ⨾ quiet 13 markViewSeen refl refl (quiet-seen (e .sheet))
+      ⨾ quiet 14 markViewNew refl refl (quiet-new (e .sheet))
+      ⨾ quiet 15 drainSamples refl refl (quiet-drained (e .sheet))
+      ⨾ quiet 16 acceptUnderExclusiveOwnership refl refl (quiet-tried (e .sheet))
+      ⨾ quiet 17 updateOwnerStrength refl refl (quiet-strength (e .sheet))
+      ⨾ quiet 18 clearOwnerForWriter refl refl (quiet-cleared (e .sheet))
+      ⨾ quiet 19 clearOwnerForWriterPrefix refl refl (quiet-prefix (e .sheet))
+      ⨾ quiet 20 releaseOwnerOf refl refl (quiet-released (e .sheet))
+      ⨾ purges
+      ⨾ admit-step
+      ⨾ lapse-step
+      ⨾ part-step
+      ⨾ depart-step
+      ⨾ tt
 
   pub step : (c : Call) → accepted e ≡ some c → Real c e acc → Fits e acc stands → Goal c
-  step c is r fits = by-code Step steps (e .sheet .code) c (accepted-code e c is) refl is r fits
+  step c is r fits = by-code Step (onWriters standing) tracks steps e c is refl is r fits
 
 -- a call that is skipped
 pub unheard : (e : Event) (before after : Writers) (k : ℕ) (x : Stand) → accepted e ≡ none →
     standAfter e before after k x ≡ x
 unheard e before after k x is =
     split (eqb (e .number) 0)
-    (λ z.
-    stand-other e before after k x
-    (rw (
-      unknown-code e 48 is z (unfold amongst calls in refl),
-      unknown-code e 6 is z (unfold amongst calls in refl),
-      unknown-code e 49 is z (unfold amongst calls in refl),
-      unknown-code e 50 is z (unfold amongst calls in refl),
-      unknown-code e 51 is z (unfold amongst calls in refl),
-    )))
-    (λ z. stand-refused e before after k x z)
+    (λ z. stand-other e before after k x (none-known e standing is z (unfold all amongst calls in refl)))
+    (λ z. unfold standAfter in rw z)

@@ -2,51 +2,42 @@
 --     answered         an accepted call's answer is that of its turn
 --     Real, real       so a handle is answered only by a call that starts or admits, and then it is the instance's
 --     real-next        the same of the next call of a list
--- Assumes nothing.
 use mathlib.Core.Bool.{Bool, true, false, not, _&&_, cond}
 use mathlib.Core.List.{List, [], _∷_}
-use mathlib.Core.Option.{Option, none, some}
+use mathlib.Core.Option.{none, some}
 use mathlib.Core.Path.{_≡_, refl, sym, ap, _∙_, subst}
-use Prim.Native.Nat.{ℕ, _+_, _^_, _<_}
-use native.Mathlib.Omega.{arith}
-use borrow.Author.Tests.{eqb-true, not-false}
+use Prim.Native.Nat.{ℕ}
+use borrow.Author.Tests.{not-false}
 use lib.Dec.{eqb}
-use lib.ListN.{length, length-append}
 use Rattle.octets.specs.Bounds.{Bytes}
 use Rattle.model.specs.declared.Answer.{Answer}
 use Rattle.model.specs.declared.Guid.{Guid}
 use Rattle.model.specs.declared.Instance.{Instance}
 use Rattle.model.specs.declared.Sheet.{Sheet}
-use Rattle.model.specs.Call.{Left, refuse, turn, settle, judged, coded, callIn}
+use Rattle.model.specs.Call.{Left, turn, callIn}
 use Rattle.model.specs.declared.InstanceCall.{InstanceCall}
-use Rattle.model.specs.declared.InstanceCall.the-variants.{Register as register, EnsureRegisteredLimited as ensureRegisteredLimited, Dispose as dispose, Unregister as unregister, UnregisterWriter as unregisterWriter, NoteWriter as noteWriter, DropWriter as dropWriter, ObserveLifecycle as observeLifecycle, ObserveAdmitted as observeAdmitted, NoteAdmitted as noteAdmitted, RecordDelivery as recordDelivery, NoteTaken as noteTaken, MarkViewSeen as markViewSeen, MarkViewNew as markViewNew, DrainSamples as drainSamples, AcceptUnderExclusiveOwnership as acceptUnderExclusiveOwnership, UpdateOwnerStrength as updateOwnerStrength, ClearOwnerForWriter as clearOwnerForWriter, ClearOwnerForWriterPrefix as clearOwnerForWriterPrefix, ReleaseOwnerOf as releaseOwnerOf, Autopurge as autopurge}
 use Rattle.model.specs.declared.TrackerCall.{TrackerCall}
-use Rattle.model.specs.declared.TrackerCall.the-variants.{Matched as matched, Unmatched as unmatched, LostWithParticipant as lostWithParticipant, WriterAsserted as writerAsserted, ParticipantAsserted as participantAsserted, Expire as expire, TakeLost as takeLost, TakeStatus as takeStatus, Acknowledge as acknowledge}
+use Rattle.model.specs.declared.TrackerCall.the-variants.{Unmatched as unmatched, LostWithParticipant as lostWithParticipant, Expire as expire}
 use Rattle.model.specs.declared.JoinedCall.the-variants.{Admit as admit, Lapse as lapse, Part as part, Depart as depart}
 use Rattle.model.specs.Calls.{Call, instances, tracker, joined, callOfCode}
 use Rattle.model.specs.Guids.{num}
-use Rattle.model.specs.InstanceCalls.{Turned, accepted as accepts, known, begins, spent, atLimit, infoAnswer, reached, told, lateRefusal, instanceTurn, instanceCall, instancesAfter}
+use Rattle.model.specs.InstanceCalls.{Turned, accepted as accepts, known, spent, atLimit, lateRefusal, instanceTurn, instanceCall}
 use Rattle.model.specs.Instances.{rule, startsBy, limitedBy, hasKey}
 use Rattle.model.specs.Joined.{sampled, admitted, afterLoss, lossCall}
-use Rattle.model.specs.Refusals.{lengthsOk, sheetRefusal}
 use Rattle.model.specs.Sheets.{sheetOf}
-use Rattle.model.specs.State.{Lent, State, layOut, instanceKey}
-use Rattle.model.specs.Tables.{find, isSome}
-use Rattle.model.specs.WellFormed.{wellFormed}
-use Rattle.model.specs.Writers.{movers, trackerTold, trackerLate, trackerTurn, trackerCall}
-use Rattle.model.specs.InstanceRecord.{bit}
+use Rattle.model.specs.State.{Lent, State, layOut}
+use Rattle.model.specs.Tables.{find}
+use Rattle.model.specs.Writers.{movers, trackerLate, trackerTurn, trackerCall}
 use Rattle.model.proofs.Fits.{FitsGuid}
-use Rattle.model.proofs.Tests.{both, split}
-use Rattle.model.proofs.StateLaws.{read-back}
-use Rattle.accounts.specs.Accounts.{Accounts, accepted, Lending, withOut, eventOf, next, SheetBytes}
-use Rattle.accounts.specs.InstanceAccounts.{Event, InstanceAccounts, onInstance, startsAt, reach}
+use Rattle.accounts.specs.Accounts.{Accounts, accepted, Lending, eventOf, next, SheetBytes}
+use Rattle.accounts.specs.InstanceAccounts.{Event, reach}
 use Rattle.accounts.proofs.Basics.{either, never, missing}
-use Rattle.accounts.proofs.Demand3.{out-replaced, After}
-use Rattle.accounts.proofs.InStep.{InStep, held-fits}
-use Rattle.accounts.proofs.InstanceTurns.{InstanceSim, handleIn, samples-answer, eventBy, tried, observed, tried-next, tried-silent, instance-heard, known-is, next-is, begins-absent, tried-none}
+use Rattle.accounts.proofs.Demand3.{call-cases, After, anew}
+use Rattle.accounts.proofs.InStep.{InStep}
+use Rattle.model.proofs.TrackerLaws.{tracker-unhanded}
+use Rattle.accounts.proofs.InstanceTurns.{InstanceSim, handle-there, handle-new, told-silent}
 use Rattle.accounts.proofs.SheetLaws.{SheetFits, sheet-fits}
 use Rattle.accounts.proofs.Steps.{admit-cases, handle-free}
-use Rattle.accounts.proofs.TurnLaws.{lookup}
 
 -- ---- an accepted call's answer is that of its turn
 
@@ -57,57 +48,15 @@ pub record Answered (places : ℕ) (sheet : List ℕ) (st : State) (c : Call) (a
 
 module _ (places : ℕ) (sheet : List ℕ) (st : State) (out : List ℕ) (acc : Accounts) (bytes : Bytes sheet)
     (held : InStep places st acc) (c : Call) where
-  abbrev l : Lent
-  l = layOut places st out
-
-  abbrev So : Left → Type 0
-  So r = accepted (eventOf sheet (r .answer)) ≡ some c → Answered places sheet st c (r .answer)
-
-  refused-so : (n : ℕ) → eqb n 0 ≡ false → So (refuse n l)
-  refused-so n e d = missing (sym (ap (λ (b : Bool). cond b (callOfCode (sheetOf sheet .code)) none) e) ∙ d)
-
-  settled-so : (d : Call) → length sheet ≡ 256 → callOfCode (sheetOf sheet .code) ≡ some d →
-      So (settle places (turn places d (sheetOf sheet) st) l)
-  unfolding settle
-  settled-so d n q =
-      either So (eqb (turn places d (sheetOf sheet) st .answer .number) 0) _ _
-      (λ e f. done e (rw (e, q) at f))
-      (λ e. refused-so (turn places d (sheetOf sheet) st .answer .number) e)
-    where
-      done : eqb (turn places d (sheetOf sheet) st .answer .number) 0 ≡ true → some d ≡ some c →
-          Answered places sheet st c (turn places d (sheetOf sheet) st .answer)
-      done e f =
-          let p : d ≡ c = cc in
-          record {
-            fits = sheet-fits sheet bytes n;
-            is = ap (λ (b : Call). turn places b (sheetOf sheet) st .answer) p;
-            number = e;
-          }
-
-  judged-so : (d : Call) → length sheet ≡ 256 → callOfCode (sheetOf sheet .code) ≡ some d →
-      So (judged places d (sheetOf sheet) l)
-  unfolding judged
-  judged-so d n q =
-      rw (read-back places st out (held-fits places st acc held))
-      (either So (eqb (sheetRefusal d (sheetOf sheet) st) 0) _ _
-      (λ e. settled-so d n q)
-      (λ e. refused-so (sheetRefusal d (sheetOf sheet) st) e))
-
-  coded-so : (o : Option Call) → length sheet ≡ 256 → callOfCode (sheetOf sheet .code) ≡ o →
-      So (coded places o (sheetOf sheet) l)
-  coded-so none n q = refused-so 2 refl
-  coded-so (some d) n q =
-      either So (wellFormed places l) _ _ (λ e. judged-so d n q) (λ e. refused-so 3 refl)
-
-  pub answered : So (callIn places sheet l)
-  unfolding callIn
+  pub answered : accepted (eventOf sheet (callIn places sheet (layOut places st out) .answer)) ≡ some c →
+      Answered places sheet st c (callIn places sheet (layOut places st out) .answer)
   answered =
-      either So (lengthsOk places sheet l) _ _
-      (λ e. coded-so (callOfCode (sheetOf sheet .code)) (size e) refl)
-      (λ e. refused-so 1 refl)
-    where
-      size : lengthsOk places sheet l ≡ true → length sheet ≡ 256
-      size e = unfold lengthsOk in eqb-true (length sheet) 256 (both _ _ e .0)
+      call-cases (λ (r : Left). accepted (eventOf sheet (r .answer)) ≡ some c → Answered places sheet st c (r .answer)) places sheet st out acc held
+      (λ n e d. missing (sym (ap (λ (b : Bool). cond b (callOfCode (sheetOf sheet .code)) none) e) ∙ d))
+      (λ d n q a e f.
+      let s : some d ≡ some c = rw (e, q) at f in
+      let p : d ≡ c = cc in
+      record { fits = sheet-fits sheet bytes n; is = ap (λ (b : Call). turn places b (sheetOf sheet) st .answer) p; number = e })
 
 -- ---- calls that answer no handle
 
@@ -118,45 +67,6 @@ starting (joined admit) = true
 starting (joined lapse) = false
 starting (joined part) = false
 starting (joined depart) = false
-
-info-silent : (o : Option Instance) → infoAnswer o .handle .0 ≡ 0
-info-silent none = refl
-info-silent (some x) = refl
-
-told-silent : (c : InstanceCall) (s : Sheet) (before after : List Instance) → startsBy (rule c .reach) ≡ false →
-    told c s before after .handle .0 ≡ 0
-told-silent register s before after e = never e
-told-silent ensureRegisteredLimited s before after e = never e
-told-silent dispose s before after e = refl
-told-silent unregister s before after e = refl
-told-silent unregisterWriter s before after e = refl
-told-silent noteWriter s before after e = refl
-told-silent dropWriter s before after e = refl
-told-silent observeLifecycle s before after e = never e
-told-silent observeAdmitted s before after e = never e
-told-silent noteAdmitted s before after e = info-silent (reached noteAdmitted s after)
-told-silent recordDelivery s before after e = refl
-told-silent noteTaken s before after e = refl
-told-silent markViewSeen s before after e = refl
-told-silent markViewNew s before after e = refl
-told-silent drainSamples s before after e = refl
-told-silent acceptUnderExclusiveOwnership s before after e = refl
-told-silent updateOwnerStrength s before after e = refl
-told-silent clearOwnerForWriter s before after e = refl
-told-silent clearOwnerForWriterPrefix s before after e = refl
-told-silent releaseOwnerOf s before after e = refl
-told-silent autopurge s before after e = refl
-
-tracker-silent : (c : TrackerCall) (s : Sheet) (st : State) → trackerTold c s st .handle .0 ≡ 0
-tracker-silent matched s st = refl
-tracker-silent unmatched s st = refl
-tracker-silent lostWithParticipant s st = refl
-tracker-silent writerAsserted s st = refl
-tracker-silent participantAsserted s st = refl
-tracker-silent expire s st = refl
-tracker-silent takeLost s st = refl
-tracker-silent takeStatus s st = refl
-tracker-silent acknowledge s st = refl
 
 abbrev Silent : Turned → Type 0
 Silent t = t .answer .handle .0 ≡ 0
@@ -176,7 +86,7 @@ turn-silent : (places : ℕ) (c : Call) (s : Sheet) (st : State) → starting c 
 unfolding trackerCall trackerTurn
 turn-silent places (instances c) s st e = instance-silent places c s st e
 turn-silent places (tracker c) s st e =
-    either Silent (eqb (trackerLate c s st) 0) _ _ (λ d. tracker-silent c s st) (λ d. refl)
+    either Silent (eqb (trackerLate c s st) 0) _ _ (λ d. tracker-unhanded c s st) (λ d. refl)
 turn-silent places (joined admit) s st e = never e
 turn-silent places (joined lapse) s st e = loss-silent expire (movers expire s (st .writers)) s st
 turn-silent places (joined part) s st e = loss-silent unmatched (s .guid ∷ []) s st
@@ -185,89 +95,21 @@ turn-silent places (joined depart) s st e = loss-silent lostWithParticipant (s .
 -- ---- admit
 
 -- with outcome 0 it answers the handle of the instance of its key, which it starts where there is none, and code 16 let it through
-pub record Admits (a : Answer) (s : Sheet) (acc : Accounts) : Type 0 where
-  pub stopped : eqb (a .outcome) 0 ≡ false → a .handle .0 ≡ 0
-  pub present : eqb (a .outcome) 0 ≡ true → (x : Instance) → acc .instances .at (num (s .key)) ≡ some x → x .handle .0 ≡ a .handle .0
-  pub absent : eqb (a .outcome) 0 ≡ true → acc .instances .at (num (s .key)) ≡ none → eqb (a .handle .0) 0 ≡ false
-  pub takes : eqb (a .outcome) 0 ≡ true → accepts s (acc .instances .at (num (s .key))) ≡ true
+pub record Admits (s : Sheet) (outcome handle : ℕ) (acc : Accounts) : Type 0 where
+  pub stopped : eqb outcome 0 ≡ false → handle ≡ 0
+  pub present : eqb outcome 0 ≡ true → (x : Instance) → acc .instances .at (num (s .key)) ≡ some x → x .handle .0 ≡ handle
+  pub absent : eqb outcome 0 ≡ true → acc .instances .at (num (s .key)) ≡ none → eqb handle 0 ≡ false
+  pub takes : eqb outcome 0 ≡ true → accepts s (acc .instances .at (num (s .key))) ≡ true
 
-module _ (s : Sheet) (st : State) (acc : InstanceAccounts) (fits : FitsGuid (s .key)) (m : InstanceSim st acc)
-    (room : lookup instanceKey (num (s .key)) (st .instances) ≡ none → st .nextHandle < 2 ^ 63) where
-  abbrev k : ℕ
-  k = num (s .key)
-
-  abbrev h1 : ℕ
-  h1 = instanceTurn acceptUnderExclusiveOwnership s st .answer .handle .0
-
-  abbrev h2 : ℕ
-  h2 = instanceTurn observeAdmitted s (tried s st) .answer .handle .0
-
-  abbrev acc1 : InstanceAccounts
-  acc1 = reach (some (instances acceptUnderExclusiveOwnership)) (eventBy s h1 0) [] acc
-
-  abbrev acc2 : InstanceAccounts
-  acc2 = reach (some (instances observeAdmitted)) (eventBy s h2 0) [] acc1
-
-  m1 : InstanceSim (tried s st) acc1
-  m1 = instance-heard st acc acceptUnderExclusiveOwnership s [] 0 fits (λ e. never (sym e)) m
-
-  room1 : begins observeAdmitted s (tried s st) ≡ true → tried s st .nextHandle < 2 ^ 63
-  room1 e =
-      rw (tried-next s st)
-      (room (m .agree k ∙ tried-none s k h1 (acc .at k) (tried-silent s st)
-      (sym (m1 .agree k) ∙ begins-absent observeAdmitted s (tried s st) e .1)))
-
-  m2 : InstanceSim (observed s st) acc2
-  m2 = instance-heard (tried s st) acc1 observeAdmitted s [] 0 fits room1 m1
-
-  -- the handle answered is that of the instance found
-  answered-found : h2 ≡ handleIn (acc2 .at k)
-  answered-found = found ∙ ap handleIn (m2 .agree k)
-    where
-      found : h2 ≡ handleIn (lookup instanceKey k (observed s st .instances))
-      found = unfold instanceTurn in samples-answer (lookup instanceKey k (instancesAfter observeAdmitted s (tried s st)))
-
-  tried-there : (x : Instance) → acc .at k ≡ some x →
-      handleIn (onInstance (instances observeAdmitted) (eventBy s h2 0) [] k
-      (onInstance (instances acceptUnderExclusiveOwnership) (eventBy s h1 0) [] k (acc .at k))) ≡ x .handle .0
-  tried-there x e = rw e (split (eqb k k) (λ d. rw (d, d)) (λ d. rw (d, d)))
-
-  pub handle-there : (x : Instance) → acc .at k ≡ some x → h2 ≡ x .handle .0
-  handle-there x e = answered-found ∙ tried-there x e
-
-  unknown : acc .at k ≡ none → known s (tried s st) ≡ false
-  unknown e = known-is s (tried s st) ∙ ap isSome (m1 .agree k ∙ gone)
-    where
-      gone : acc1 .at k ≡ none
-      gone = rw (e, tried-silent s st) (split (eqb k k) (λ d. rw d) (λ d. rw d))
-
-  more : acc .at k ≡ none → observed s st .nextHandle ≡ tried s st .nextHandle + 1
-  more e =
-      unfold instanceTurn in
-      next-is observeAdmitted s (tried s st) (omega (arith, m1 .next)) room1
-      ∙ ap (λ (b : Bool). tried s st .nextHandle + bit (not b)) (unknown e)
-
-  startless : h2 ≡ 0 → (o : Option Instance) → startsAt (eventBy s h2 0) o ≡ []
-  startless z none = rw z
-  startless z (some x) = refl
-
-  pub handle-new : acc .at k ≡ none → eqb h2 0 ≡ false
-  handle-new e =
-      split (eqb h2 0)
-      (λ d.
-      let z : h2 ≡ 0 = eqb-true h2 0 d in
-      let n : length (acc2 .handles) ≡ length (acc1 .handles) + length (startsAt (eventBy s h2 0) (acc1 .at k)) =
-      length-append (acc1 .handles) (startsAt (eventBy s h2 0) (acc1 .at k)) in
-      let q : length (startsAt (eventBy s h2 0) (acc1 .at k)) ≡ 0 = ap length (startless z (acc1 .at k)) in
-      absurd (omega (arith, n, q, more e, m2 .next, m1 .next)))
-      (λ d. d)
+abbrev AdmitsBy : Answer → Sheet → Accounts → Type 0
+AdmitsBy a s acc = Admits s (a .outcome) (a .handle .0) acc
 
 admit-real : (places : ℕ) (s : Sheet) (st : State) (acc : Accounts) → FitsGuid (s .key) →
     InstanceSim st (acc .instances) →
     eqb (turn places (joined admit) s st .answer .number) 0 ≡ true →
-    Admits (turn places (joined admit) s st .answer) s acc
+    AdmitsBy (turn places (joined admit) s st .answer) s acc
 admit-real places s st acc fits m =
-    admit-cases (λ (t : Turned). eqb (t .answer .number) 0 ≡ true → Admits (t .answer) s acc) places s st
+    admit-cases (λ (t : Turned). eqb (t .answer .number) 0 ≡ true → AdmitsBy (t .answer) s acc) places s st
     (find (hasKey (s .key)) (st .instances))
     (λ n e ok. record {
       stopped = λ d. refl;
@@ -279,7 +121,7 @@ admit-real places s st acc fits m =
     (λ e4 e5 e6 e7 ok. taken e5 e7)
   where
     taken : (not (known s st) && spent st) ≡ false → not (accepts s (find (hasKey (s .key)) (st .instances))) ≡ false →
-        Admits (admitted s st .answer) s acc
+        AdmitsBy (admitted s st .answer) s acc
     taken e f =
         unfold admitted sampled in
         record {
@@ -294,11 +136,7 @@ admit-real places s st acc fits m =
 abbrev pub Admitting : Call → Event → Accounts → Type 0
 Admitting (instances c) e acc = Unit {0}
 Admitting (tracker c) e acc = Unit {0}
-Admitting (joined admit) e acc =
-    (eqb (e .outcome) 0 ≡ false → e .handle ≡ 0)
-    × (eqb (e .outcome) 0 ≡ true → (x : Instance) → acc .instances .at (num (e .sheet .key)) ≡ some x → x .handle .0 ≡ e .handle)
-    × (eqb (e .outcome) 0 ≡ true → acc .instances .at (num (e .sheet .key)) ≡ none → eqb (e .handle) 0 ≡ false)
-    × (eqb (e .outcome) 0 ≡ true → accepts (e .sheet) (acc .instances .at (num (e .sheet .key))) ≡ true)
+Admitting (joined admit) e acc = Admits (e .sheet) (e .outcome) (e .handle) acc
 Admitting (joined lapse) e acc = Unit {0}
 Admitting (joined part) e acc = Unit {0}
 Admitting (joined depart) e acc = Unit {0}
@@ -314,10 +152,8 @@ admitting-real : (places : ℕ) (sheet : List ℕ) (st : State) (acc : Accounts)
 admitting-real places sheet st acc (instances c) a m r = tt
 admitting-real places sheet st acc (tracker c) a m r = tt
 admitting-real places sheet st acc (joined admit) a m r =
-    let t : Admits a (sheetOf sheet) acc = subst
-    (λ (b : Answer). Admits b (sheetOf sheet) acc) (sym (r .is))
-    (admit-real places (sheetOf sheet) st acc (r .fits .key) m (sym (ap (λ (b : Answer). eqb (b .number) 0) (r .is)) ∙ r .number)) in
-    (t .stopped, t .present, t .absent, t .takes)
+    subst (λ (b : Answer). AdmitsBy b (sheetOf sheet) acc) (sym (r .is))
+    (admit-real places (sheetOf sheet) st acc (r .fits .key) m (sym (ap (λ (b : Answer). eqb (b .number) 0) (r .is)) ∙ r .number))
 admitting-real places sheet st acc (joined lapse) a m r = tt
 admitting-real places sheet st acc (joined part) a m r = tt
 admitting-real places sheet st acc (joined depart) a m r = tt
@@ -342,8 +178,5 @@ module _ (places : ℕ) (i : Lending) (before : Lent) (acc : Accounts) (bytes : 
   pub real-next : (c : Call) → accepted e ≡ some c → Real c e acc
   real-next c is =
       subst (λ (m : Lent). accepted (eventOf (i .sheet) (callIn places (i .sheet) m .answer)) ≡ some c →
-      Real c (eventOf (i .sheet) (callIn places (i .sheet) m .answer)) acc) (sym lent)
+      Real c (eventOf (i .sheet) (callIn places (i .sheet) m .answer)) acc) (sym (anew places (i .out) at))
       (real places (i .sheet) (at .state) (i .out) acc c bytes (at .held)) is
-    where
-      lent : withOut (i .out) before ≡ layOut places (at .state) (i .out)
-      lent = ap (withOut (i .out)) (at .laid) ∙ out-replaced places (at .state) (before .out) (i .out)

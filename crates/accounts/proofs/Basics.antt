@@ -1,10 +1,9 @@
 -- Small laws that the others share.
 --     either               a claim on one of two values, by a test
 --     never, missing       contradictions
---     and-assoc, contrary, eqb-sym      tests
+--     and-assoc, eqb-sym   tests
 --     one-more             room for one more
 --     all-from, all-each, all-weaken      what holds of every record
--- Assumes nothing.
 use mathlib.Core.Bool.{Bool, true, false, not, _&&_, cond}
 use mathlib.Core.List.{List, [], _∷_}
 use mathlib.Core.Option.{none, some}
@@ -16,11 +15,7 @@ use borrow.Author.Tests.{eqb-true, eqb-false, eq-eqb, ne-eqb, leb-false}
 use Rattle.octets.specs.Lay.{All}
 use Rattle.model.specs.InstanceRecord.{bit}
 use Rattle.model.specs.Tables.{all}
-use Rattle.model.proofs.Tests.{both}
-
-pub split {ℓ} : {P : Type ℓ} (b : Bool) → (b ≡ true → P) → (b ≡ false → P) → P
-split true y n = y refl
-split false y n = n refl
+use Rattle.model.proofs.Tests.{both, split}
 
 -- what holds of the one where the test holds, and of the other where not
 pub either : {A : Type 0} (P : A → Type 0) (b : Bool) (x y : A) → (b ≡ true → P x) → (b ≡ false → P y) → P (cond b x y)
@@ -37,11 +32,6 @@ never e = let z : _≡_ {A = ℕ} 0 1 = cc in absurd (omega arith)
 
 pub missing : {A B : Type 0} {x : A} → none ≡ some x → B
 missing e = let z : _≡_ {A = ℕ} 0 1 = cc in absurd (omega arith)
-
--- a test that is not so is its contrary
-pub contrary : (b : Bool) → not b ≡ false → b ≡ true
-contrary true e = refl
-contrary false e = never e
 
 -- room for one more under a limit, where one more is needed
 pub one-more : (limit : ℕ) (b : Bool) (n : ℕ) → n ≤ limit → (not b && leb limit n) ≡ false → n + bit (not b) ≤ limit

@@ -3,9 +3,9 @@
 --                        head and buffers are those of the accounts
 --     demand3-32, demand3-128      with 32 places, and with 128
 --     always-formed      each call of the list is lent a well-formed state: no run meets refusal 3
+--     call-cases         a claim on what a call leaves, by what becomes of it
 --     after-fresh        what holds after any list
 --     instances-are, writers-are      the tables are the accounts not absent
--- Assumes nothing.
 use mathlib.Core.Bool.{Bool, true, false, cond}
 use mathlib.Core.List.{List, [], _∷_}
 use mathlib.Core.Option.{Option, none, some}
@@ -27,10 +27,11 @@ use Rattle.model.specs.Refusals.{lengthsOk, sheetRefusal}
 use Rattle.model.specs.Sheets.{sheetOf}
 use Rattle.model.specs.State.{Lent, State, figureOk, headOf, layOut, pensOf, writersOf, lostOf, fresh, freshState, instanceKey, writerKey}
 use Rattle.model.specs.WellFormed.{wellFormed}
-use Rattle.model.proofs.Tests.{both, split}
+use Rattle.model.proofs.Tests.{both}
 use Rattle.model.proofs.StateLaws.{read-back, laid-valid, fresh-laid}
 use Rattle.accounts.specs.Accounts.{Accounts, absent, accepted, advance, accountsFrom, accountsOf, Lending, withOut, eventOf, next, final, history, SheetBytes, instancesIn, writersIn, Told, Demand3}
 use Rattle.accounts.specs.Ranges.{bound}
+use Rattle.accounts.proofs.Basics.{either}
 use Rattle.accounts.proofs.InStep.{InStep, held-turn, held-valid, held-fits, held-fresh}
 use Rattle.accounts.proofs.Runs.{left-in, told-in}
 use Rattle.accounts.proofs.SheetLaws.{sheet-fits}
@@ -61,79 +62,54 @@ pub record Next (places : ℕ) (sheet : List ℕ) (r : Left) (acc : Accounts) : 
   pub held : InStep places state (advance (eventOf sheet (r .answer)) acc)
   pub laid : r .lent ≡ layOut places state (r .lent .out)
 
-refused-next : (places n : ℕ) (sheet : List ℕ) (st : State) (out : List ℕ) (acc : Accounts) → eqb n 0 ≡ false →
-    InStep places st acc →
-    Next places sheet (refuse n (layOut places st out)) acc
-unfolding layOut
-refused-next places n sheet st out acc e m =
-    record { state = st; held = subst (InStep places st) (sym (skipped sheet n acc e)) m; laid = refl }
-
-settled-next : (places : ℕ) (sheet : List ℕ) (c : Call) (st : State) (out : List ℕ) (acc : Accounts) → Bytes sheet →
-    length sheet ≡ 256 →
-    callOfCode (sheetOf sheet .code) ≡ some c → eqb (sheetRefusal c (sheetOf sheet) st) 0 ≡ true → InStep places st acc →
-    Next places sheet (settle places (turn places c (sheetOf sheet) st) (layOut places st out)) acc
-unfolding settle
-settled-next places sheet c st out acc b n q a m =
-    split (eqb (t .answer .number) 0)
-    (λ e. rw e (done e))
-    (λ e. rw e (refused-next places (t .answer .number) sheet st out acc e m))
-  where
-    t : Turned
-    t = turn places c (sheetOf sheet) st
-
-    done : eqb (t .answer .number) 0 ≡ true →
-        Next places sheet record {
-          answer = t .answer;
-          lent = layOut places (t .state)
-              (listIn (t .list) (layOut places st out .out));
-        } acc
-    done e =
-        unfold layOut in
-        record {
-          state = t .state;
-          held =
-              subst (InStep places (t .state)) (sym (heard sheet (t .answer) c acc (eqb-true (t .answer .number) 0 e) q))
-              (held-turn places c (sheetOf sheet) st acc (sheet-fits sheet b n) a e m);
-          laid = refl;
-        }
-
-judged-next : (places : ℕ) (sheet : List ℕ) (c : Call) (st : State) (out : List ℕ) (acc : Accounts) → Bytes sheet →
-    length sheet ≡ 256 →
-    callOfCode (sheetOf sheet .code) ≡ some c → InStep places st acc →
-    Next places sheet (judged places c (sheetOf sheet) (layOut places st out)) acc
-unfolding judged
-judged-next places sheet c st out acc b n q m =
-    rw (read-back places st out (held-fits places st acc m))
-    (split (eqb (sheetRefusal c (sheetOf sheet) st) 0)
-    (λ e. rw e (settled-next places sheet c st out acc b n q e m))
-    (λ e. rw e (refused-next places (sheetRefusal c (sheetOf sheet) st) sheet st out acc e m)))
-
 pub formed : (places : ℕ) (st : State) (out : List ℕ) (acc : Accounts) → InStep places st acc →
     wellFormed places (layOut places st out) ≡ true
 formed places st out acc m = laid-valid places st out (held-fits places st acc m) ∙ held-valid places st acc m
 
-coded-next : (places : ℕ) (sheet : List ℕ) (o : Option Call) (st : State) (out : List ℕ) (acc : Accounts) → Bytes sheet →
-    length sheet ≡ 256 →
-    callOfCode (sheetOf sheet .code) ≡ o → InStep places st acc →
-    Next places sheet (coded places o (sheetOf sheet) (layOut places st out)) acc
-coded-next places sheet none st out acc b n q m = refused-next places 2 sheet st out acc refl m
-coded-next places sheet (some c) st out acc b n q m =
-    rw (formed places st out acc m) (judged-next places sheet c st out acc b n q m)
+-- what an accepted turn leaves
+abbrev pub settled : ℕ → Turned → List ℕ → Left
+settled places t out = record { answer = t .answer; lent = layOut places (t .state) (listIn (t .list) out) }
 
-call-next : (places : ℕ) (sheet : List ℕ) (st : State) (out : List ℕ) (acc : Accounts) → Bytes sheet → InStep places st acc →
-    Next places sheet (callIn places sheet (layOut places st out)) acc
+-- a claim on what a call leaves: of each refusal, and of what an accepted turn leaves
+pub call-cases : (P : Left → Type 0) (places : ℕ) (sheet : List ℕ) (st : State) (out : List ℕ) (acc : Accounts) → InStep places st acc →
+    ((n : ℕ) → eqb n 0 ≡ false → P (refuse n (layOut places st out))) →
+    ((c : Call) → length sheet ≡ 256 → callOfCode (sheetOf sheet .code) ≡ some c → eqb (sheetRefusal c (sheetOf sheet) st) 0 ≡ true →
+    eqb (turn places c (sheetOf sheet) st .answer .number) 0 ≡ true → P (settled places (turn places c (sheetOf sheet) st) (layOut places st out .out))) →
+    P (callIn places sheet (layOut places st out))
 unfolding callIn
-call-next places sheet st out acc b m =
-    split (lengthsOk places sheet (layOut places st out))
-    (λ e. rw e (coded-next places sheet (callOfCode (sheetOf sheet .code)) st out acc b (size e) refl m))
-    (λ e. rw e (refused-next places 1 sheet st out acc refl m))
+call-cases P places sheet st out acc m refuses takes =
+    either P (lengthsOk places sheet (layOut places st out)) _ _ (λ e. coded-case (size e) (callOfCode (sheetOf sheet .code)) refl) (λ e. refuses 1 refl)
   where
     size : lengthsOk places sheet (layOut places st out) ≡ true → length sheet ≡ 256
     size e = unfold lengthsOk in eqb-true (length sheet) 256 (both _ _ e .0)
 
+    judged-case : length sheet ≡ 256 → (c : Call) → callOfCode (sheetOf sheet .code) ≡ some c → P (judged places c (sheetOf sheet) (layOut places st out))
+    judged-case n c q =
+        unfold judged settle in
+        rw (read-back places st out (held-fits places st acc m))
+        (either P (eqb (sheetRefusal c (sheetOf sheet) st) 0) _ _
+        (λ e. either P (eqb (turn places c (sheetOf sheet) st .answer .number) 0) _ _ (λ d. takes c n q e d) (λ d. refuses _ d))
+        (λ e. refuses _ e))
+
+    coded-case : length sheet ≡ 256 → (o : Option Call) → callOfCode (sheetOf sheet .code) ≡ o → P (coded places o (sheetOf sheet) (layOut places st out))
+    coded-case n none q = refuses 2 refl
+    coded-case n (some c) q = rw (formed places st out acc m) (judged-case n c q)
+
+call-next : (places : ℕ) (sheet : List ℕ) (st : State) (out : List ℕ) (acc : Accounts) → Bytes sheet → InStep places st acc →
+    Next places sheet (callIn places sheet (layOut places st out)) acc
+call-next places sheet st out acc b m =
+    call-cases (λ (r : Left). Next places sheet r acc) places sheet st out acc m
+    (λ n e. record { state = st; held = subst (InStep places st) (sym (skipped sheet n acc e)) m; laid = unfold layOut in refl })
+    (λ c n q a e. let t = turn places c (sheetOf sheet) st in record {
+      state = t .state;
+      held = subst (InStep places (t .state)) (sym (heard sheet (t .answer) c acc (eqb-true (t .answer .number) 0 e) q))
+          (held-turn places c (sheetOf sheet) st acc (sheet-fits sheet b n) a e m);
+      laid = unfold layOut in refl;
+    })
+
 -- ---- a list of calls
 
-pub out-replaced : (places : ℕ) (st : State) (out new : List ℕ) → withOut new (layOut places st out) ≡ layOut places st new
+out-replaced : (places : ℕ) (st : State) (out new : List ℕ) → withOut new (layOut places st out) ≡ layOut places st new
 unfolding layOut
 out-replaced places st out new = refl
 
@@ -141,6 +117,10 @@ pub record After (places : ℕ) (l : Lent) (acc : Accounts) : Type 0 where
   pub state : State
   pub held : InStep places state acc
   pub laid : l ≡ layOut places state (l .out)
+
+-- lent again with another Out
+pub anew : (places : ℕ) (out : List ℕ) {l : Lent} {acc : Accounts} (m : After places l acc) → withOut out l ≡ layOut places (m .state) out
+anew places out {l} m = ap (withOut out) (m .laid) ∙ out-replaced places (m .state) (l .out) out
 
 pub after-list : (places : ℕ) (is : List Lending) (l : Lent) (acc : Accounts) → All SheetBytes is → After places l acc →
     After places (final (callIn places) is l) (accountsFrom (history (callIn places) is l) acc)
@@ -150,12 +130,9 @@ after-list places (i ∷ is) l acc b m =
     after-list places is (next (callIn places) i l .lent)
     (advance (eventOf (i .sheet) (next (callIn places) i l .answer)) acc) (b .1) after
   where
-    same : withOut (i .out) l ≡ layOut places (m .state) (i .out)
-    same = ap (withOut (i .out)) (m .laid) ∙ out-replaced places (m .state) (l .out) (i .out)
-
     one : Next places (i .sheet) (next (callIn places) i l) acc
     one =
-        subst (λ (k : Lent). Next places (i .sheet) (callIn places (i .sheet) k) acc) (sym same)
+        subst (λ (k : Lent). Next places (i .sheet) (callIn places (i .sheet) k) acc) (sym (anew places (i .out) m))
         (call-next places (i .sheet) (m .state) (i .out) acc (b .0) (m .held))
 
     after : After places (next (callIn places) i l .lent)
@@ -242,5 +219,4 @@ pub always-formed : (places : ℕ) → figureOk places ≡ true → (is : List L
 always-formed places ok is out new b =
     let m = after-fresh places is out b in
     ap (λ (l : Lent). wellFormed places (withOut new l)) (left-in places ok is out)
-    ∙ ap (wellFormed places) (ap (withOut new) (m .laid) ∙ out-replaced places (m .state) _ new) ∙ formed places
-    (m .state) new _ (m .held)
+    ∙ ap (wellFormed places) (anew places new m) ∙ formed places (m .state) new _ (m .held)

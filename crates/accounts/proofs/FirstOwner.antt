@@ -3,7 +3,6 @@
 --                        owner, and time 2 as owner_at; before, it was absent or code 16's rule let the writer through
 --     first-owner        the same of an absent key
 --     admitted-owner-32, admitted-owner-128, first-owner-32, first-owner-128      with 32 places, and with 128
--- Assumes nothing.
 use mathlib.Core.Bool.{true, false}
 use mathlib.Core.Option.{Option, none, some}
 use mathlib.Core.Path.{_≡_, refl, sym, ap, _∙_}
@@ -51,15 +50,15 @@ goes-on-owned e acc x is o n h t =
 
 -- what a run's admit tells suffices
 owns-admitted : (e : Event) (acc : Accounts) → Admitting (joined admit) e acc → OwnsAdmitted e acc
-owns-admitted e acc r is o = (r .3 zero, go (named e acc) refl)
+owns-admitted e acc r is o = (r .takes zero, go (named e acc) refl)
   where
     zero : eqb (e .outcome) 0 ≡ true
     zero = ap (λ (n : ℕ). eqb n 0) o
 
     go : (before : Option Instance) → named e acc ≡ before → Owned e (named e (advance e acc))
-    go none n = begins-owned e acc is n (r .2 zero n)
+    go none n = begins-owned e acc is n (r .absent zero n)
     go (some x) n =
-        goes-on-owned e acc x is o n (r .1 zero x n) (sym (ap (accepts (e .sheet)) n) ∙ r .3 zero)
+        goes-on-owned e acc x is o n (r .present zero x n) (sym (ap (accepts (e .sheet)) n) ∙ r .takes zero)
 
 -- ---- every list
 

@@ -3,14 +3,13 @@
 --     held-turn          an accepted call keeps it so
 --     held-fits, held-valid      so the state fits its bytes and is well formed
 --     held-fresh         the fresh state
--- Assumes nothing.
 use mathlib.Core.Bool.{Bool, true, false, not, _&&_, _||_}
 use mathlib.Core.List.{List, [], _∷_}
 use mathlib.Core.Option.{Option, none}
 use mathlib.Core.Path.{_≡_, refl, sym, ap, _∙_}
-use Prim.Native.Nat.{ℕ, _^_, _≤_}
+use Prim.Native.Nat.{ℕ, _^_, _≤_, _*_}
 use native.Mathlib.Omega.{arith}
-use borrow.Author.Tests.{ne-eqb, le-leb, lt-ltb, leb-true, leb-false}
+use borrow.Author.Tests.{ne-eqb, le-leb, lt-ltb, leb-true, leb-false, not-false}
 use lib.Dec.{eqb, leb}
 use lib.ListN.{length}
 use Rattle.octets.specs.Lay.{All}
@@ -24,22 +23,29 @@ use Rattle.model.specs.declared.JoinedCall.{JoinedCall}
 use Rattle.model.specs.declared.TrackerCall.the-variants.{Unmatched as unmatched, LostWithParticipant as lostWithParticipant, Expire as expire}
 use Rattle.model.specs.declared.JoinedCall.the-variants.{Admit as admit, Lapse as lapse, Part as part, Depart as depart}
 use Rattle.model.specs.Calls.{Call, instances, tracker, joined}
-use Rattle.model.specs.Guids.{num}
+use Rattle.model.specs.Guids.{num, guidBytes}
 use Rattle.model.specs.InstanceCalls.{Turned, withInstances, known, full, spent, crowds, atLimit, lateRefusal, instanceTurn, instanceCall, instancesAfter, nextAfter}
 use Rattle.model.specs.Instances.{rule, limitedBy, hasKey}
 use Rattle.model.specs.Joined.{admitted, admitWith, afterLoss, lossCall}
 use Rattle.model.specs.Refusals.{timesUsed, clocksUsed, clocksUsedBy, holderUsed, holderFits, kindOk, acknowledgeOk, nanosecondsOk, optional, sheetRefusal}
-use Rattle.model.specs.State.{State, freshState, instanceKey, writerKey}
+use Rattle.model.specs.State.{State, freshState, instanceKey, writerKey, Lent, layOut}
 use Rattle.model.specs.Tables.{all, isSome, find, rising}
 use Rattle.model.specs.Times.{ifPresent}
 use Rattle.model.specs.WellFormed.{clockOk, instanceOk, otherHandle, handlesDistinct, handleBelow, instancesOk, writerOk, writersOk, within, valid}
 use Rattle.model.specs.Writers.{movers, trackerLate, trackerState, trackerTurn, trackerCall, acknowledgeable}
-use Rattle.model.proofs.Fits.{FitsInstance, FitsWriter}
+use Rattle.model.proofs.Fits.{FitsInstance, FitsWriter, FitsGuid}
 use Rattle.model.proofs.StateLaws.{Fitting}
+use Rattle.octets.proofs.LayLaws.{length-lay}
+use native.Mathlib.Nat.{mul-le-mul-right}
+use Rattle.model.specs.InstanceRecord.{instanceBytes}
+use Rattle.model.specs.WriterRecord.{writerBytes}
+use Rattle.model.proofs.GuidLaws.{length-guid}
+use Rattle.model.proofs.InstanceLaws.{length-instance}
+use Rattle.model.proofs.WriterLaws.{length-writer}
 use Rattle.accounts.specs.Accounts.{Accounts, absent}
 use Rattle.accounts.specs.Ranges.{bound, upFrom}
 use Rattle.model.proofs.Tests.{split}
-use Rattle.accounts.proofs.Basics.{never, contrary, all-from, all-weaken}
+use Rattle.accounts.proofs.Basics.{never, all-from, all-weaken}
 use Rattle.accounts.proofs.EffectLaws.{two-times}
 use Rattle.accounts.proofs.InstanceTurns.{admitted-is}
 use Rattle.accounts.proofs.InstanceSound.{SoundInstance, Handled, Other, Distinct, SoundInstances, instance-sound, losses-sound, stays-sound, admit-sound}
@@ -48,7 +54,8 @@ use Rattle.accounts.proofs.SheetLaws.{SheetFits, used-time}
 use Rattle.accounts.proofs.Sound.{ok-state, fits-state}
 use Rattle.accounts.proofs.Steps.{admit-cases, Sim, advanced, passed, roomy, turned}
 use Rattle.accounts.proofs.TurnLaws.{lookup, Within, within-rises, any-lookup}
-use Rattle.accounts.proofs.WriterSound.{SoundWriter, ok-writer, fits-writer, SoundWriters, all-plain, tracker-sound}
+use Rattle.accounts.proofs.WriterTurns.{SoundWriter}
+use Rattle.accounts.proofs.WriterSound.{ok-writer, fits-writer, SoundWriters, all-plain, tracker-sound}
 
 pub record InStep (places : ℕ) (st : State) (acc : Accounts) : Type 0 where
   pub sim : Sim st acc
@@ -77,11 +84,11 @@ accepted-sheet c s st e =
     let f = passed (not (kindOk c s)) 7 _ refl (d .1) in
     let g = passed (not (acknowledgeOk c s st)) 8 0 refl (f .1) in
     record {
-      times = contrary (all nanosecondsOk (timesUsed c s)) (a .0);
-      clocks = contrary (all clockOk (clocksUsed c s)) (b .0);
-      holder = used-fits (holderUsed c s) (s .holder .len) (contrary (holderFits c s) (d .0));
-      kind = contrary (kindOk c s) (f .0);
-      acknowledged = contrary (acknowledgeOk c s st) (g .0);
+      times = not-false (all nanosecondsOk (timesUsed c s)) (a .0);
+      clocks = not-false (all clockOk (clocksUsed c s)) (b .0);
+      holder = used-fits (holderUsed c s) (s .holder .len) (not-false (holderFits c s) (d .0));
+      kind = not-false (kindOk c s) (f .0);
+      acknowledged = not-false (acknowledgeOk c s st) (g .0);
     }
 
 -- ---- instance calls
@@ -276,6 +283,21 @@ held-fits places st acc m =
       fewWriters = m .writers .few;
       lost = m .writers .lost;
       fewLost = m .writers .fewLost;
+    }
+
+-- the buffers of a state that fits have their lengths
+pub record Sizes (places : ℕ) (l : Lent) : Type 0 where
+  pub pens : length (l .pens) ≡ places * 512
+  pub writers : length (l .writers) ≡ 5120
+  pub lost : length (l .lost) ≡ 4096
+
+pub laid-sizes : (places : ℕ) (st : State) (out : List ℕ) → Fitting places st → Sizes places (layOut places st out)
+unfolding layOut
+laid-sizes places st out f =
+    record {
+      pens = length-lay instanceBytes 512 FitsInstance length-instance (places * 512) (st .instances) (f .instances) (mul-le-mul-right 512 (f .fewInstances));
+      writers = length-lay writerBytes 40 FitsWriter (λ w q. length-writer w) 5120 (st .writers) (f .writers) (omega (arith, f .fewWriters));
+      lost = length-lay guidBytes 16 FitsGuid (λ g q. length-guid g) 4096 (st .lost) (f .lost) (omega (arith, f .fewLost));
     }
 
 -- ---- the fresh state

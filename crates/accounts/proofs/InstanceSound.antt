@@ -3,7 +3,6 @@
 --     admit-sound        admit with outcome 0
 --     losses-sound       codes 49 to 51
 --     stays-sound        a call that leaves the instances
--- Assumes nothing.
 use mathlib.Core.Bool.{Bool, true, false}
 use mathlib.Core.List.{List, [], _∷_}
 use mathlib.Core.Logic.{_≢_}
@@ -202,12 +201,12 @@ module _ (places : ℕ) (c : InstanceCall) (s : Sheet) (st : State) (en : Entry 
   fresh : Instance
   fresh = started (s .key) (allocated (st .nextHandle) .handle .0)
 
-  begun-all : (P : Instance → Type 0) → P fresh → All P (st .instances) → All P (begun c s st)
+  begun-either : (P : List Instance → Type 0) → (begins c s st ≡ true → P (put instanceKey fresh (st .instances))) → P (st .instances) → P (begun c s st)
   unfolding begun fresh
-  begun-all P p a =
-      either (All P) (begins c s st)
-      (put instanceKey (started (s .key) (allocated (st .nextHandle) .handle .0)) (st .instances)) (st .instances)
-      (λ e. all-put instanceKey P (started (s .key) (allocated (st .nextHandle) .handle .0)) (st .instances) p a) (λ e. a)
+  begun-either P p q = either P (begins c s st) _ _ p (λ e. q)
+
+  begun-all : (P : Instance → Type 0) → (begins c s st ≡ true → P fresh) → All P (st .instances) → All P (begun c s st)
+  begun-all P p a = begun-either (All P) (λ e. all-put instanceKey P fresh (st .instances) (p e) a) a
 
   fresh-handle : fresh .handle .0 ≡ st .nextHandle
   unfolding fresh started allocated
@@ -257,47 +256,24 @@ module _ (places : ℕ) (c : InstanceCall) (s : Sheet) (st : State) (en : Entry 
   bit-at b e = rw e
 
   begun-below : All (Handled (st .nextHandle + bit (begins c s st))) (begun c s st)
-  unfolding begun
   begun-below =
-      either (All (Handled (st .nextHandle + bit (begins c s st)))) (begins c s st)
-      (put instanceKey (started (s .key) (allocated (st .nextHandle) .handle .0)) (st .instances)) (st .instances)
-      (λ e. all-put instanceKey (Handled (st .nextHandle + bit (begins c s st)))
-      (started (s .key) (allocated (st .nextHandle) .handle .0)) (st .instances)
-      (new e) (below-more (st .nextHandle) (begins c s st) (st .instances) (m .below)))
-      (λ e. below-more (st .nextHandle) (begins c s st) (st .instances) (m .below))
-    where
-      new : begins c s st ≡ true →
-          Handled (st .nextHandle + bit (begins c s st)) (started (s .key) (allocated (st .nextHandle) .handle .0))
-      new e =
-          let h : started (s .key)
-          (allocated (st .nextHandle) .handle .0) .handle .0 ≡ st .nextHandle = unfold fresh in fresh-handle in
-          (omega (arith, m .low), omega (arith, bit-at (begins c s st) e))
+      begun-all (Handled (st .nextHandle + bit (begins c s st)))
+      (λ e. (omega (arith, fresh-handle, m .low), omega (arith, fresh-handle, bit-at (begins c s st) e)))
+      (below-more (st .nextHandle) (begins c s st) (st .instances) (m .below))
 
   begun-distinct : Distinct (begun c s st)
-  unfolding begun
   begun-distinct =
-      either Distinct (begins c s st)
-      (put instanceKey (started (s .key) (allocated (st .nextHandle) .handle .0)) (st .instances)) (st .instances)
-      (λ e.
-      let h : started (s .key)
-      (allocated (st .nextHandle) .handle .0) .handle .0 ≡ st .nextHandle = unfold fresh in fresh-handle in
-      distinct-put (started (s .key) (allocated (st .nextHandle) .handle .0)) (st .instances)
-      (rw h (below-other (st .nextHandle) (st .instances) (m .below))) (m .distinct))
-      (λ e. m .distinct)
+      begun-either Distinct
+      (λ e. distinct-put fresh (st .instances) (rw fresh-handle (below-other (st .nextHandle) (st .instances) (m .below))) (m .distinct)) (m .distinct)
+
+  fresh-key : instanceKey fresh ≡ num (s .key)
+  unfolding fresh started
+  fresh-key = refl
 
   begun-few : length (begun c s st) ≤ places
-  unfolding begun started
   begun-few =
-      either (λ (xs : List Instance). length xs ≤ places) (begins c s st)
-      (put instanceKey (started (s .key) (allocated (st .nextHandle) .handle .0)) (st .instances)) (st .instances)
-      (λ e.
-      rw (
-        length-put instanceKey 0 bound (started (s .key) (allocated (st .nextHandle) .handle .0))
-            (st .instances) w,
-        begins-absent c s st e .1,
-      )
-      (omega (arith, en .place e)))
-      (λ e. m .few)
+      begun-either (λ (xs : List Instance). length xs ≤ places)
+      (λ e. rw (length-put instanceKey 0 bound fresh (st .instances) w, fresh-key, begins-absent c s st e .1) (omega (arith, en .place e))) (m .few)
 
   pub instance-sound : SoundInstances places (instanceTurn c s st .state)
   unfolding instanceTurn instancesAfter
@@ -307,7 +283,7 @@ module _ (places : ℕ) (c : InstanceCall) (s : Sheet) (st : State) (en : Entry 
         high = rw next-at (high (begins c s st) refl);
         few = omega (arith, length-sift (acts c s) (begun c s st), begun-few);
         each = all-sift Ready SoundInstance (acts c s) (begun c s st) acts-sound
-            (begun-all Ready (fresh-sound, fresh-room) (pair-up (st .instances) (m .each) rooms));
+            (begun-all Ready (λ e. (fresh-sound, fresh-room)) (pair-up (st .instances) (m .each) rooms));
         below =
             rw next-at
             (all-sift (Handled (st .nextHandle + bit (begins c s st))) (Handled (st .nextHandle + bit (begins c s st)))

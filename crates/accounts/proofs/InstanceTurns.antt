@@ -1,12 +1,13 @@
 -- The instances' half of demand 3: a call turns the table of instances as section 6 moves each account.
+--     told-silent        a call that may start none answers no handle
 --     turned-at          what is found at a key after a call is the account's step of what was found there
 --     instance-heard     an instance call keeps table and accounts in step
 --     limit-heard        so does one that is stopped at its limit
 --     stopped-heard      so does admit with outcomes 1 to 4
 --     admit-heard        so does admit with outcome 0
+--     handle-there, handle-new      the handle that it answers
 --     loss-heard         so do codes 49 to 51
 --     tracker-heard      a tracker call leaves the instances' accounts as they are
--- Assumes nothing.
 use mathlib.Core.Bool.{Bool, true, false, not, _&&_, cond}
 use mathlib.Core.List.{List, [], _∷_, _++_, append-nil}
 use mathlib.Core.Option.{Option, none, some}
@@ -99,19 +100,18 @@ reach-is : (c : InstanceCall) (s : Sheet) (x : Instance) → reaches c s x ≡ r
 reach-is c s x = read c .way s x
 
 -- a call that may start an instance reaches by key
+starting : (r : Reach) (s : Sheet) → startsBy r ≡ true → reachesBy r s ≡ hasKey (s .key)
+starting byKey s e = refl
+starting startingByKey s e = refl
+starting startingWithin s e = refl
+starting byHandle s e = never (sym e)
+starting every s e = never (sym e)
+
 starting-reach : (r : Reach) (s : Sheet) (x : Instance) → startsBy r ≡ true → reachesBy r s x ≡ hasKey (s .key) x
-starting-reach byKey s x e = refl
-starting-reach startingByKey s x e = refl
-starting-reach startingWithin s x e = refl
-starting-reach byHandle s x e = never (sym e)
-starting-reach every s x e = never (sym e)
+starting-reach r s x e = ap (λ (p : Instance → Bool). p x) (starting r s e)
 
 starting-find : (r : Reach) (s : Sheet) (xs : List Instance) → startsBy r ≡ true → find (reachesBy r s) xs ≡ lookup instanceKey (num (s .key)) xs
-starting-find byKey s xs e = refl
-starting-find startingByKey s xs e = refl
-starting-find startingWithin s xs e = refl
-starting-find byHandle s xs e = never (sym e)
-starting-find every s xs e = never (sym e)
+starting-find r s xs e = ap (λ (p : Instance → Bool). find p xs) (starting r s e)
 
 starting-one : (r : Reach) → startsBy r ≡ true → isEvery r ≡ false
 starting-one byKey e = refl
@@ -223,6 +223,16 @@ acted-handle c s e none = refl
 acted-handle c s e (some x) =
     split (reaches c s x) (λ r. rw r (kept-handle x (effect c s (x .state)) (lasting c s (x .state) e))) (λ r. rw r)
 
+-- a call that may start none answers no handle
+pub told-silent : (c : InstanceCall) (s : Sheet) (before after : List Instance) → startsBy (rule c .reach) ≡ false → told c s before after .handle .0 ≡ 0
+told-silent c s before after e =
+    let none : hands (rule c .says) ≡ false = read c .handed ∙ e in
+    split (onEvery c)
+    (λ d. ap (λ (a : Answer). a .handle .0) (told-every c s before after d) ∙ report-handle (rule c .reports) s before)
+    (λ d. ap (λ (a : Answer). a .handle .0) (told-one c s before after d)
+    ∙ answer-handle (rule c .says) s (reached c s before) (reached c s after) (λ h. never (sym h ∙ none))
+    ∙ ap (λ (b : Bool). cond b (handleIn (reached c s before)) 0) none)
+
 module _ (c : InstanceCall) (s : Sheet) (before : List Instance) (w : Within instanceKey 0 bound before) where
   abbrev after : List Instance
   after = sift (acts c s) before
@@ -243,20 +253,13 @@ module _ (c : InstanceCall) (s : Sheet) (before : List Instance) (w : Within ins
 
   told-handle : told c s before after .handle .0
       ≡ cond (startsBy (rule c .reach)) (handleIn (lookup instanceKey (num (s .key)) before)) 0
-  told-handle = split (startsBy (rule c .reach)) (λ e. starting e) (λ e. idle e)
+  told-handle = split (startsBy (rule c .reach)) (λ e. starting e) (λ e. rw e (told-silent c s before after e))
     where
       starting : startsBy (rule c .reach) ≡ true →
           told c s before after .handle .0 ≡ cond (startsBy (rule c .reach)) (handleIn (lookup instanceKey (num (s .key)) before)) 0
       starting e =
           ap (λ (a : Answer). a .handle .0) (told-one c s before after (starting-one (rule c .reach) e)) ∙ answer-is
           ∙ ap (λ (o : Option Instance). cond (startsBy (rule c .reach)) (handleIn o) 0) (starting-find (rule c .reach) s before e)
-
-      idle : startsBy (rule c .reach) ≡ false →
-          told c s before after .handle .0 ≡ cond (startsBy (rule c .reach)) (handleIn (lookup instanceKey (num (s .key)) before)) 0
-      idle e =
-          split (onEvery c)
-          (λ d. rw e (ap (λ (a : Answer). a .handle .0) (told-every c s before after d) ∙ report-handle (rule c .reports) s before))
-          (λ d. rw e (ap (λ (a : Answer). a .handle .0) (told-one c s before after d) ∙ (rw e at answer-is)))
 
 -- a call that may start an instance, at its own key or not
 abbrev pub eventBy : Sheet → ℕ → ℕ → Event
@@ -619,71 +622,110 @@ noted s st = instanceTurn noteAdmitted s (observed s st) .state
 pub admitted-is : (s : Sheet) (st : State) → admitted s st .state ≡ tried s (noted s st)
 admitted-is s st = admitted-state s st ∙ ap (tried s) (unfold sampled in refl)
 
-pub admit-heard : (st : State) (acc : InstanceAccounts) (s : Sheet) (gone : List Guid) → FitsGuid (s .key) →
-    (lookup instanceKey (num (s .key)) (st .instances) ≡ none → st .nextHandle < 2 ^ 63) → InstanceSim st acc →
-    InstanceSim (admitted s st .state)
-    (S.reach (some (joined admit)) (eventBy s (admitted s st .answer .handle .0) 0) gone acc)
-admit-heard st acc s gone fits room m =
-    rw (admitted-is s st, admitted-handle s st) (same-accounts (tried s (noted s st)) acc4 _ points starts m4)
-  where
-    h1 : ℕ
-    h1 = instanceTurn acceptUnderExclusiveOwnership s st .answer .handle .0
+module _ (s : Sheet) (st : State) (acc : InstanceAccounts) (fits : FitsGuid (s .key)) (m : InstanceSim st acc)
+    (room : lookup instanceKey (num (s .key)) (st .instances) ≡ none → st .nextHandle < 2 ^ 63) where
+  abbrev k : ℕ
+  k = num (s .key)
 
-    h2 : ℕ
-    h2 = instanceTurn observeAdmitted s (tried s st) .answer .handle .0
+  abbrev h1 : ℕ
+  h1 = instanceTurn acceptUnderExclusiveOwnership s st .answer .handle .0
 
-    h3 : ℕ
-    h3 = instanceTurn noteAdmitted s (observed s st) .answer .handle .0
+  abbrev h2 : ℕ
+  h2 = instanceTurn observeAdmitted s (tried s st) .answer .handle .0
 
-    acc1 : InstanceAccounts
-    acc1 = S.reach (some (instances acceptUnderExclusiveOwnership)) (eventBy s h1 0) [] acc
+  abbrev acc1 : InstanceAccounts
+  acc1 = S.reach (some (instances acceptUnderExclusiveOwnership)) (eventBy s h1 0) [] acc
 
-    acc2 : InstanceAccounts
-    acc2 = S.reach (some (instances observeAdmitted)) (eventBy s h2 0) [] acc1
+  abbrev acc2 : InstanceAccounts
+  acc2 = S.reach (some (instances observeAdmitted)) (eventBy s h2 0) [] acc1
 
-    h4 : ℕ
-    h4 = instanceTurn acceptUnderExclusiveOwnership s (noted s st) .answer .handle .0
+  m1 : InstanceSim (tried s st) acc1
+  m1 = instance-heard st acc acceptUnderExclusiveOwnership s [] 0 fits (λ e. never (sym e)) m
 
-    acc3 : InstanceAccounts
-    acc3 = S.reach (some (instances noteAdmitted)) (eventBy s h3 0) [] acc2
+  room1 : begins observeAdmitted s (tried s st) ≡ true → tried s st .nextHandle < 2 ^ 63
+  room1 e =
+      rw (tried-next s st)
+      (room (m .agree k ∙ tried-none s k h1 (acc .at k) (tried-silent s st)
+      (sym (m1 .agree k) ∙ begins-absent observeAdmitted s (tried s st) e .1)))
 
-    acc4 : InstanceAccounts
-    acc4 = S.reach (some (instances acceptUnderExclusiveOwnership)) (eventBy s h4 0) [] acc3
+  m2 : InstanceSim (observed s st) acc2
+  m2 = instance-heard (tried s st) acc1 observeAdmitted s [] 0 fits room1 m1
 
-    m1 : InstanceSim (tried s st) acc1
-    m1 = instance-heard st acc acceptUnderExclusiveOwnership s [] 0 fits (λ e. never (sym e)) m
+  pub admit-heard : (gone : List Guid) →
+      InstanceSim (admitted s st .state) (S.reach (some (joined admit)) (eventBy s (admitted s st .answer .handle .0) 0) gone acc)
+  admit-heard gone =
+      rw (admitted-is s st, admitted-handle s st) (same-accounts (tried s (noted s st)) acc4 _ points starts m4)
+    where
+      h3 : ℕ
+      h3 = instanceTurn noteAdmitted s (observed s st) .answer .handle .0
 
-    room1 : begins observeAdmitted s (tried s st) ≡ true → tried s st .nextHandle < 2 ^ 63
-    room1 e =
-        rw (tried-next s st)
-        (room (m .agree (num (s .key))
-        ∙ tried-none s (num (s .key)) h1 (acc .at (num (s .key))) (tried-silent s st)
-        (sym (m1 .agree (num (s .key))) ∙ begins-absent observeAdmitted s (tried s st) e .1)))
+      h4 : ℕ
+      h4 = instanceTurn acceptUnderExclusiveOwnership s (noted s st) .answer .handle .0
 
-    m2 : InstanceSim (observed s st) acc2
-    m2 = instance-heard (tried s st) acc1 observeAdmitted s [] 0 fits room1 m1
+      acc3 : InstanceAccounts
+      acc3 = S.reach (some (instances noteAdmitted)) (eventBy s h3 0) [] acc2
 
-    m3 : InstanceSim (noted s st) acc3
-    m3 = instance-heard (observed s st) acc2 noteAdmitted s [] 0 fits (λ e. never (sym e)) m2
+      acc4 : InstanceAccounts
+      acc4 = S.reach (some (instances acceptUnderExclusiveOwnership)) (eventBy s h4 0) [] acc3
 
-    m4 : InstanceSim (tried s (noted s st)) acc4
-    m4 = instance-heard (noted s st) acc3 acceptUnderExclusiveOwnership s [] 0 fits (λ e. never (sym e)) m3
+      m3 : InstanceSim (noted s st) acc3
+      m3 = instance-heard (observed s st) acc2 noteAdmitted s [] 0 fits (λ e. never (sym e)) m2
 
-    points : (j : ℕ) → acc4 .at j ≡ onInstance (joined admit) (eventBy s h2 0) gone j (acc .at j)
-    points j =
-        admit-steps s gone j h2 h1 h3 h4 (acc .at j) (tried-silent s st) (noted-silent s (observed s st)) (tried-silent s (noted s st))
+      m4 : InstanceSim (tried s (noted s st)) acc4
+      m4 = instance-heard (noted s st) acc3 acceptUnderExclusiveOwnership s [] 0 fits (λ e. never (sym e)) m3
 
-    starts : acc4 .handles ≡ acc .handles ++ startsAt (eventBy s h2 0) (acc .at (num (s .key)))
-    starts =
-        rw (
-          silent-starts s h4 (acc3 .at (num (s .key))) (tried-silent s (noted s st)),
-          append-nil (acc3 .handles),
-          silent-starts s h3 (acc2 .at (num (s .key))) (noted-silent s (observed s st)),
-          append-nil (acc2 .handles),
-          silent-starts s h1 (acc .at (num (s .key))) (tried-silent s st),
-          append-nil (acc .handles),
-        ) (ap (λ (l : List ℕ). acc .handles ++ l)
-        (tried-starts s (num (s .key)) h2 h1 (acc .at (num (s .key))) (tried-silent s st)))
+      points : (j : ℕ) → acc4 .at j ≡ onInstance (joined admit) (eventBy s h2 0) gone j (acc .at j)
+      points j =
+          admit-steps s gone j h2 h1 h3 h4 (acc .at j) (tried-silent s st) (noted-silent s (observed s st)) (tried-silent s (noted s st))
+
+      starts : acc4 .handles ≡ acc .handles ++ startsAt (eventBy s h2 0) (acc .at k)
+      starts =
+          rw (
+            silent-starts s h4 (acc3 .at k) (tried-silent s (noted s st)),
+            append-nil (acc3 .handles),
+            silent-starts s h3 (acc2 .at k) (noted-silent s (observed s st)),
+            append-nil (acc2 .handles),
+            silent-starts s h1 (acc .at k) (tried-silent s st),
+            append-nil (acc .handles),
+          ) (ap (λ (l : List ℕ). acc .handles ++ l) (tried-starts s k h2 h1 (acc .at k) (tried-silent s st)))
+
+  -- the handle answered is that of the instance found
+  answered-found : h2 ≡ handleIn (acc2 .at k)
+  answered-found = found ∙ ap handleIn (m2 .agree k)
+    where
+      found : h2 ≡ handleIn (lookup instanceKey k (observed s st .instances))
+      found = unfold instanceTurn in samples-answer (lookup instanceKey k (instancesAfter observeAdmitted s (tried s st)))
+
+  tried-there : (x : Instance) → acc .at k ≡ some x →
+      handleIn (onInstance (instances observeAdmitted) (eventBy s h2 0) [] k
+      (onInstance (instances acceptUnderExclusiveOwnership) (eventBy s h1 0) [] k (acc .at k))) ≡ x .handle .0
+  tried-there x e = rw e (split (eqb k k) (λ d. rw (d, d)) (λ d. rw (d, d)))
+
+  pub handle-there : (x : Instance) → acc .at k ≡ some x → h2 ≡ x .handle .0
+  handle-there x e = answered-found ∙ tried-there x e
+
+  unknown : acc .at k ≡ none → known s (tried s st) ≡ false
+  unknown e = known-is s (tried s st) ∙ ap isSome (m1 .agree k ∙ gone)
+    where
+      gone : acc1 .at k ≡ none
+      gone = rw (e, tried-silent s st) (split (eqb k k) (λ d. rw d) (λ d. rw d))
+
+  more : acc .at k ≡ none → observed s st .nextHandle ≡ tried s st .nextHandle + 1
+  more e =
+      unfold instanceTurn in
+      next-is observeAdmitted s (tried s st) (omega (arith, m1 .next)) room1
+      ∙ ap (λ (b : Bool). tried s st .nextHandle + bit (not b)) (unknown e)
+
+  pub handle-new : acc .at k ≡ none → eqb h2 0 ≡ false
+  handle-new e =
+      split (eqb h2 0)
+      (λ d.
+      let z : h2 ≡ 0 = eqb-true h2 0 d in
+      let n : length (acc2 .handles) ≡ length (acc1 .handles) + length (startsAt (eventBy s h2 0) (acc1 .at k)) =
+      length-append (acc1 .handles) (startsAt (eventBy s h2 0) (acc1 .at k)) in
+      let q : length (startsAt (eventBy s h2 0) (acc1 .at k)) ≡ 0 = ap length (silent-starts s h2 (acc1 .at k) z) in
+      absurd (omega (arith, n, q, more e, m2 .next, m1 .next)))
+      (λ d. d)
 
 -- ---- codes 49 to 51
 

@@ -5,7 +5,6 @@
 --     numbered-num, renumbered      GUIDs are those of their numbers
 --     num-below            a GUID's number is below the bound
 --     up-more              one more number at the end
--- Assumes nothing.
 use mathlib.Core.Bool.{Bool, cond}
 use mathlib.Core.List.{List, [], _∷_, _++_, map}
 use mathlib.Core.Path.{_≡_, refl, ap, _∙_}

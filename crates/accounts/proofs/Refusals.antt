@@ -6,21 +6,15 @@
 --     nothing-else       it is 0, 8 in code 40 alone, or 9 to 13
 --     never-3            no call of a list is refused by 3
 --     ..-32, ..-128      each with 32 places, and with 128
--- Assumes nothing.
 use mathlib.Core.Bool.{Bool, true, false, not, _&&_, _||_, cond}
 use mathlib.Core.List.{List, [], _∷_}
 use mathlib.Core.Option.{Option, none, some}
 use mathlib.Core.Path.{_≡_, refl, sym, ap, _∙_, subst}
 use Prim.Native.Nat.{ℕ, _*_}
-use native.Mathlib.Nat.{mul-le-mul-right}
-use native.Mathlib.Omega.{arith}
 use borrow.Author.Tests.{eqb-true, eqb-false, eq-eqb}
 use lib.Dec.{eqb, leb}
 use lib.ListN.{length}
-use mir.Syntax.{w32}
-use mir.Val.{toZ}
 use Rattle.octets.specs.Bounds.{Bytes}
-use Rattle.octets.proofs.LayLaws.{length-lay}
 use Rattle.model.specs.declared.AcknowledgeUse.{AcknowledgeUse}
 use Rattle.model.specs.declared.AcknowledgeUse.the-variants.{Nothing, Whole, Part}
 use Rattle.model.specs.declared.Guid.{Guid}
@@ -30,12 +24,11 @@ use Rattle.model.specs.Call.{Left, turn, settle, judged, coded, callIn, callOf}
 use Rattle.model.specs.declared.InstanceCall.{InstanceCall}
 use Rattle.model.specs.declared.TrackerCall.{TrackerCall}
 use Rattle.model.specs.declared.JoinedCall.{JoinedCall}
-use Rattle.model.specs.declared.TrackerCall.the-variants.{Unmatched as unmatched, LostWithParticipant as lostWithParticipant, Expire as expire, Acknowledge as acknowledge}
+use Rattle.model.specs.declared.TrackerCall.the-variants.{Unmatched as unmatched, LostWithParticipant as lostWithParticipant, Expire as expire}
 use Rattle.model.specs.declared.JoinedCall.the-variants.{Admit as admit, Lapse as lapse, Part as part, Depart as depart}
 use Rattle.model.specs.Calls.{Call, instances, tracker, joined, callOfCode}
-use Rattle.model.specs.Guids.{num, guidBytes}
+use Rattle.model.specs.Guids.{num}
 use Rattle.model.specs.InstanceCalls.{Turned, known, begins, full, spent, crowds, accepted, atLimit, reached, lateRefusal, instanceTurn, instanceCall}
-use Rattle.model.specs.InstanceRecord.{instanceBytes}
 use Rattle.model.specs.Instances.{rule, limitedBy, hasKey}
 use Rattle.model.specs.Joined.{inOrder, passesFilter, sampled, admitted, admitWith, afterLoss, lossCall}
 use Rattle.model.specs.Refusals.{lengthsOk, timesUsed, clocksUsed, holderFits, kindOk, acknowledgeOk, nanosecondsOk, sheetRefusal}
@@ -43,44 +36,33 @@ use Rattle.model.specs.Sheets.{sheetOf}
 use Rattle.model.specs.State.{Lent, State, figureOk, instanceKey, layOut}
 use Rattle.model.specs.Tables.{all, isSome, find}
 use Rattle.model.specs.WellFormed.{clockOk}
-use Rattle.model.specs.WriterRecord.{writerBytes}
 use Rattle.model.specs.Writers.{movers, trackerLate, trackerRule, acknowledgeableWith, noPlace, appends, tooMany}
 use Rattle.model.proofs.CallLaws.{told-accepts}
-use Rattle.model.proofs.Fits.{FitsGuid, FitsInstance, FitsWriter}
-use Rattle.model.proofs.GuidLaws.{length-guid}
-use Rattle.model.proofs.InstanceLaws.{length-instance}
 use Rattle.model.proofs.StateLaws.{Fitting, read-back}
 use Rattle.model.proofs.TrackerLaws.{late-number}
-use Rattle.model.proofs.WriterLaws.{length-writer}
-use Rattle.accounts.specs.Accounts.{Accounts, Lending, withOut}
+use Rattle.accounts.specs.Accounts.{Accounts}
 use Rattle.accounts.specs.Busy.{Ordered, lateNumber, acknowledges, allowed, busyInstance, busyTracker, busyMatch, busyExpire, busyAdmit, busyJoined, busy, inPart, busyAcknowledge, Never3, OnlyBusy, NothingElse}
 use Rattle.model.proofs.Tests.{split}
 use Rattle.accounts.proofs.Basics.{either, never}
-use Rattle.accounts.proofs.Demand3.{formed, out-replaced, After, after-fresh, instances-are, writers-are}
-use Rattle.accounts.proofs.InStep.{InStep, held-fits}
+use Rattle.accounts.proofs.Demand3.{formed, anew, after-fresh, instances-are, writers-are}
+use Rattle.accounts.proofs.InStep.{InStep, laid-sizes, held-fits}
 use Rattle.accounts.proofs.Runs.{told-in, after-in}
 use Rattle.accounts.proofs.SheetLaws.{SheetFits, sheet-fits}
 use Rattle.accounts.proofs.TurnLaws.{any-lookup}
 use Rattle.accounts.proofs.WriterSound.{all-plain}
 use Rattle.accounts.proofs.WriterTurns.{only-expire, expired-are}
 
--- ---- accepted calls answer 0
-
-turn-accepted : (c : InstanceCall) (s : Sheet) (st : State) → instanceTurn c s st .answer .number ≡ 0
-unfolding instanceTurn
-turn-accepted c s st = told-accepts c s _ _
-
 -- ---- the number of a turn, from the state
 
 instance-number : (places : ℕ) (c : InstanceCall) (s : Sheet) (st : State) →
     instanceCall places c s st .answer .number ≡ cond (limitedBy (rule c .reach) && atLimit s st) 0
     (lateRefusal places c s st)
-unfolding instanceCall
+unfolding instanceCall instanceTurn
 instance-number places c s st =
     split (limitedBy (rule c .reach) && atLimit s st)
     (λ l. rw l)
     (λ l. split (eqb (lateRefusal places c s st) 0)
-    (λ e. rw (l, e) (turn-accepted c s st ∙ sym (eqb-true (lateRefusal places c s st) 0 e)))
+    (λ e. rw (l, e) (told-accepts c s _ _ ∙ sym (eqb-true (lateRefusal places c s st) 0 e)))
     (λ e. rw (l, e)))
 
 loss-number : (c : TrackerCall) (gs : List Guid) (s : Sheet) (st : State) →
@@ -198,13 +180,7 @@ laid-lengths : (places : ℕ) (sheet : List ℕ) (st : State) (out : List ℕ) �
     lengthsOk places sheet (layOut places st out) ≡ true
 unfolding lengthsOk layOut
 laid-lengths places sheet st out f n o =
-    let pens = length-lay instanceBytes 512 FitsInstance length-instance (places * 512) (st .instances) (f .instances)
-    (mul-le-mul-right 512 (f .fewInstances)) in
-    let writers = length-lay writerBytes 40 FitsWriter (λ w q. length-writer w) 5120 (st .writers) (f .writers)
-    (omega (arith, f .fewWriters)) in
-    let lost = length-lay guidBytes 16 FitsGuid (λ g q. length-guid g) 4096 (st .lost) (f .lost)
-    (omega (arith, f .fewLost)) in
-    rw (pens, writers, lost, n, o, eq-eqb (places * 512) (places * 512) refl)
+    let s = laid-sizes places st out f in rw (s .pens, s .writers, s .lost, n, o, eq-eqb (places * 512) (places * 512) refl)
 
 settled-number : (places : ℕ) (t : Turned) (l : Lent) → settle places t l .answer .number ≡ t .answer .number
 unfolding settle
@@ -229,11 +205,6 @@ call-number places sheet st out acc c n o q m =
     rw (laid-lengths places sheet st out (held-fits places st acc m) n o, q, formed places st out acc m)
     (judged-number places c (sheetOf sheet) st out (held-fits places st acc m))
 
--- what a call is lent after any list
-lent-anew : (places : ℕ) (i : Lending) {l : Lent} {acc : Accounts} (m : After places l acc) →
-    withOut (i .out) l ≡ layOut places (m .state) (i .out)
-lent-anew places i {l} m = ap (withOut (i .out)) (m .laid) ∙ out-replaced places (m .state) (l .out) (i .out)
-
 -- the number of a call on a state in step with the accounts
 pub held-busy : (places : ℕ) (sheet : List ℕ) (st : State) (out : List ℕ) (acc : Accounts) (c : Call) → Bytes sheet → length sheet ≡ 256 →
     length out ≡ 4096 → callOfCode (sheetOf sheet .code) ≡ some c → Ordered c (sheetOf sheet) → InStep places st acc →
@@ -245,7 +216,7 @@ pub only-busy : (places : ℕ) → figureOk places ≡ true → OnlyBusy places 
 only-busy places ok is out i c b bytes n o q d =
     let m = after-fresh places is out b in
     rw (after-in places ok is out i, told-in places ok is out)
-    (ap (λ (l : Lent). callIn places (i .sheet) l .answer .number) (lent-anew places i m)
+    (ap (λ (l : Lent). callIn places (i .sheet) l .answer .number) (anew places (i .out) m)
     ∙ held-busy places (i .sheet) (m .state) (i .out) _ c bytes n o q d (m .held))
 
 pub only-busy-32 : OnlyBusy 32 callOf
@@ -268,34 +239,31 @@ link p b n m e q = either (Passes p) b n m (λ d. record { is = e }) (λ d. q)
 zero-late : Passes lateNumber 0
 zero-late = record { is = refl }
 
-late-link : (b : Bool) (n m : ℕ) → lateNumber n ≡ true → Passes lateNumber m → Passes lateNumber (cond b n m)
-late-link b n m e q = link lateNumber b n m e q
-
 tracker-late : (c : TrackerCall) (s : Sheet) (st : State) → Passes lateNumber (trackerLate c s st)
 tracker-late c s st =
-    late-link (trackerRule c .matches && noPlace s st) 11 _ refl
-    (late-link (appends (trackerRule c .lost) && tooMany (movers c s (st .writers)) st) 12 0 refl zero-late)
+    link lateNumber (trackerRule c .matches && noPlace s st) 11 _ refl
+    (link lateNumber (appends (trackerRule c .lost) && tooMany (movers c s (st .writers)) st) 12 0 refl zero-late)
 
 instance-late : (places : ℕ) (c : InstanceCall) (s : Sheet) (st : State) →
     Passes lateNumber (instanceCall places c s st .answer .number)
 unfolding lateRefusal
 instance-late places c s st =
     subst (Passes lateNumber) (sym (instance-number places c s st))
-    (late-link (limitedBy (rule c .reach) && atLimit s st) 0 _ refl
-    (late-link (begins c s st && full places st) 9 _ refl
-    (late-link (begins c s st && spent st) 13 _ refl
-    (late-link (rule c .«adds_writer» && crowds s (reached c s (st .instances))) 10 0 refl zero-late))))
+    (link lateNumber (limitedBy (rule c .reach) && atLimit s st) 0 _ refl
+    (link lateNumber (begins c s st && full places st) 9 _ refl
+    (link lateNumber (begins c s st && spent st) 13 _ refl
+    (link lateNumber (rule c .«adds_writer» && crowds s (reached c s (st .instances))) 10 0 refl zero-late))))
 
 admit-late : (places : ℕ) (s : Sheet) (st : State) (x : Option Instance) →
     Passes lateNumber (admitWith places s st x .answer .number)
 admit-late places s st x =
     subst (Passes lateNumber) (sym (admit-number places s st x))
-    (late-link (not (inOrder s x)) 0 _ refl
-    (late-link (not (passesFilter s x)) 0 _ refl
-    (late-link (atLimit s st) 0 _ refl
-    (late-link (not (known s st) && full places st) 9 _ refl
-    (late-link (not (known s st) && spent st) 13 _ refl
-    (late-link (crowds s x) 10 0 refl zero-late))))))
+    (link lateNumber (not (inOrder s x)) 0 _ refl
+    (link lateNumber (not (passesFilter s x)) 0 _ refl
+    (link lateNumber (atLimit s st) 0 _ refl
+    (link lateNumber (not (known s st) && full places st) 9 _ refl
+    (link lateNumber (not (known s st) && spent st) 13 _ refl
+    (link lateNumber (crowds s x) 10 0 refl zero-late))))))
 
 loss-late : (c : TrackerCall) (gs : List Guid) (s : Sheet) (st : State) →
     Passes lateNumber (lossCall c gs s st .answer .number)
@@ -353,7 +321,7 @@ never-3 places ok is out i b =
     let m = after-fresh places is out b in
     eqb-false _ 3
     (ap (λ (r : Left). eqb (r .answer .number) 3) (after-in places ok is out i)
-    ∙ ap (λ (l : Lent). eqb (callIn places (i .sheet) l .answer .number) 3) (lent-anew places i m)
+    ∙ ap (λ (l : Lent). eqb (callIn places (i .sheet) l .answer .number) 3) (anew places (i .out) m)
     ∙ call-other places (i .sheet) (m .state) (i .out) _ (m .held))
 
 pub never-3-32 : Never3 32 callOf
@@ -385,7 +353,7 @@ pub nothing-else : (places : ℕ) → figureOk places ≡ true → NothingElse p
 nothing-else places ok is out i c b n o q d =
     let m = after-fresh places is out b in
     ap (λ (r : Left). allowed c (r .answer .number)) (after-in places ok is out i)
-    ∙ ap (λ (l : Lent). allowed c (callIn places (i .sheet) l .answer .number)) (lent-anew places i m)
+    ∙ ap (λ (l : Lent). allowed c (callIn places (i .sheet) l .answer .number)) (anew places (i .out) m)
     ∙ ap (allowed c) (call-number places (i .sheet) (m .state) (i .out) _ c n o q (m .held))
     ∙ judged-allowed places c (sheetOf (i .sheet)) (m .state) d
 

@@ -2,7 +2,6 @@
 -- both figures.
 --     left-in, told-in     from the fresh state: what a list leaves, and what the accounts are fed
 --     after-in             the call after it
--- Assumes nothing.
 use Prim.Native.Nat.{ℕ}
 use mathlib.Core.Bool.{true}
 use mathlib.Core.List.{List, [], _∷_}

@@ -2,7 +2,6 @@
 --     sheet-fits             every field fits
 --     taken-time, used-time, absent-time     times that go to a record
 --     taken-holder           the holder
--- Assumes nothing.
 use mathlib.Core.Bool.{true}
 use mathlib.Core.List.{List, [], _∷_, _++_}
 use mathlib.Core.Path.{_≡_, refl, ap, _∙_}

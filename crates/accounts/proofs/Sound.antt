@@ -1,7 +1,6 @@
 -- A sound value fits its bytes and is well formed; as plain facts, group by group.
 --     ok-state, fits-state       a sound instance passes section 2's test and fits
 --     set-members, set-without, set-with      sets of writers
--- Assumes nothing.
 use mathlib.Core.Bool.{true, false, not, _&&_}
 use mathlib.Core.List.{List, [], _∷_}
 use mathlib.Core.Path.{_≡_, refl, sym, ap, _∙_, subst}
@@ -100,7 +99,7 @@ unfolding all num
 nils-are zero = refl
 nils-are (suc n) = nils-are n
 
-nils-fit : (n : ℕ) → All FitsGuid (replicate n nil)
+pub nils-fit : (n : ℕ) → All FitsGuid (replicate n nil)
 nils-fit zero = tt
 nils-fit (suc n) = (record { high = omega arith; low = omega arith }, nils-fit n)
 
@@ -189,7 +188,7 @@ unfolding has find
 has-lookup g [] = refl
 has-lookup g (x ∷ xs) = split (eqb (num x) (num g)) (λ e. rw e) (λ e. rw e (has-lookup g xs))
 
-remove-within : (lo hi : ℕ) (g : Guid) (xs : List Guid) → Within num lo hi xs → Within num lo hi (remove g xs)
+pub remove-within : (lo hi : ℕ) (g : Guid) (xs : List Guid) → Within num lo hi xs → Within num lo hi (remove g xs)
 unfolding remove
 remove-within lo hi g [] w = tt
 remove-within lo hi g (x ∷ xs) w =

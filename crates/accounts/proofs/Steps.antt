@@ -3,7 +3,6 @@
 --     writers-stay       an instance call leaves the writers' half
 --     admit-cases        the chain of admit
 --     turned             an accepted call
--- Assumes nothing.
 use mathlib.Core.Bool.{Bool, true, false, not, _&&_, cond}
 use mathlib.Core.List.{List, [], _∷_}
 use mathlib.Core.Option.{Option, none, some}
@@ -188,7 +187,7 @@ admit-turned places s st acc x f m =
               (instance-writers _ s _ (acc .writers)
               (instance-writers _ s _ (acc .writers)
               (instance-writers _ s _ (acc .writers) (instance-writers _ s st (acc .writers) (m .writers)))));
-          instances = unfold admitted sampled in admit-heard st (acc .instances) s [] f (handle-free s st e) (m .instances);
+          instances = unfold admitted sampled in admit-heard s st (acc .instances) f (m .instances) (handle-free s st e) [];
         }
 
 -- a tracker call, then codes 7 and 18 for each writer gone

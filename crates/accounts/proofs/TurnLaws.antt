@@ -8,7 +8,6 @@
 --     pick-between       the records that pass a test, by their keys
 --     within-present     a table is what is found in it, in rising order
 --     within-rises       the test that keys rise
--- Assumes nothing.
 use mathlib.Core.Bool.{Bool, true, false, not, cond}
 use mathlib.Core.List.{List, [], _∷_, map}
 use mathlib.Core.Logic.{_≢_}

@@ -2,10 +2,8 @@
 --     ok-writer, fits-writer     a sound writer passes section 2's test and fits
 --     all-plain                  a departed one has only GUID and state
 --     tracker-sound              an accepted tracker call
--- Assumes nothing.
-use mathlib.Core.Bool.{Bool, true, false, not, _&&_, _||_, cond}
-use mathlib.Core.List.{List, [], _∷_}
-use mathlib.Core.Option.{Option, none, some}
+use mathlib.Core.Bool.{Bool, true, false, not, _&&_}
+use mathlib.Core.List.{List}
 use mathlib.Core.Path.{_≡_, refl, sym, ap, subst}
 use Prim.Native.Nat.{ℕ, _+_, _^_, _≤_, _<_}
 use native.Mathlib.Omega.{arith}
@@ -28,30 +26,22 @@ use Rattle.model.specs.declared.MaybeLease.{MaybeLease}
 use Rattle.model.specs.declared.Sheet.{Sheet}
 use Rattle.model.specs.declared.Writer.{Writer}
 use Rattle.model.specs.declared.WriterState.{WriterState}
-use Rattle.model.specs.declared.WriterState.the-variants.{Unasserted, Alive, NotAlive, Departed}
+use Rattle.model.specs.declared.WriterState.the-variants.{Departed}
 use Rattle.model.specs.declared.TrackerCall.{TrackerCall}
-use Rattle.model.specs.declared.TrackerCall.the-variants.{Matched as matched, Unmatched as unmatched, LostWithParticipant as lostWithParticipant, WriterAsserted as writerAsserted, ParticipantAsserted as participantAsserted, Expire as expire, TakeLost as takeLost, TakeStatus as takeStatus, Acknowledge as acknowledge}
 use Rattle.model.specs.Guids.{num}
-use Rattle.model.specs.Refusals.{clocksUsedBy}
 use Rattle.model.specs.State.{State, writerKey, countsAlive, countsNotAlive, aliveCount, notAliveCount}
-use Rattle.model.specs.Tables.{all, isSome, find, put}
-use Rattle.model.specs.WellFormed.{clockOk, leaseOk, isDeparted, onlyState, writerOk, within}
-use Rattle.model.specs.Writers.{trackerRule, Assertion, assertion, tracked, withState, leaseOn, matchedFrom, matchedWriter, covers, renews, asserted, expires, expired, unmatchedFrom, departed, lostAs, hasGuid, writersBegun, writerStep, writerActs, writersAfter, matchAsserts, movers, lostWith, lostAfter, acknowledgedWith, noPlace, appends, tooMany, trackerLate, trackerState, acknowledgeable, acknowledgeableWith}
+use Rattle.model.specs.Tables.{isSome, find, put}
+use Rattle.model.specs.WellFormed.{leaseOk, onlyState, writerOk, within}
+use Rattle.model.specs.Writers.{trackerRule, matchedWriter, departed, hasGuid, writersBegun, writerStep, writersAfter, movers, lostWith, lostAfter, acknowledgedWith, noPlace, appends, tooMany, trackerLate, trackerState, acknowledgeable, acknowledgeableWith}
 use Rattle.model.specs.WriterRecord.{livelinessNumber}
 use Rattle.model.proofs.Fits.{FitsGuid, FitsWriter}
 use Rattle.model.proofs.Tests.{both, split}
 use Rattle.accounts.specs.Ranges.{bound}
 use Rattle.accounts.proofs.Basics.{either, all-weaken, one-more, never}
 use Rattle.accounts.proofs.Steps.{passed, and-false}
-use Rattle.accounts.proofs.TurnLaws.{Within, lookup-all, all-sift, length-put, length-pick}
-use Rattle.model.proofs.TableLaws.{all-put, length-sift}
-use Rattle.accounts.proofs.WriterTurns.{Plain, matched-guid, movers-fit}
-
-pub record SoundWriter (w : Writer) : Type 0 where
-  pub guid : FitsGuid (w .guid)
-  pub lease : leaseOk (w .liveliness .lease) ≡ true
-  pub last : w .liveliness .«last_assertion» < 2 ^ 62
-  pub only : (not (isDeparted (w .liveliness .state)) || onlyState (w .liveliness)) ≡ true
+use Rattle.accounts.proofs.TurnLaws.{Within, all-sift, length-put, length-pick}
+use Rattle.model.proofs.TableLaws.{length-sift}
+use Rattle.accounts.proofs.WriterTurns.{Plain, SoundWriter, ClockFits, matched-guid, acts-sound, begun-sound, movers-fit}
 
 -- ---- sound writers are well formed and fit
 
@@ -70,118 +60,14 @@ pub fits-writer : (w : Writer) → SoundWriter w → FitsWriter w
 fits-writer w m =
     record { guid = m .guid; lease = lease-small (w .liveliness .lease) (m .lease); last = omega (arith, m .last) }
 
--- ---- one writer
-
-pub record ClockFits (c : TrackerCall) (s : Sheet) : Type 0 where
-  pub clocks : all clockOk (clocksUsedBy c s) ≡ true
-  pub guid : FitsGuid (s .guid)
-
-one-clock : (n : ℕ) → all clockOk (n ∷ []) ≡ true → n < 2 ^ 62
-unfolding all
-one-clock n e = ltb-true n (2 ^ 62) (both (clockOk n) true e .0)
-
--- a match's clock, and its lease
-match-clock : (s : Sheet) → all clockOk (clocksUsedBy matched s) ≡ true → (s .a < 2 ^ 62) × (leaseOk (leaseOn s) ≡ true)
-unfolding all leaseOk
-match-clock s e =
-    let p = both (clockOk (s .a)) (all clockOk (cond (s .«lease_present») (s .b ∷ []) [])) e in (
-      ltb-true (s .a) (2 ^ 62) (p .0),
-      split (s .«lease_present») (λ l. rw l (both (clockOk (s .b)) true (rw l at (p .1)) .0)) (λ l. rw l),
-    )
-
-matched-from : (s : Sheet) (st : WriterState) (last : ℕ) → FitsGuid (s .guid) → leaseOk (leaseOn s) ≡ true →
-    last < 2 ^ 62 → SoundWriter (matchedFrom s st last)
-matched-from s Unasserted last g l h = record { guid = g; lease = l; last = h; only = refl }
-matched-from s Alive last g l h = record { guid = g; lease = l; last = h; only = refl }
-matched-from s NotAlive last g l h = record { guid = g; lease = l; last = h; only = refl }
-matched-from s Departed last g l h = record { guid = g; lease = l; last = omega arith; only = refl }
-
-matched-sound : (s : Sheet) (ws : List Writer) → ClockFits matched s → All SoundWriter ws →
-    SoundWriter (matchedWriter s (find (hasGuid (s .guid)) ws))
-matched-sound s ws f a = go (find (hasGuid (s .guid)) ws) refl
-  where
-    go : (o : Option Writer) → find (hasGuid (s .guid)) ws ≡ o → SoundWriter (matchedWriter s o)
-    go none e =
-        record { guid = f .guid; lease = match-clock s (f .clocks) .1; last = match-clock s (f .clocks) .0; only = refl }
-    go (some w) e =
-        matched-from s (w .liveliness .state) (w .liveliness .«last_assertion») (f .guid) (match-clock s (f .clocks) .1)
-        (lookup-all writerKey SoundWriter (num (s .guid)) ws w a e .last)
-
-asserted-sound : (a : Assertion) (w : Writer) → a .clock < 2 ^ 62 → SoundWriter w → SoundWriter (asserted a w)
-unfolding asserted
-asserted-sound a w l m =
-    either SoundWriter (covers a w && renews a w) (withState Alive (a .clock) w) w
-    (λ e. record { guid = m .guid; lease = m .lease; last = l; only = refl })
-    (λ e. m)
-
-expired-sound : (clock : ℕ) (w : Writer) → SoundWriter w → SoundWriter (expired clock w)
-unfolding expired
-expired-sound clock w m =
-    either SoundWriter (expires clock w) (withState NotAlive (w .liveliness .«last_assertion») w) w
-    (λ e. record { guid = m .guid; lease = m .lease; last = m .last; only = refl })
-    (λ e. m)
-
-departed-sound : (g : Guid) → FitsGuid g → SoundWriter (departed g)
-unfolding leaseOk
-departed-sound g f = record { guid = f; lease = refl; last = omega arith; only = refl }
-
-abbrev SoundAfter : Option Writer → Type 0
-SoundAfter none = Unit {0}
-SoundAfter (some w) = SoundWriter w
-
-lost-sound : (st : WriterState) (w : Writer) → SoundWriter w → SoundAfter (lostAs st w)
-lost-sound Unasserted w m = tt
-lost-sound Alive w m = departed-sound (w .guid) (m .guid)
-lost-sound NotAlive w m = departed-sound (w .guid) (m .guid)
-lost-sound Departed w m = departed-sound (w .guid) (m .guid)
-
-unmatched-sound : (w : Writer) → SoundWriter w → SoundAfter (unmatchedFrom w)
-unfolding unmatchedFrom
-unmatched-sound w m = either SoundAfter (tracked w) none (some w) (λ e. tt) (λ e. m)
-
-acts-sound : (c : TrackerCall) (s : Sheet) (b : Bool) (w : Writer) → ClockFits c s → SoundWriter w →
-    SoundAfter (writerActs c s b w)
-acts-sound matched s b w f m =
-    either SoundWriter b (asserted (assertion true false s) w) w
-    (λ e. asserted-sound (assertion true false s) w (match-clock s (f .clocks) .0) m) (λ e. m)
-acts-sound unmatched s b w f m =
-    either SoundAfter (hasGuid (s .guid) w) (unmatchedFrom w) (some w) (λ e. unmatched-sound w m) (λ e. m)
-acts-sound lostWithParticipant s b w f m =
-    either SoundAfter (hasGuid (s .guid) w) (lostAs (w .liveliness .state) w) (some w)
-    (λ e. lost-sound (w .liveliness .state) w m) (λ e. m)
-acts-sound writerAsserted s b w f m = asserted-sound (assertion true true s) w (one-clock (s .a) (f .clocks)) m
-acts-sound participantAsserted s b w f m = asserted-sound (assertion false (s .manual) s) w (one-clock (s .a) (f .clocks)) m
-acts-sound expire s b w f m = expired-sound (s .a) w m
-acts-sound takeLost s b w f m = m
-acts-sound takeStatus s b w f m = m
-acts-sound acknowledge s b w f m = m
-
--- a call that matches uses clock and lease
-leased : (c : TrackerCall) (s : Sheet) → trackerRule c .matches ≡ true → ClockFits c s → ClockFits matched s
-leased matched s e f = f
-leased unmatched s e f = never (sym e)
-leased lostWithParticipant s e f = never (sym e)
-leased writerAsserted s e f = never (sym e)
-leased participantAsserted s e f = never (sym e)
-leased expire s e f = never (sym e)
-leased takeLost s e f = never (sym e)
-leased takeStatus s e f = never (sym e)
-leased acknowledge s e f = never (sym e)
-
-begun-sound : (c : TrackerCall) (s : Sheet) (ws : List Writer) → ClockFits c s → All SoundWriter ws →
-    All SoundWriter (writersBegun c s ws)
-begun-sound c s ws f a =
-    either (All SoundWriter) (trackerRule c .matches) (put writerKey (matchedWriter s (find (hasGuid (s .guid)) ws)) ws) ws
-    (λ e. all-put writerKey SoundWriter (matchedWriter s (find (hasGuid (s .guid)) ws)) ws
-    (matched-sound s ws (leased c s e f) a) a)
-    (λ e. a)
+-- ---- the writers after a call
 
 after-sound : (c : TrackerCall) (s : Sheet) (ws : List Writer) → ClockFits c s → All SoundWriter ws →
     All SoundWriter (writersAfter c s ws)
 unfolding writersAfter
 after-sound c s ws f a =
     all-sift SoundWriter SoundWriter (writerStep c s ws) (writersBegun c s ws)
-    (λ w y m e. subst SoundAfter e (acts-sound c s (matchAsserts s ws) w f m)) (begun-sound c s ws f a)
+    (λ w y m e. acts-sound c s ws w y f m e) (begun-sound c s ws f a)
 
 -- ---- how many
 

@@ -1,78 +1,212 @@
 -- The writers' half of demand 3: a tracker call turns the table of writers as section 6 moves each account.
---     writers-at        what is found at a GUID after a call is the account's step of what was found there
+--     Plain, SoundWriter, ClockFits     what is known of a writer, and of a sheet
+--     Row, row          a call beside section 6's words on one writer: one row of facts for each
+--     acts-sound, begun-sound      a call leaves a sound writer sound, and so does what a match puts in
 --     movers-count      the movers of a call are the GUIDs that changed class, and as many
 --     expired-are       those of an expire are the GUIDs that it expired
 --     alive-are, not-alive-are      both counts
 --     movers-fit        their GUIDs fit
 --     writer-heard      a call that the writers see keeps table and accounts in step
--- Assumes nothing.
 use mathlib.Core.Bool.{Bool, true, false, not, _&&_, _||_, cond}
 use mathlib.Core.List.{List, [], _∷_, map, map-map}
 use mathlib.Core.Option.{Option, none, some}
 use mathlib.Core.Path.{_≡_, refl, sym, ap, _∙_, subst}
-use Prim.Native.Nat.{ℕ, _+_, _%_, _^_}
+use Prim.Native.Nat.{ℕ, _+_, _%_, _^_, _<_}
 use native.Mathlib.Nat.{zero-add, mod-add-mod}
-use borrow.Author.Tests.{eqb-true}
-use lib.Dec.{leb}
-use lib.IntN.{ℤ, pos, _+ℤ_, _-ℤ_, +ℤ-comm, -ℤ-+ℤ-cancel}
 use lib.ListN.{length}
-use mir.Syntax.{w32}
-use mir.Val.{toZ}
 use Rattle.octets.specs.Lay.{All}
 use Rattle.model.specs.declared.Guid.{Guid}
 use Rattle.model.specs.declared.LastWriter.{LastWriter}
-use Rattle.model.specs.declared.LivelinessKind.{LivelinessKind}
-use Rattle.model.specs.declared.LivelinessKind.the-variants.{Automatic, ManualByParticipant, ManualByTopic}
 use Rattle.model.specs.declared.Sheet.{Sheet}
 use Rattle.model.specs.declared.Writer.{Writer}
 use Rattle.model.specs.declared.WriterState.{WriterState}
 use Rattle.model.specs.declared.WriterState.the-variants.{Unasserted, Alive, NotAlive, Departed}
 use Rattle.model.specs.declared.TrackerCall.{TrackerCall}
-use Rattle.model.specs.declared.TrackerCall.the-variants.{Matched as matched, Unmatched as unmatched, LostWithParticipant as lostWithParticipant, WriterAsserted as writerAsserted, ParticipantAsserted as participantAsserted, Expire as expire, TakeLost as takeLost, TakeStatus as takeStatus, Acknowledge as acknowledge}
+use Rattle.model.specs.declared.TrackerCall.the-variants.{Expire as expire, Matched as matched, Unmatched as unmatched, LostWithParticipant as lostWithParticipant, WriterAsserted as writerAsserted, ParticipantAsserted as participantAsserted, TakeLost as takeLost, TakeStatus as takeStatus, Acknowledge as acknowledge}
 use Rattle.model.specs.Guids.{num, prefix}
 use Rattle.model.specs.InstanceRecord.{bit}
 use Rattle.model.specs.State.{State, Class, alive, notAlive, neither, classOf, isAliveClass, isNotAliveClass, writerKey, aliveCount, notAliveCount}
-use Rattle.model.specs.Tables.{find, pick, put}
-use Rattle.model.specs.WriterRecord.{livelinessNumbered}
+use Rattle.model.specs.Tables.{find, pick, all, put}
 use Rattle.model.specs.Writers as M
-use Rattle.model.specs.Writers.{trackerRule, hasGuid, isTracked, covers, coversKind, renews, asserted, assertion, expires, expired, unmatchedFrom, lostAs, matchedWriter, writersBegun, writerStep, sameClass, classAfter, moves, guidIn, movers, lastAfter, lostAfter, acknowledgedAfter, appends, trackerState}
+use Rattle.model.specs.Writers.{trackerRule, hasGuid, matchedWriter, writersBegun, writerStep, sameClass, classAfter, moves, guidIn, movers, lastAfter, trackerState, isTracked, leaseOn, covers, coversKind, renews, asserted, assertion, expires, expired, unmatchedFrom, lostAs, matchedFrom, matchAsserts, writerActs, lostWith, lostAfter, acknowledgedWith, acknowledgedAfter, appends}
 use Rattle.model.proofs.Fits.{FitsGuid}
 use Rattle.accounts.specs.Ranges.{bound, guidNumbered, between, sumOver}
 use Rattle.accounts.specs.WriterAccounts as S
-use Rattle.accounts.specs.WriterAccounts.{trackedIn, became, matches, takingFrom, covered, automatic, byParticipant, timely, runOut, asserts, lapses, leaves, departs, departsFrom, isNamed, isNear, matchedAt, onWriter, Writers, writersAfter, classIn, class, isAlive, isNotAlive, differ, moved, movedAt, expiredAt, expiredIn, aliveAmong, notAliveAmong, WriterAccounts, lastIn, lostBy, acknowledgedBy, changeOf, heardBy}
-use Rattle.accounts.proofs.Basics.{missing, all-weaken, and-assoc, eqb-sym, never, split, either}
+use Rattle.accounts.specs.WriterAccounts.{matches, runOut, lapses, isNamed, Writers, writersAfter, classIn, class, isAlive, isNotAlive, differ, moved, movedAt, expiredAt, expiredIn, aliveAmong, notAliveAmong, WriterAccounts, lastIn, heardBy, trackedIn, became, takingFrom, covered, automatic, byParticipant, timely, asserts, leaves, departs, departsFrom, isNear, matchedAt, onWriter, lostBy, acknowledgedBy, changeOf}
+use Rattle.accounts.proofs.Basics.{all-weaken, either, and-assoc, eqb-sym, never}
 use Rattle.accounts.proofs.RangeLaws.{sum-add, length-between, length-map, last-greatest, num-below, renumbered}
-use Rattle.accounts.proofs.TurnLaws.{lookup-all, bind, test, lookup, Within, Keeps, lookup-key, begin, begunAt, Below, lookup-begin, within-begin, turn-within, turn-at, between-ext, pick-between, all-pick}
+use Rattle.accounts.proofs.TurnLaws.{bind, test, lookup, Within, begin, begunAt, Below, lookup-begin, within-begin, turn-within, turn-at, between-ext, pick-between, all-pick, lookup-all, Keeps, lookup-key}
+use native.Mathlib.Omega.{arith}
+use borrow.Author.Tests.{eqb-true, ltb-true}
+use lib.Dec.{leb}
+use lib.IntN.{ℤ, pos, _+ℤ_, _-ℤ_, +ℤ-comm, -ℤ-+ℤ-cancel}
+use mir.Syntax.{w32}
+use mir.Val.{toZ}
+use Rattle.model.specs.declared.AcknowledgeUse.{AcknowledgeUse}
+use Rattle.model.specs.declared.AcknowledgeUse.the-variants.{Nothing, Whole, Part}
+use Rattle.model.specs.declared.ClockUse.{ClockUse}
+use Rattle.model.specs.declared.ClockUse.the-variants.{NoClock, Clock, ClockAndLease}
+use Rattle.model.specs.declared.LivelinessKind.{LivelinessKind}
+use Rattle.model.specs.declared.LivelinessKind.the-variants.{Automatic, ManualByParticipant, ManualByTopic}
+use Rattle.model.specs.declared.LostUse.{LostUse}
+use Rattle.model.specs.declared.LostUse.the-variants.{Leaves, Appends, Empties}
+use Rattle.model.specs.Refusals.{clocksUsedBy, clocksWith}
+use Rattle.model.specs.WellFormed.{clockOk, leaseOk, isDeparted, onlyState}
+use Rattle.model.specs.WriterRecord.{livelinessNumbered}
+use Rattle.model.proofs.Tests.{both, split}
 use Rattle.model.proofs.TableLaws.{all-put}
 
--- ---- one writer
+-- ---- one writer, by its kind and by its state
 
-kinds-covered : (k : LivelinessKind) (manual : Bool) → coversKind k manual ≡ (automatic k || (byParticipant k && manual))
-kinds-covered Automatic manual = refl
-kinds-covered ManualByParticipant manual = refl
-kinds-covered ManualByTopic manual = refl
+-- both readings of a kind
+by-kind : (k : LivelinessKind) →
+    ((manual : Bool) → coversKind k manual ≡ (automatic k || (byParticipant k && manual))) × (M.isAutomatic k ≡ automatic k)
+by-kind Automatic = (λ manual. refl, refl)
+by-kind ManualByParticipant = (λ manual. refl, refl)
+by-kind ManualByTopic = (λ manual. refl, refl)
 
-states-tracked : (st : WriterState) → isTracked st ≡ trackedIn st
-states-tracked Unasserted = refl
-states-tracked Alive = refl
-states-tracked NotAlive = refl
-states-tracked Departed = refl
+-- both readings of a state, and what a match makes of it
+pub record ByState (st : WriterState) : Type 0 where
+  tracked : isTracked st ≡ trackedIn st
+  notAlive : M.isNotAlive st ≡ S.notAliveIn st
+  alive : M.isAliveState st ≡ S.aliveIn st
+  pub same : classOf st ≡ classIn st
+  taken : (s : Sheet) (last : ℕ) → matchedFrom s st last ≡ takingFrom s st last
+  guid : (s : Sheet) (last : ℕ) → matchedFrom s st last .guid ≡ s .guid
+  pub unmoved : (s : Sheet) (last : ℕ) → class (some (takingFrom s st last)) ≡ classIn st
 
-states-not-alive : (st : WriterState) → M.isNotAlive st ≡ S.notAliveIn st
-states-not-alive Unasserted = refl
-states-not-alive Alive = refl
-states-not-alive NotAlive = refl
-states-not-alive Departed = refl
-
-states-alive : (st : WriterState) → M.isAliveState st ≡ S.aliveIn st
-states-alive Unasserted = refl
-states-alive Alive = refl
-states-alive NotAlive = refl
-states-alive Departed = refl
+pub by-state : (st : WriterState) → ByState st
+by-state Unasserted = record { tracked = refl; notAlive = refl; alive = refl; same = refl; taken = λ s l. refl; guid = λ s l. refl; unmoved = λ s l. refl }
+by-state Alive = record { tracked = refl; notAlive = refl; alive = refl; same = refl; taken = λ s l. refl; guid = λ s l. refl; unmoved = λ s l. refl }
+by-state NotAlive = record { tracked = refl; notAlive = refl; alive = refl; same = refl; taken = λ s l. refl; guid = λ s l. refl; unmoved = λ s l. refl }
+by-state Departed = record { tracked = refl; notAlive = refl; alive = refl; same = refl; taken = λ s l. refl; guid = λ s l. refl; unmoved = λ s l. refl }
 
 some-cond : (b : Bool) (x y : Writer) → some (cond b x y) ≡ cond b (some x) (some y)
 some-cond true x y = refl
 some-cond false x y = refl
+
+cond-same : (b : Bool) (o : Option Writer) → cond b o o ≡ o
+cond-same true o = refl
+cond-same false o = refl
+
+-- a writer whose GUID fits, and that has only GUID and state where it is departed
+pub record Plain (w : Writer) : Type 0 where
+  pub guid : FitsGuid (w .guid)
+  pub bare : w .liveliness .state ≡ Departed → w ≡ M.departed (w .guid)
+
+pub record SoundWriter (w : Writer) : Type 0 where
+  pub guid : FitsGuid (w .guid)
+  pub lease : leaseOk (w .liveliness .lease) ≡ true
+  pub last : w .liveliness .«last_assertion» < 2 ^ 62
+  pub only : (not (isDeparted (w .liveliness .state)) || onlyState (w .liveliness)) ≡ true
+
+pub record ClockFits (c : TrackerCall) (s : Sheet) : Type 0 where
+  pub clocks : all clockOk (clocksUsedBy c s) ≡ true
+  pub guid : FitsGuid (s .guid)
+
+one-clock : (n : ℕ) → all clockOk (n ∷ []) ≡ true → n < 2 ^ 62
+unfolding all
+one-clock n e = ltb-true n (2 ^ 62) (both (clockOk n) true e .0)
+
+-- a match's clock, and its lease
+match-clock : (s : Sheet) → all clockOk (clocksUsedBy matched s) ≡ true → (s .a < 2 ^ 62) × (leaseOk (leaseOn s) ≡ true)
+unfolding all leaseOk
+match-clock s e =
+    let p = both (clockOk (s .a)) (all clockOk (cond (s .«lease_present») (s .b ∷ []) [])) e in (
+      ltb-true (s .a) (2 ^ 62) (p .0),
+      split (s .«lease_present») (λ l. rw l (both (clockOk (s .b)) true (rw l at (p .1)) .0)) (λ l. rw l),
+    )
+
+-- ---- the writer that a match puts in
+
+matched-is : (s : Sheet) (o : Option Writer) → matchedWriter s o ≡ matches s o
+matched-is s none = refl
+matched-is s (some w) = by-state (w .liveliness .state) .taken s (w .liveliness .«last_assertion»)
+
+pub matched-guid : (s : Sheet) (o : Option Writer) → matchedWriter s o .guid ≡ s .guid
+matched-guid s none = refl
+matched-guid s (some w) = by-state (w .liveliness .state) .guid s (w .liveliness .«last_assertion»)
+
+untracked-is : (o : Option Writer) → M.untracked o ≡ not (S.tracked o)
+untracked-is none = refl
+untracked-is (some w) = ap not (by-state (w .liveliness .state) .tracked)
+
+matched-from : (s : Sheet) (st : WriterState) (last : ℕ) → ClockFits matched s → last < 2 ^ 62 → SoundWriter (matchedFrom s st last)
+matched-from s Unasserted last f h = record { guid = f .guid; lease = match-clock s (f .clocks) .1; last = h; only = refl }
+matched-from s Alive last f h = record { guid = f .guid; lease = match-clock s (f .clocks) .1; last = h; only = refl }
+matched-from s NotAlive last f h = record { guid = f .guid; lease = match-clock s (f .clocks) .1; last = h; only = refl }
+matched-from s Departed last f h = record { guid = f .guid; lease = match-clock s (f .clocks) .1; last = omega arith; only = refl }
+
+matched-sound : (s : Sheet) (ws : List Writer) → ClockFits matched s → All SoundWriter ws →
+    SoundWriter (matchedWriter s (find (hasGuid (s .guid)) ws))
+matched-sound s ws f a = go (find (hasGuid (s .guid)) ws) refl
+  where
+    go : (o : Option Writer) → find (hasGuid (s .guid)) ws ≡ o → SoundWriter (matchedWriter s o)
+    go none e = matched-from s Unasserted (s .a) f (match-clock s (f .clocks) .0)
+    go (some w) e =
+        matched-from s (w .liveliness .state) (w .liveliness .«last_assertion») f
+        (lookup-all writerKey SoundWriter (num (s .guid)) ws w a e .last)
+
+-- the record that a match puts in
+abbrev pub start : TrackerCall → Sheet → List Writer → Option Writer
+start c s ws = cond (trackerRule c .matches) (some (matchedWriter s (find (hasGuid (s .guid)) ws))) none
+
+-- what stands at j once a match has put its record in
+pub matched-at : (s : Sheet) (j : ℕ) (ws : List Writer) →
+    begunAt writerKey (start matched s ws) j (lookup writerKey j ws) ≡ matchedAt s j (lookup writerKey j ws)
+matched-at s j ws =
+    rw (ap num (matched-guid s (find (hasGuid (s .guid)) ws)), eqb-sym (num (s .guid)) j)
+    (split (isNamed s j)
+    (λ e. rw (e, eqb-true j (num (s .guid)) e) (ap {B = Option Writer} some (matched-is s (find (hasGuid (s .guid)) ws))))
+    (λ e. rw e))
+
+-- ---- what a call leaves of one writer
+
+-- its GUID; and it is sound still
+record Kept (c : TrackerCall) (s : Sheet) (w y : Writer) : Type 0 where
+  guid : y .guid ≡ w .guid
+  sound : ClockFits c s → SoundWriter w → SoundWriter y
+
+abbrev After : (Writer → Type 0) → Option Writer → Type 0
+After P none = Unit {0}
+After P (some y) = P y
+
+module _ (c : TrackerCall) (s : Sheet) (w : Writer) where
+  stays : Kept c s w w
+  stays = record { guid = refl; sound = λ f m. m }
+
+  departs-kept : Kept c s w (M.departed (w .guid))
+  departs-kept = record { guid = refl; sound = λ f m. unfold leaseOk in record { guid = m .guid; lease = refl; last = omega arith; only = refl } }
+
+  asserted-kept : (named manual : Bool) → (ClockFits c s → s .a < 2 ^ 62) → Kept c s w (asserted (assertion named manual s) w)
+  unfolding asserted
+  asserted-kept named manual clock =
+      either (Kept c s w) (covers (assertion named manual s) w && renews (assertion named manual s) w) (M.withState Alive (s .a) w) w
+      (λ e. record { guid = refl; sound = λ f m. record { guid = m .guid; lease = m .lease; last = clock f; only = refl } })
+      (λ e. stays)
+
+  expired-kept : Kept c s w (expired (s .a) w)
+  unfolding expired
+  expired-kept =
+      either (Kept c s w) (expires (s .a) w) (M.withState NotAlive (w .liveliness .«last_assertion») w) w
+      (λ e. record { guid = refl; sound = λ f m. record { guid = m .guid; lease = m .lease; last = m .last; only = refl } })
+      (λ e. stays)
+
+  unmatched-kept : After (Kept c s w) (unmatchedFrom w)
+  unfolding unmatchedFrom
+  unmatched-kept = either (After (Kept c s w)) (M.tracked w) none (some w) (λ e. tt) (λ e. stays)
+
+  lost-kept : (st : WriterState) → After (Kept c s w) (lostAs st w)
+  lost-kept Unasserted = tt
+  lost-kept Alive = departs-kept
+  lost-kept NotAlive = departs-kept
+  lost-kept Departed = departs-kept
+
+  -- a call on the writer that the sheet names
+  named-kept : (o : Option Writer) → After (Kept c s w) o → After (Kept c s w) (cond (hasGuid (s .guid) w) o (some w))
+  named-kept o k = either (After (Kept c s w)) (hasGuid (s .guid) w) o (some w) (λ e. k) (λ e. stays)
+
+-- ---- section 6's word on it
 
 -- an assertion that names a writer or not
 asserted-is : (named manual : Bool) (s : Sheet) (w : Writer) →
@@ -80,20 +214,21 @@ asserted-is : (named manual : Bool) (s : Sheet) (w : Writer) →
     (isNear s (writerKey w)) manual (s .a) (some w)
 unfolding asserted covers renews asserts prefix
 asserted-is named manual s w =
-    rw (
-      kinds-covered (w .liveliness .kind) manual,
-      states-tracked (w .liveliness .state),
-      states-not-alive (w .liveliness .state),
-    )
+    let of = by-state (w .liveliness .state) in
+    rw (by-kind (w .liveliness .kind) .0 manual, of .tracked, of .notAlive)
     (some-cond
     (covered (named && isNamed s (writerKey w)) (isNear s (writerKey w)) manual (w .liveliness .kind) && timely (s .a) w)
     (became Alive (s .a) w) w)
+
+none-asserts : (named near manual : Bool) (clock : ℕ) → asserts named near manual clock none ≡ none
+unfolding asserts
+none-asserts named near manual clock = refl
 
 expired-is : (clock : ℕ) (w : Writer) → some (expired clock w) ≡ lapses clock (some w)
 unfolding expired expires lapses
 expired-is clock w =
     rw (
-      states-alive (w .liveliness .state),
+      by-state (w .liveliness .state) .alive,
       and-assoc (S.aliveIn (w .liveliness .state)) (w .liveliness .lease .present)
           (leb (w .liveliness .«last_assertion» + w .liveliness .lease .nanos) clock),
     )
@@ -108,11 +243,6 @@ unmatched-is w = go (w .liveliness .state) refl
     go NotAlive e = unfold unmatchedFrom in rw e
     go Departed e = unfold unmatchedFrom in rw e
 
--- a writer whose GUID fits, and that has only GUID and state where it is departed
-pub record Plain (w : Writer) : Type 0 where
-  pub guid : FitsGuid (w .guid)
-  pub bare : w .liveliness .state ≡ Departed → w ≡ M.departed (w .guid)
-
 lost-is : (w : Writer) → Plain w → lostAs (w .liveliness .state) w ≡ departs (some w)
 lost-is w p = go (w .liveliness .state) refl
   where
@@ -122,181 +252,180 @@ lost-is w p = go (w .liveliness .state) refl
     go NotAlive e = refl
     go Departed e = ap {B = Option Writer} some (sym (p .bare e))
 
-matched-from : (s : Sheet) (st : WriterState) (last : ℕ) → M.matchedFrom s st last ≡ takingFrom s st last
-matched-from s Unasserted last = refl
-matched-from s Alive last = refl
-matched-from s NotAlive last = refl
-matched-from s Departed last = refl
+-- what is found at a GUID once the call has acted is section 6's of what was found there
+abbrev pub At : TrackerCall → Type 0
+At c =
+    (s : Sheet) (ws : List Writer) (j : ℕ) → All Plain ws →
+    bind (writerStep c s ws) (begunAt writerKey (start c s ws) j (lookup writerKey j ws))
+    ≡ onWriter c s (lookup writerKey (num (s .guid)) ws) j (lookup writerKey j ws)
 
-matched-is : (s : Sheet) (o : Option Writer) → matchedWriter s o ≡ matches s o
-matched-is s none = refl
-matched-is s (some w) = matched-from s (w .liveliness .state) (w .liveliness .«last_assertion»)
+matching : At matched
+matching s ws j plain =
+    rw (matched-at s j ws)
+    (go (matchAsserts s ws) (matchedAt s j (lookup writerKey j ws)) found
+    ∙ rw (by-kind (livelinessNumbered (s .kind)) .1, untracked-is (find (hasGuid (s .guid)) ws)))
+  where
+    found : (w : Writer) → matchedAt s j (lookup writerKey j ws) ≡ some w → writerKey w ≡ j
+    found w e =
+        split (isNamed s j)
+        (λ d.
+        let q : some (matches s (lookup writerKey j ws)) ≡ some w = rw d at e in
+        let p : matches s (lookup writerKey j ws) ≡ w = cc in
+        ap writerKey (sym p ∙ sym (matched-is s (lookup writerKey j ws))) ∙ ap num (matched-guid s (lookup writerKey j ws))
+        ∙ sym (eqb-true j (num (s .guid)) d))
+        (λ d. lookup-key writerKey j ws w (rw d at e))
 
-untracked-is : (o : Option Writer) → M.untracked o ≡ not (S.tracked o)
-untracked-is none = refl
-untracked-is (some w) = ap not (states-tracked (w .liveliness .state))
+    go : (b : Bool) (o : Option Writer) → ((w : Writer) → o ≡ some w → writerKey w ≡ j) →
+        bind (λ w. some (cond b (asserted (assertion true false s) w) w)) o
+        ≡ cond b (asserts (isNamed s j) (isNear s j) false (s .a) o) o
+    go true none f = sym (none-asserts (isNamed s j) (isNear s j) false (s .a))
+    go false none f = refl
+    go true (some w) f = rw (← f w refl) (asserted-is true false s w)
+    go false (some w) f = refl
 
-automatic-is : (k : LivelinessKind) → M.isAutomatic k ≡ automatic k
-automatic-is Automatic = refl
-automatic-is ManualByParticipant = refl
-automatic-is ManualByTopic = refl
+-- ---- the row of a call
 
--- ---- what a call does at one GUID
+abbrev Leaving : TrackerCall → Type 0
+Leaving c = (s : Sheet) (b : Bool) (w : Writer) → After (Kept c s w) (writerActs c s b w)
 
--- the record that a match puts in
-abbrev pub start : TrackerCall → Sheet → List Writer → Option Writer
-start c s ws = cond (trackerRule c .matches) (some (matchedWriter s (find (hasGuid (s .guid)) ws))) none
+abbrev LostAs : TrackerCall → Type 0
+LostAs c = (gone lost : List Guid) → lostBy c gone lost ≡ lostWith (trackerRule c .lost) gone lost
+
+-- what section 6 acknowledges, by the use of it
+abbrev told : AcknowledgeUse → ℤ → ℤ → ℤ → ℤ
+told Nothing part change z = z
+told Whole part change z = z +ℤ change
+told Part part change z = z +ℤ part
+
+abbrev AcknowledgedAs : TrackerCall → Type 0
+AcknowledgedAs c = (part change z : ℤ) → acknowledgedBy c part change z ≡ told (trackerRule c .acknowledges) part change z
+
+abbrev leases : ClockUse → Bool
+leases NoClock = false
+leases Clock = false
+leases ClockAndLease = true
+
+-- what the call leaves of a writer, what is found at a GUID, and section 6's reading of the columns: a call that matches uses clock and lease
+record Row (c : TrackerCall) : Type 0 where
+  left : Leaving c
+  at : At c
+  columns : ((not (trackerRule c .matches) || leases (trackerRule c .clocks)) ≡ true) × LostAs c × AcknowledgedAs c
+  expiring : appends (trackerRule c .lost) ≡ true → c ≡ expire
+
+-- of a call that puts nothing in: it acts on what is there, and leaves what is not
+acting : (c : TrackerCall) → trackerRule c .matches ≡ false → LostAs c → AcknowledgedAs c → (appends (trackerRule c .lost) ≡ true → c ≡ expire) → Leaving c →
+    ((s : Sheet) (own : Option Writer) (j : ℕ) → onWriter c s own j none ≡ none) →
+    ((s : Sheet) (b : Bool) (own : Option Writer) (w : Writer) → Plain w → writerActs c s b w ≡ onWriter c s own (writerKey w) (some w)) → Row c
+acting c e lost acknowledged expiring left absent there = record { left = left; at = at; columns = (rw e, lost, acknowledged); expiring = expiring }
+  where
+    at : At c
+    at s ws j plain = rw e (go (lookup writerKey j ws) refl)
+      where
+        own : Option Writer
+        own = lookup writerKey (num (s .guid)) ws
+
+        go : (o : Option Writer) → lookup writerKey j ws ≡ o → bind (writerStep c s ws) o ≡ onWriter c s own j o
+        go none q = sym (absent s own j)
+        go (some w) q = rw (← lookup-key writerKey j ws w q) (there s (matchAsserts s ws) own w (lookup-all writerKey Plain j ws w plain q))
+
+row : (c : TrackerCall) → Row c
+row matched =
+    record {
+      left = λ s b w. either (Kept matched s w) b (asserted (assertion true false s) w) w
+          (λ e. asserted-kept matched s w true false (λ f. match-clock s (f .clocks) .0)) (λ e. stays matched s w);
+      at = matching;
+      columns = (refl, λ gone lost. refl, λ part change z. refl);
+      expiring = λ e. never (sym e);
+    }
+row unmatched =
+    acting unmatched refl (λ gone lost. refl) (λ part change z. refl) (λ e. never (sym e)) (λ s b w. named-kept unmatched s w _ (unmatched-kept unmatched s w))
+    (λ s own j. cond-same (isNamed s j) none) (λ s b own w p. rw (unmatched-is w))
+row lostWithParticipant =
+    acting lostWithParticipant refl (λ gone lost. refl) (λ part change z. refl) (λ e. never (sym e))
+    (λ s b w. named-kept lostWithParticipant s w _ (lost-kept lostWithParticipant s w (w .liveliness .state)))
+    (λ s own j. cond-same (isNamed s j) none) (λ s b own w p. rw (lost-is w p))
+row writerAsserted =
+    acting writerAsserted refl (λ gone lost. refl) (λ part change z. refl) (λ e. never (sym e))
+    (λ s b w. asserted-kept writerAsserted s w true true (λ f. one-clock (s .a) (f .clocks)))
+    (λ s own j. none-asserts (isNamed s j) (isNear s j) true (s .a)) (λ s b own w p. asserted-is true true s w)
+row participantAsserted =
+    acting participantAsserted refl (λ gone lost. refl) (λ part change z. refl) (λ e. never (sym e))
+    (λ s b w. asserted-kept participantAsserted s w false (s .manual) (λ f. one-clock (s .a) (f .clocks)))
+    (λ s own j. none-asserts false (isNear s j) (s .manual) (s .a)) (λ s b own w p. asserted-is false (s .manual) s w)
+row expire =
+    acting expire refl (λ gone lost. refl) (λ part change z. refl) (λ e. refl) (λ s b w. expired-kept expire s w)
+    (λ s own j. unfold lapses in refl) (λ s b own w p. expired-is (s .a) w)
+row takeLost =
+    acting takeLost refl (λ gone lost. refl) (λ part change z. refl) (λ e. never (sym e)) (λ s b w. stays takeLost s w) (λ s own j. refl) (λ s b own w p. refl)
+row takeStatus =
+    acting takeStatus refl (λ gone lost. refl) (λ part change z. refl) (λ e. never (sym e)) (λ s b w. stays takeStatus s w) (λ s own j. refl) (λ s b own w p. refl)
+row acknowledge =
+    acting acknowledge refl (λ gone lost. refl) (λ part change z. refl) (λ e. never (sym e)) (λ s b w. stays acknowledge s w) (λ s own j. refl) (λ s b own w p. refl)
+
+-- ---- what follows of every call
+
+module _ (c : TrackerCall) where
+  pub writers-at : At c
+  writers-at = row c .at
+
+  -- one call alone puts those that it expires into Lost
+  pub only-expire : appends (trackerRule c .lost) ≡ true → c ≡ expire
+  only-expire = row c .expiring
+
+  pub step-keeps : (s : Sheet) (ws : List Writer) → Keeps writerKey (writerStep c s ws)
+  step-keeps s ws w y e =
+      let k : Kept c s w y = subst (After (Kept c s w)) e (row c .left s (matchAsserts s ws) w) in ap num (k .guid)
+
+  pub acts-sound : (s : Sheet) (ws : List Writer) (w y : Writer) → ClockFits c s → SoundWriter w → writerStep c s ws w ≡ some y → SoundWriter y
+  acts-sound s ws w y f m e =
+      let k : Kept c s w y = subst (After (Kept c s w)) e (row c .left s (matchAsserts s ws) w) in k .sound f m
+
+  -- what holds of the writers and of what a match puts in
+  pub begun-all : (P : Writer → Type 0) (s : Sheet) (ws : List Writer) → (trackerRule c .matches ≡ true → P (matchedWriter s (find (hasGuid (s .guid)) ws))) →
+      All P ws → All P (writersBegun c s ws)
+  begun-all P s ws p a =
+      either (All P) (trackerRule c .matches) (put writerKey (matchedWriter s (find (hasGuid (s .guid)) ws)) ws) ws
+      (λ e. all-put writerKey P (matchedWriter s (find (hasGuid (s .guid)) ws)) ws (p e) a) (λ e. a)
+
+  leased : (s : Sheet) → trackerRule c .matches ≡ true → ClockFits c s → ClockFits matched s
+  leased s e f = record { clocks = go (trackerRule c .clocks) (rw e at (row c .columns .0)) (f .clocks); guid = f .guid }
+    where
+      go : (u : ClockUse) → leases u ≡ true → all clockOk (clocksWith u s) ≡ true → all clockOk (clocksWith ClockAndLease s) ≡ true
+      go NoClock e q = never (sym e)
+      go Clock e q = never (sym e)
+      go ClockAndLease e q = q
+
+  pub begun-sound : (s : Sheet) (ws : List Writer) → ClockFits c s → All SoundWriter ws → All SoundWriter (writersBegun c s ws)
+  begun-sound s ws f a = begun-all SoundWriter s ws (λ e. matched-sound s ws (leased s e f) a) a
+
+  pub lost-are : (gone gone′ lost lost′ : List Guid) → (c ≡ expire → gone ≡ gone′) → lost ≡ lost′ → lostAfter c gone lost ≡ lostBy c gone′ lost′
+  lost-are gone gone′ lost lost′ e d = go (trackerRule c .lost) (λ a. e (only-expire a)) ∙ sym (row c .columns .1 gone′ lost′)
+    where
+      go : (u : LostUse) → (appends u ≡ true → gone ≡ gone′) → lostWith u gone lost ≡ lostWith u gone′ lost′
+      go Leaves e = d
+      go Appends e = rw (e refl, d)
+      go Empties e = refl
+
+  pub acknowledged-are : (n m part : ℕ) (y z : ℤ) → n ≡ m → y ≡ z →
+      acknowledgedAfter c n part y ≡ acknowledgedBy c (toZ w32 part) (changeOf m z) z
+  acknowledged-are n m part y z e d = go (trackerRule c .acknowledges) ∙ sym (row c .columns .2 (toZ w32 part) (changeOf m z) z)
+    where
+      go : (u : AcknowledgeUse) → acknowledgedWith u n part y ≡ told u (toZ w32 part) (changeOf m z) z
+      go Nothing = d
+      go Whole = ap pos e ∙ sym (+ℤ-comm z (pos m -ℤ z) ∙ -ℤ-+ℤ-cancel (pos m) z)
+      go Part = ap (λ (x : ℤ). x +ℤ toZ w32 part) d
+
+-- ---- the turn
 
 pub begun-is : (c : TrackerCall) (s : Sheet) (ws : List Writer) → writersBegun c s ws ≡ begin writerKey (start c s ws) ws
 begun-is c s ws = split (trackerRule c .matches) (λ e. rw e) (λ e. rw e)
-
-pub matched-guid : (s : Sheet) (o : Option Writer) → matchedWriter s o .guid ≡ s .guid
-matched-guid s none = refl
-matched-guid s (some w) = go (w .liveliness .state)
-  where
-    go : (st : WriterState) → M.matchedFrom s st (w .liveliness .«last_assertion») .guid ≡ s .guid
-    go Unasserted = refl
-    go Alive = refl
-    go NotAlive = refl
-    go Departed = refl
 
 start-below : (c : TrackerCall) (s : Sheet) (ws : List Writer) → FitsGuid (s .guid) → Below writerKey bound (start c s ws)
 start-below c s ws f =
     either (Below writerKey bound) (trackerRule c .matches) (some (matchedWriter s (find (hasGuid (s .guid)) ws))) none
     (λ e. rw (matched-guid s (find (hasGuid (s .guid)) ws)) (num-below (s .guid) f)) (λ e. tt)
 
-asserted-key : (a : M.Assertion) (w : Writer) → asserted a w .guid ≡ w .guid
-unfolding asserted
-asserted-key a w = split (covers a w && renews a w) (λ e. rw e) (λ e. rw e)
-
-expired-key : (clock : ℕ) (w : Writer) → expired clock w .guid ≡ w .guid
-unfolding expired
-expired-key clock w = split (expires clock w) (λ e. rw e) (λ e. rw e)
-
--- a writer that stays has its GUID
-kept-guid : (v w y : Writer) → v .guid ≡ w .guid → some v ≡ some y → writerKey y ≡ writerKey w
-kept-guid v w y e q = let p : v ≡ y = cc in ap writerKey (sym p) ∙ ap num e
-
-step-keeps : (c : TrackerCall) (s : Sheet) (ws : List Writer) → Keeps writerKey (writerStep c s ws)
-step-keeps matched s ws w y e = go (M.matchAsserts s ws) e
-  where
-    go : (b : Bool) → some (cond b (asserted (assertion true false s) w) w) ≡ some y → writerKey y ≡ writerKey w
-    go true q = kept-guid (asserted (assertion true false s) w) w y (asserted-key (assertion true false s) w) q
-    go false q = kept-guid w w y refl q
-step-keeps unmatched s ws w y e = unmatch-keeps
-  where
-    unmatch-keeps : writerKey y ≡ writerKey w
-    unmatch-keeps =
-        unfold unmatchedFrom in split (hasGuid (s .guid) w)
-        (λ d. split (M.tracked w)
-        (λ t. let q : none ≡ some y = rw (d, t) at e in missing q)
-        (λ t. kept-guid w w y refl (rw (d, t) at e)))
-        (λ d. kept-guid w w y refl (rw d at e))
-step-keeps lostWithParticipant s ws w y e =
-    split (hasGuid (s .guid) w) (λ d. go (w .liveliness .state) (rw d at e)) (λ d. kept-guid w w y refl (rw d at e))
-  where
-    go : (st : WriterState) → lostAs st w ≡ some y → writerKey y ≡ writerKey w
-    go Unasserted q = missing q
-    go Alive q = kept-guid (M.departed (w .guid)) w y refl q
-    go NotAlive q = kept-guid (M.departed (w .guid)) w y refl q
-    go Departed q = kept-guid (M.departed (w .guid)) w y refl q
-step-keeps writerAsserted s ws w y e =
-    kept-guid (asserted (assertion true true s) w) w y (asserted-key (assertion true true s) w) e
-step-keeps participantAsserted s ws w y e =
-    kept-guid (asserted (assertion false (s .manual) s) w) w y (asserted-key (assertion false (s .manual) s) w) e
-step-keeps expire s ws w y e = kept-guid (expired (s .a) w) w y (expired-key (s .a) w) e
-step-keeps takeLost s ws w y e = kept-guid w w y refl e
-step-keeps takeStatus s ws w y e = kept-guid w w y refl e
-step-keeps acknowledge s ws w y e = kept-guid w w y refl e
-
--- o is what is found at j
-abbrev Found : ℕ → Option Writer → Type 0
-Found j o = (w : Writer) → o ≡ some w → writerKey w ≡ j
-
-matched-acts : (b : Bool) (s : Sheet) (j : ℕ) (o : Option Writer) → Found j o →
-    bind (λ w. some (cond b (asserted (assertion true false s) w) w)) o
-    ≡ cond b (asserts (isNamed s j) (isNear s j) false (s .a) o) o
-unfolding asserts
-matched-acts true s j none f = refl
-matched-acts false s j none f = refl
-matched-acts true s j (some w) f = rw (← f w refl) (asserted-is true false s w)
-matched-acts false s j (some w) f = refl
-
-bind-some : (o : Option Writer) → bind (λ w. some w) o ≡ o
-bind-some none = refl
-bind-some (some w) = refl
-
--- what stands at j once a match has put its record in
-matched-at : (s : Sheet) (j : ℕ) (ws : List Writer) →
-    begunAt writerKey (start matched s ws) j (lookup writerKey j ws) ≡ matchedAt s j (lookup writerKey j ws)
-matched-at s j ws =
-    rw (ap num (matched-guid s (find (hasGuid (s .guid)) ws)), eqb-sym (num (s .guid)) j)
-    (split (isNamed s j)
-    (λ e. rw (e, eqb-true j (num (s .guid)) e) (ap {B = Option Writer} some (matched-is s (find (hasGuid (s .guid)) ws))))
-    (λ e. rw e))
-
-matched-found : (s : Sheet) (j : ℕ) (o : Option Writer) → Found j o → Found j (matchedAt s j o)
-matched-found s j o f w e =
-    split (isNamed s j)
-    (λ d.
-    let q : some (matches s o) ≡ some w = rw d at e in
-    let p : matches s o ≡ w = cc in
-    ap writerKey (sym p) ∙ ap writerKey (sym (matched-is s o)) ∙ ap num (matched-guid s o) ∙ sym
-    (eqb-true j (num (s .guid)) d))
-    (λ d. f w (rw d at e))
-
-named-at : (s : Sheet) (j : ℕ) (f g : Writer → Option Writer) (h : Option Writer → Option Writer) (o : Option Writer) →
-    Found j o →
-    ((w : Writer) → f w ≡ cond (hasGuid (s .guid) w) (g w) (some w)) → h none ≡ none →
-    ((w : Writer) → o ≡ some w → g w ≡ h (some w)) →
-    bind f o ≡ cond (isNamed s j) (h o) o
-named-at s j f g h none found e n d = split (isNamed s j) (λ t. rw t (sym n)) (λ t. rw t)
-named-at s j f g h (some w) found e n d = e w ∙ rw (found w refl, d w refl)
-
-writers-at : (c : TrackerCall) (s : Sheet) (ws : List Writer) (j : ℕ) → All Plain ws →
-    bind (writerStep c s ws) (begunAt writerKey (start c s ws) j (lookup writerKey j ws))
-    ≡ onWriter c s (lookup writerKey (num (s .guid)) ws) j (lookup writerKey j ws)
-writers-at matched s ws j plain =
-    let found : Found j (matchedAt s j (lookup writerKey j ws)) = matched-found s j (lookup writerKey j ws)
-    (lookup-key writerKey j ws) in
-    rw (matched-at s j ws)
-    (matched-acts (M.matchAsserts s ws) s j (matchedAt s j (lookup writerKey j ws)) found
-    ∙ rw (automatic-is (livelinessNumbered (s .kind)), untracked-is (find (hasGuid (s .guid)) ws)))
-writers-at unmatched s ws j plain =
-    named-at s j (writerStep unmatched s ws) unmatchedFrom leaves (lookup writerKey j ws) (lookup-key writerKey j ws)
-    (λ w. refl) refl (λ w e. unmatched-is w)
-writers-at lostWithParticipant s ws j plain =
-    named-at s j (writerStep lostWithParticipant s ws) (λ w. lostAs (w .liveliness .state) w) departs
-    (lookup writerKey j ws)
-    (lookup-key writerKey j ws) (λ w. refl) refl (λ w e. lost-is w (lookup-all writerKey Plain j ws w plain e))
-writers-at writerAsserted s ws j plain = go (lookup writerKey j ws) (lookup-key writerKey j ws)
-  where
-    go : (o : Option Writer) → Found j o →
-        bind (writerStep writerAsserted s ws) o ≡ asserts (isNamed s j) (isNear s j) true (s .a) o
-    go none f = unfold asserts in refl
-    go (some w) f = rw (← f w refl) (asserted-is true true s w)
-writers-at participantAsserted s ws j plain = go (lookup writerKey j ws) (lookup-key writerKey j ws)
-  where
-    go : (o : Option Writer) → Found j o →
-        bind (writerStep participantAsserted s ws) o ≡ asserts false (isNear s j) (s .manual) (s .a) o
-    go none f = unfold asserts in refl
-    go (some w) f = rw (← f w refl) (asserted-is false (s .manual) s w)
-writers-at expire s ws j plain = go (lookup writerKey j ws)
-  where
-    go : (o : Option Writer) → bind (writerStep expire s ws) o ≡ lapses (s .a) o
-    go none = unfold lapses in refl
-    go (some w) = expired-is (s .a) w
-writers-at takeLost s ws j plain = bind-some (lookup writerKey j ws)
-writers-at takeStatus s ws j plain = bind-some (lookup writerKey j ws)
-writers-at acknowledge s ws j plain = bind-some (lookup writerKey j ws)
-
 -- ---- classes
-
-states-class : (st : WriterState) → classOf st ≡ classIn st
-states-class Unasserted = refl
-states-class Alive = refl
-states-class NotAlive = refl
-states-class Departed = refl
 
 classes-differ : (a b : Class) → not (sameClass a b) ≡ differ a b
 classes-differ alive alive = refl
@@ -311,24 +440,18 @@ classes-differ neither neither = refl
 
 after-class : (o : Option Writer) → classAfter o ≡ class o
 after-class none = refl
-after-class (some w) = states-class (w .liveliness .state)
+after-class (some w) = by-state (w .liveliness .state) .same
 
 moves-are : (f : Writer → Option Writer) (o : Option Writer) → test (moves f) o ≡ moved o (bind f o)
 moves-are f none = refl
 moves-are f (some w) =
     classes-differ (classOf (w .liveliness .state)) (classAfter (f w)) ∙ rw
-    (states-class (w .liveliness .state), after-class (f w))
+    (by-state (w .liveliness .state) .same, after-class (f w))
 
 -- the put moves nobody
-taking-class : (s : Sheet) (st : WriterState) (last : ℕ) → class (some (takingFrom s st last)) ≡ classIn st
-taking-class s Unasserted last = refl
-taking-class s Alive last = refl
-taking-class s NotAlive last = refl
-taking-class s Departed last = refl
-
 matches-class : (s : Sheet) (o : Option Writer) → class (some (matches s o)) ≡ class o
 matches-class s none = refl
-matches-class s (some w) = taking-class s (w .liveliness .state) (w .liveliness .«last_assertion»)
+matches-class s (some w) = by-state (w .liveliness .state) .unmoved s (w .liveliness .«last_assertion»)
 
 quiet : (c : TrackerCall) (s : Sheet) (ws : List Writer) (j : ℕ) →
     class (begunAt writerKey (start c s ws) j (lookup writerKey j ws)) ≡ class (lookup writerKey j ws)
@@ -359,21 +482,13 @@ guids-fit : (ws : List Writer) → All FitGuid ws → All FitsGuid (map guidIn w
 guids-fit [] f = tt
 guids-fit (w ∷ ws) f = (f .0, guids-fit ws (f .1))
 
-begun-fit : (c : TrackerCall) (s : Sheet) (ws : List Writer) → FitsGuid (s .guid) → All FitGuid ws →
-    All FitGuid (writersBegun c s ws)
-begun-fit c s ws g f =
-    either (All FitGuid) (trackerRule c .matches) (put writerKey (matchedWriter s (find (hasGuid (s .guid)) ws)) ws) ws
-    (λ e. all-put writerKey FitGuid (matchedWriter s (find (hasGuid (s .guid)) ws)) ws
-    (rw (matched-guid s (find (hasGuid (s .guid)) ws)) g) f)
-    (λ e. f)
-
 pub movers-fit : (c : TrackerCall) (s : Sheet) (ws : List Writer) → FitsGuid (s .guid) → All Plain ws →
     All FitsGuid (movers c s ws)
 unfolding movers
 movers-fit c s ws g f =
     guids-fit (pick (moves (writerStep c s ws)) (writersBegun c s ws))
     (all-pick FitGuid (moves (writerStep c s ws)) (writersBegun c s ws)
-    (begun-fit c s ws g (all-weaken Plain FitGuid (λ w p. p .guid) ws f)))
+    (begun-all c FitGuid s ws (λ e. rw (matched-guid s (find (hasGuid (s .guid)) ws)) g) (all-weaken Plain FitGuid (λ w p. p .guid) ws f)))
 
 module _ (c : TrackerCall) (s : Sheet) (ws : List Writer) (acc : Writers) (fits : FitsGuid (s .guid))
     (plain : All Plain ws) (rises : Within writerKey 0 bound ws) (agree : (j : ℕ) → lookup writerKey j ws ≡ acc j) where
@@ -452,18 +567,6 @@ lapsed-is clock (some w) =
     unmoved notAlive = refl
     unmoved neither = refl
 
--- and that call alone puts those into Lost
-pub only-expire : (c : TrackerCall) → appends (trackerRule c .lost) ≡ true → c ≡ expire
-only-expire matched e = never (sym e)
-only-expire unmatched e = never (sym e)
-only-expire lostWithParticipant e = never (sym e)
-only-expire writerAsserted e = never (sym e)
-only-expire participantAsserted e = never (sym e)
-only-expire expire e = refl
-only-expire takeLost e = never (sym e)
-only-expire takeStatus e = never (sym e)
-only-expire acknowledge e = never (sym e)
-
 pub expired-are : (s : Sheet) (ws : List Writer) (acc : Writers) → FitsGuid (s .guid) → All Plain ws →
     Within writerKey 0 bound ws → ((j : ℕ) → lookup writerKey j ws ≡ acc j) →
     movers expire s ws ≡ expiredIn acc (writersAfter expire s acc)
@@ -476,15 +579,10 @@ expired-are s ws acc f plain rises agree =
 
 -- ---- both counts
 
-alive-class : (c : Class) → isAliveClass c ≡ isAlive c
-alive-class alive = refl
-alive-class notAlive = refl
-alive-class neither = refl
-
-not-alive-class : (c : Class) → isNotAliveClass c ≡ isNotAlive c
-not-alive-class alive = refl
-not-alive-class notAlive = refl
-not-alive-class neither = refl
+class-tests : (c : Class) → (isAliveClass c ≡ isAlive c) × (isNotAliveClass c ≡ isNotAlive c)
+class-tests alive = (refl, refl)
+class-tests notAlive = (refl, refl)
+class-tests neither = (refl, refl)
 
 module _ (ws : List Writer) (acc : Writers) (rises : Within writerKey 0 bound ws)
     (agree : (j : ℕ) → lookup writerKey j ws ≡ acc j) where
@@ -501,44 +599,17 @@ module _ (ws : List Writer) (acc : Writers) (rises : Within writerKey 0 bound ws
     where
       one : (o : Option Writer) → test (λ w. p (classOf (w .liveliness .state))) o ≡ q (class o)
       one none = sym n ∙ e neither
-      one (some w) = e (classOf (w .liveliness .state)) ∙ ap q (states-class (w .liveliness .state))
+      one (some w) = e (classOf (w .liveliness .state)) ∙ ap q (by-state (w .liveliness .state) .same)
 
   pub alive-are : aliveCount ws ≡ aliveAmong acc
   unfolding aliveCount aliveAmong
-  alive-are = counted isAliveClass isAlive alive-class refl
+  alive-are = counted isAliveClass isAlive (λ c. class-tests c .0) refl
 
   pub not-alive-are : notAliveCount ws ≡ notAliveAmong acc
   unfolding notAliveCount notAliveAmong
-  not-alive-are = counted isNotAliveClass isNotAlive not-alive-class refl
+  not-alive-are = counted isNotAliveClass isNotAlive (λ c. class-tests c .1) refl
 
 -- ---- a call that the writers see
-
-whole : (n : ℕ) (z : ℤ) → pos n ≡ z +ℤ (pos n -ℤ z)
-whole n z = sym (+ℤ-comm z (pos n -ℤ z) ∙ -ℤ-+ℤ-cancel (pos n) z)
-
-acknowledged-are : (c : TrackerCall) (n m part : ℕ) (y z : ℤ) → n ≡ m → y ≡ z →
-    acknowledgedAfter c n part y ≡ acknowledgedBy c (toZ w32 part) (changeOf m z) z
-acknowledged-are matched n m part y z e d = d
-acknowledged-are unmatched n m part y z e d = d
-acknowledged-are lostWithParticipant n m part y z e d = d
-acknowledged-are writerAsserted n m part y z e d = d
-acknowledged-are participantAsserted n m part y z e d = d
-acknowledged-are expire n m part y z e d = d
-acknowledged-are takeLost n m part y z e d = d
-acknowledged-are takeStatus n m part y z e d = ap pos e ∙ whole m z
-acknowledged-are acknowledge n m part y z e d = ap (λ (x : ℤ). x +ℤ toZ w32 part) d
-
-lost-are : (c : TrackerCall) (gone gone′ lost lost′ : List Guid) → (c ≡ expire → gone ≡ gone′) → lost ≡ lost′ →
-    lostAfter c gone lost ≡ lostBy c gone′ lost′
-lost-are matched gone gone′ lost lost′ e d = d
-lost-are unmatched gone gone′ lost lost′ e d = d
-lost-are lostWithParticipant gone gone′ lost lost′ e d = d
-lost-are writerAsserted gone gone′ lost lost′ e d = d
-lost-are participantAsserted gone gone′ lost lost′ e d = d
-lost-are expire gone gone′ lost lost′ e d = rw (e refl, d)
-lost-are takeLost gone gone′ lost lost′ e d = refl
-lost-are takeStatus gone gone′ lost lost′ e d = d
-lost-are acknowledge gone gone′ lost lost′ e d = d
 
 pub writer-heard : (c : TrackerCall) (s : Sheet) (st : State) (acc : WriterAccounts) → FitsGuid (s .guid) →
     All Plain (st .writers) → WriterSim st acc →

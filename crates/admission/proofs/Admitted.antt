@@ -2,7 +2,6 @@
 --     admitted-known      the instance at place i changed
 --     admitted-new        an instance put in at place i; code 16 does nothing to an absent one, and a further one takes it
 --     same-answer         the answers of codes 9 and 10, both by the instance that is left
--- Assumes nothing.
 use Prim.Native.Nat.{ℕ, _≤_}
 use mathlib.Core.Bool.{true, false}
 use mathlib.Core.List.{List, [], _∷_, _++_, map}

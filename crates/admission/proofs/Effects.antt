@@ -2,7 +2,6 @@
 --     first-asked       a started instance is usable and has room
 --     observed-asked    so does code 9 leave one
 --     sampled-of        what code 10 leaves, owned, fits its record
--- Assumes nothing.
 use Prim.Native.Nat.{ℕ}
 use mathlib.Core.Path.{_≡_, refl}
 use native.Mathlib.Omega.{arith}
@@ -13,7 +12,7 @@ use Rattle.model.specs.declared.Sheet.{Sheet}
 use Rattle.model.specs.Instances.{ownedFrom, admittedObserved, admittedNoted, writerNoted, writersIn, startedState, started}
 use Rattle.model.specs.Sets.{setOf, insert}
 use Rattle.model.proofs.Valid.{started-valid}
-use Rattle.instance_writers.specs.Places.{Sound}
+use Rattle.writer_set.specs.Places.{Sound}
 use Rattle.instance_fields.specs.Usable.{Usable, Room}
 use Rattle.instance_fields.proofs.UsableLaws.{usable}
 use Rattle.instance_reach.specs.Turned.{withState}

@@ -4,7 +4,6 @@
 --     admitted-left                                        the instance is replaced
 --     limited-left, refused-left                           a new key: nothing is written
 --     new-within, first-left                               the instance is put in
--- Assumes nothing.
 use Prim.Native.Nat.{ℕ, _+_, _*_, _≤_, _<_, _^_}
 use mathlib.Core.Bool.{true, false}
 use mathlib.Core.List.{List, [], _∷_, _++_, map}

@@ -2,7 +2,6 @@
 --     out-of-order, filtered                           outcomes 1 and 2, of a known key
 --     crowded-out, weaker, admits-known                refusal 10, outcome 4, and the sample is admitted
 --     new-limited, new-full, new-spent, admits-new     outcome 3, refusals 9 and 13, and the sample is admitted, of a new key
--- Assumes nothing.
 use Prim.Native.Nat.{ℕ}
 use mathlib.Core.Bool.{Bool, true, false, not, _||_}
 use mathlib.Core.Option.{Option, none, some}

@@ -201,7 +201,7 @@ fn admit_known(
     requires { ⌜ TableFormed places count (next .0) (now pens) × Only (hasKey (s .key)) (instancesIn count (now pens)) i blank ⌝ }
     ensures { λ r. ⌜ Admits places s (instancesIn count (now (pens .entry))) (next .0) r (now (pens .exit)) ⌝ }
 {
-    let x = instance_record::instance_at(pens, i);
+    let x = instance_decoding::instance_at(pens, i);
     let ordered = in_order(s, x);
     let passes = passes_filter(s, x);
     if !ordered {

@@ -3,7 +3,6 @@
 --     length-head     its 64 bytes
 --     head-forth      what was laid out is read back, and it is laid out as a head is
 --     head-back       bytes that are laid out as a head are those of the head that is read
--- Assumes nothing.
 use Prim.Native.Nat.{ℕ, zero, suc, _^_, _<_}
 use mathlib.Core.Bool.{true, _&&_, _||_}
 use mathlib.Core.Path.{_≡_, refl, sym, ap, _∙_}

@@ -4,7 +4,6 @@
 --     nobody, somebody        the last writer by its presence
 --     head-read               a head from its fields
 --     laid-many, laid-present, laid-high, laid-low    the test in the order of the code
--- Assumes nothing.
 use Prim.Native.Nat.{ℕ, zero, suc, _≤_, _<_}
 use mathlib.Core.Bool.{true, false, and-false}
 use mathlib.Core.Path.{_≡_, refl, sym, ap, _∙_}

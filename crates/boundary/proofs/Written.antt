@@ -2,7 +2,6 @@
 --     whole           what is written over all of the bytes is all that there is
 --     head-put        a head's parts make its bytes
 --     answer-put      an answer's parts make its bytes
--- Assumes nothing.
 use Prim.Native.Nat.{ℕ, _+_}
 use mathlib.Core.Path.{_≡_, _∙_}
 use mathlib.Core.List.{List, append-nil}

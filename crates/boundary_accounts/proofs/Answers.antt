@@ -1,7 +1,6 @@
 -- What a call answers stands in the answer's 72 bytes: outcome and handle fit their fields.
 --     call-fits        so they do in every call on a state in step with accounts
 --     outcome-read, handle-read      and are read back
--- Assumes nothing.
 use Prim.Native.Nat.{ℕ, _^_, _≤_, _<_}
 use mathlib.Core.Bool.{Bool, true, false, not, _&&_, cond}
 use mathlib.Core.List.{List, [], _∷_, _++_, append-assoc}
@@ -34,25 +33,23 @@ use Rattle.model.specs.declared.TrackerCall.the-variants.{Unmatched as unmatche
 use Rattle.model.specs.declared.TrackerReport.{TrackerReport}
 use Rattle.model.specs.declared.TrackerReport.the-variants.{Moved, MovedAndDue, Lost, Status, Silent}
 use Rattle.model.specs.declared.Writer.{Writer}
-use Rattle.model.specs.Call.{Left as CallLeft, refuse, turn, settle, judged, coded, callIn}
-use Rattle.model.specs.Calls.{Call, instances, tracker, joined, callOfCode}
+use Rattle.model.specs.Call.{Left as CallLeft, turn, callIn}
+use Rattle.model.specs.Calls.{Call, instances, tracker, joined}
 use Rattle.model.specs.Handles.{allocated, notNil}
 use Rattle.model.specs.InstanceCalls.{Turned, refused, known, atLimit, full, spent, crowds, accepted, begins, begun, kept, acts, instancesAfter, answerOf, reported, told, handleAnswer, samplesAnswer, infoAnswer, reached, nextAfter, lateRefusal, instanceTurn, instanceCall}
 use Rattle.model.specs.InstanceRecord.{bit, kindNumber}
 use Rattle.model.specs.Instances.{effect, rule, reaches, limitedBy, onEvery, hasKey, started}
 use Rattle.model.specs.Joined.{inOrder, passesFilter, sampled, admitted, admitWith, afterLoss, lossCall, joinedCall}
-use Rattle.model.specs.Refusals.{lengthsOk, sheetRefusal}
 use Rattle.model.specs.Sheets.{sheetOf}
-use Rattle.model.specs.State.{Lent, State, layOut, instanceKey}
+use Rattle.model.specs.State.{State, layOut, instanceKey}
 use Rattle.model.specs.Tables.{find, put, sift, kept as keptIn}
-use Rattle.model.specs.WellFormed.{wellFormed}
 use Rattle.model.specs.Writers.{trackerRule, writersAfter, movers, toldWith, trackerLate, trackerTurn, trackerCall}
 use Rattle.model.proofs.FieldLaws.{reads-front}
-use Rattle.model.proofs.StateLaws.{read-back}
 use Rattle.model.proofs.TableLaws.{all-put}
 use Rattle.accounts.specs.Accounts.{Accounts}
 use Rattle.accounts.proofs.Basics.{either, all-weaken}
-use Rattle.accounts.proofs.InStep.{InStep, held-fits}
+use Rattle.accounts.proofs.Demand3.{call-cases}
+use Rattle.accounts.proofs.InStep.{InStep}
 use Rattle.accounts.proofs.InstanceSound.{Handled}
 use Rattle.boundary.specs.Layouts.{answerBytes}
 
@@ -230,29 +227,11 @@ held-handles places st acc m =
 abbrev Left-fits : CallLeft → Type 0
 Left-fits r = AnswerFits (r .answer)
 
-refuse-fits : (n : ℕ) (l : Lent) → Left-fits (refuse n l)
-refuse-fits n l = plain-fits (omega arith) refl
-
-module _ (places : ℕ) (st : State) (out : List ℕ) (acc : Accounts) (m : InStep places st acc) where
-  judged-fits : (c : Call) (s : Sheet) → Left-fits (judged places c s (layOut places st out))
-  unfolding judged settle
-  judged-fits c s =
-      rw (read-back places st out (held-fits places st acc m))
-      (either Left-fits (eqb (sheetRefusal c s st) 0) _ _
-      (λ e. either Left-fits (eqb (turn places c s st .answer .number) 0) _ _
-      (λ d. any-fits places c s st (held-handles places st acc m)) (λ d. refuse-fits (turn places c s st .answer .number) (layOut places st out)))
-      (λ e. refuse-fits (sheetRefusal c s st) (layOut places st out)))
-
-  coded-fits : (o : Option Call) (s : Sheet) → Left-fits (coded places o s (layOut places st out))
-  coded-fits none s = refuse-fits 2 (layOut places st out)
-  coded-fits (some c) s =
-      either Left-fits (wellFormed places (layOut places st out)) _ _ (λ e. judged-fits c s) (λ e. refuse-fits 3 (layOut places st out))
-
-  pub call-fits : (sheet : List ℕ) → Left-fits (callIn places sheet (layOut places st out))
-  unfolding callIn
-  call-fits sheet =
-      either Left-fits (lengthsOk places sheet (layOut places st out)) _ _
-      (λ e. coded-fits (callOfCode (sheetOf sheet .code)) (sheetOf sheet)) (λ e. refuse-fits 1 (layOut places st out))
+pub call-fits : (places : ℕ) (st : State) (out : List ℕ) (acc : Accounts) → InStep places st acc → (sheet : List ℕ) →
+    Left-fits (callIn places sheet (layOut places st out))
+call-fits places st out acc m sheet =
+    call-cases Left-fits places sheet st out acc m (λ n e. plain-fits (omega arith) refl)
+    (λ c n q a e. any-fits places c (sheetOf sheet) st (held-handles places st acc m))
 
 -- ---- the front of an answer, up to its handle
 

@@ -2,7 +2,6 @@
 --     boundary-demand3      the claim; boundary-demand3-32, boundary-demand3-128 with pens of either length
 --     never-3               no call of such a list is refused as 3
 --     only-busy             a call in order returns the number worked out from the accounts
--- Assumes nothing.
 use Prim.Native.Nat.{ℕ}
 use mathlib.Core.Bool.{Bool, true, false, cond}
 use mathlib.Core.List.{List, [], _∷_}
@@ -29,8 +28,9 @@ use Rattle.accounts.specs.Accounts.{Accounts, Told, absent, accepted, advance, 
 use Rattle.accounts.specs.Accounts as A
 use Rattle.accounts.specs.Busy.{Ordered, busy}
 use Rattle.accounts.specs.InstanceAccounts.{Event}
-use Rattle.accounts.proofs.Basics.{split, either, never}
-use Rattle.accounts.proofs.Demand3.{After, after-list, after-fresh, told-after, out-replaced}
+use Rattle.model.proofs.Tests.{split}
+use Rattle.accounts.proofs.Basics.{either, never}
+use Rattle.accounts.proofs.Demand3.{After, after-list, after-fresh, anew, told-after}
 use Rattle.accounts.proofs.Refusals.{call-other, held-busy}
 use Rattle.boundary.specs.Layouts.{headBytes, headIn}
 use Rattle.boundary.proofs.HeadLaws.{FitsHead, length-head, head-forth}
@@ -140,10 +140,6 @@ record Carried (places : ℕ) (x : Crossed) (acc : Accounts) : Type 0 where
   after : After places lent acc
   last : LastFits (acc .writers .last)
 
--- with another Out
-anew : (places : ℕ) (l : Lent) (acc : Accounts) (out : List ℕ) (m : After places l acc) → withOut out l ≡ layOut places (m .state) out
-anew places l acc out m = ap (withOut out) (m .laid) ∙ out-replaced places (m .state) (l .out) out
-
 module _ (places : ℕ) (ok : figureOk places ≡ true) (l : Lent) (acc : Accounts) (m : After places l acc) where
   heads : l .head ≡ headOf places (m .state)
   heads = ap (λ (k : Lent). k .head) (m .laid) ∙ unfold layOut in refl
@@ -156,7 +152,7 @@ module _ (places : ℕ) (ok : figureOk places ≡ true) (l : Lent) (acc : Accoun
 
   -- so a call on it is `callIn` for the figure
   call-after : (sheet out : List ℕ) → callOf sheet (withOut out l) ≡ callIn places sheet (layOut places (m .state) out)
-  call-after sheet out = call-in sheet (withOut out l) places ok figure-after ∙ ap (callIn places sheet) (anew places l acc out m)
+  call-after sheet out = call-in sheet (withOut out l) places ok figure-after ∙ ap (callIn places sheet) (anew places out m)
 
 module _ (places : ℕ) (ok : figureOk places ≡ true) (i : Lending) (x : Crossed) (acc : Accounts) (m : Carried places x acc) where
   abbrev l : Lent
@@ -287,7 +283,7 @@ told-carried places ok x acc m =
       told =
           subst (λ (k : Lent). Told places k acc) (sym (same-lent (x .out) read (m .along .pens) (m .along .writers) (m .along .lost)))
           (told-after places (withOut (x .out) l) acc
-          record { state = m .after .state; held = m .after .held; laid = anew places l acc (x .out) (m .after) });
+          record { state = m .after .state; held = m .after .held; laid = anew places (x .out) (m .after) });
     }
   where
     l : Lent

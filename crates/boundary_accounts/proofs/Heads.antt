@@ -1,7 +1,6 @@
 -- The head of a state in step with accounts fits its 64 bytes.
 --     head-fits        so it does, where the last writer does
 --     last-fits        which it does after every call that the accounts hear
--- Assumes nothing.
 use Prim.Native.Nat.{ℕ, zero, suc, _*_, _/_, _^_, _≤_, _<_}
 use mathlib.Core.Bool.{Bool}
 use mathlib.Core.Option.{Option, none, some}

@@ -2,7 +2,6 @@
 --     told-short      an answer of another length keeps its bytes
 --     told-whole      the two parts make the answer's bytes
 --     hash-short, hash-put, hash-whole     the same of a KeyHash
--- Assumes nothing.
 use Prim.Native.Nat.{ℕ}
 use mathlib.Core.Path.{_≡_, ap, _∙_}
 use mathlib.Core.List.{List, [], _∷_, _++_, append-assoc}
@@ -17,11 +16,11 @@ use Rattle.octets.proofs.PatchLaws.{length-fields, puts-patch, patch-patch}
 use Rattle.boundary.proofs.Written.{whole}
 use Rattle.key_hash.specs.declared.KeyHashed.{KeyHashed}
 use Rattle.read_answers.specs.declared.ReadAnswer.{ReadAnswer}
-use Rattle.boundary_reads.specs.ReadAnswers.{readWidths, readValues, readBytes, bitWidths, bitValues, valueWidths, valueValues, toldOf, told}
+use Rattle.boundary_reads.specs.ReadAnswers.{readWidths, readValues, readBytes, bitWidths, bitValues, valueWidths, valueValues, toldOf, toldBytes, told}
 use Rattle.boundary_reads.specs.KeyHashes.{keyHashBytes, toldKeyHash}
 
 pub told-short : (a : ReadAnswer) (b : List ℕ) → (length b ≡ 24 → ⊥) → toldOf 1 b ≡ told a b
-unfolding told
+unfolding told toldBytes
 told-short a b h = rw (ne-eqb (length b) 24 h)
 
 read-put : (a : ReadAnswer) (s t1 t2 : List ℕ) → length s ≡ 24 → t1 ≡ puts bitWidths (bitValues a) s 0 0 →
@@ -31,13 +30,13 @@ read-put a s t1 t2 n e1 e2 = rw (e2, e1) (puts-patch readWidths (readValues a) s
 
 pub told-whole : (a : ReadAnswer) (s t1 t2 : List ℕ) → length s ≡ 24 → t1 ≡ puts bitWidths (bitValues a) s 0 0 →
     t2 ≡ puts valueWidths (valueValues a) t1 0 4 → toldOf (a .number) t2 ≡ told a s
-unfolding told
+unfolding told toldBytes
 told-whole a s t1 t2 n e1 e2 = rw (eq-eqb (length s) 24 n, read-put a s t1 t2 n e1 e2)
 
 -- ---- a KeyHash
 
 pub hash-short : (k : KeyHashed) (b : List ℕ) → (length b ≡ 24 → ⊥) → toldOf 1 b ≡ toldKeyHash k b
-unfolding toldKeyHash
+unfolding toldKeyHash toldBytes
 hash-short k b h = rw (ne-eqb (length b) 24 h)
 
 pub hash-put : (k : KeyHashed) (s : List ℕ) → length s ≡ 24 → length (k .hash) ≡ 16
@@ -53,5 +52,5 @@ hash-put k s n m =
     ∙ whole 24 s (front ++ k .hash) n)
 
 pub hash-whole : (k : KeyHashed) (s t : List ℕ) → length s ≡ 24 → t ≡ keyHashBytes k → toldOf (k .number) t ≡ toldKeyHash k s
-unfolding toldKeyHash
+unfolding toldKeyHash toldBytes
 hash-whole k s t n e = rw (eq-eqb (length s) 24 n) (ap (toldOf (k .number)) e)

@@ -1,16 +1,12 @@
 -- The answer of `key_hash` as it crosses the C boundary: 24 bytes, 0 the number, 8 to 23 the KeyHash, the others 0.
-use mathlib.Core.Bool.{cond}
 use mathlib.Core.List.{List, [], _∷_, _++_}
 use Prim.Native.Nat.{ℕ}
-use lib.Dec.{eqb}
-use lib.ListN.{length}
 use Rattle.octets.specs.Patch.{fields}
 use Rattle.key_hash.specs.declared.KeyHashed.{KeyHashed}
-use Rattle.boundary_reads.specs.ReadAnswers.{AnswerTold, toldOf}
+use Rattle.boundary_reads.specs.ReadAnswers.{AnswerTold, toldBytes}
 
 unfoldable pub keyHashBytes : KeyHashed → List ℕ
 keyHashBytes k = fields (1 ∷ 7 ∷ []) (k .number ∷ 0 ∷ []) ++ k .hash
 
--- the answer's length belongs to refusal 1
 unfoldable pub toldKeyHash : KeyHashed → List ℕ → AnswerTold
-toldKeyHash k answer = cond (eqb (length answer) 24) (toldOf (k .number) (keyHashBytes k)) (toldOf 1 answer)
+toldKeyHash k answer = toldBytes (k .number) (keyHashBytes k) answer

@@ -5,15 +5,13 @@ use mathlib.Core.Bool.{cond}
 use mathlib.Core.List.{List, [], _∷_}
 use lib.Dec.{eqb}
 use lib.ListN.{length}
-use mir.Syntax.{w32}
-use mir.Val.{ofZ}
 use Rattle.octets.specs.Patch.{fields}
 use Rattle.model.specs.InstanceRecord.{bit}
 use Rattle.read_answers.specs.declared.ReadAnswer.{ReadAnswer}
 
 -- ---- the layout (widths and values line by line)
 
--- 0 number, 1 yes, 2 present, 3 stored, 4 length or listed, 8 handle, changes or offset, 16 seconds, 20 nanoseconds
+-- 0 number, 1 said, 2 present, 3 stored, 4 length or listed, 8 handle, changes or offset, 16 seconds, 20 nanoseconds
 abbrev pub readWidths : List ℕ
 readWidths =
     1 ∷ 1 ∷ 1 ∷ 1
@@ -21,8 +19,8 @@ readWidths =
 
 abbrev pub readValues : ReadAnswer → List ℕ
 readValues a =
-    a .number ∷ bit (a .yes) ∷ bit (a .present) ∷ bit (a .stored)
-    ∷ a .size ∷ a .value ∷ ofZ w32 (a .sec) ∷ a .nanosec ∷ []
+    a .number ∷ a .said ∷ bit (a .present) ∷ bit (a .stored)
+    ∷ a .size ∷ a .value ∷ a .sec ∷ a .nanosec ∷ []
 
 -- the 24 bytes of an answer
 unfoldable pub readBytes : ReadAnswer → List ℕ
@@ -33,13 +31,13 @@ abbrev pub bitWidths : List ℕ
 bitWidths = 1 ∷ 1 ∷ 1 ∷ 1 ∷ []
 
 abbrev pub bitValues : ReadAnswer → List ℕ
-bitValues a = a .number ∷ bit (a .yes) ∷ bit (a .present) ∷ bit (a .stored) ∷ []
+bitValues a = a .number ∷ a .said ∷ bit (a .present) ∷ bit (a .stored) ∷ []
 
 abbrev pub valueWidths : List ℕ
 valueWidths = 4 ∷ 8 ∷ 4 ∷ 4 ∷ []
 
 abbrev pub valueValues : ReadAnswer → List ℕ
-valueValues a = a .size ∷ a .value ∷ ofZ w32 (a .sec) ∷ a .nanosec ∷ []
+valueValues a = a .size ∷ a .value ∷ a .sec ∷ a .nanosec ∷ []
 
 -- ---- what a read leaves: the number that is returned, and the answer's bytes. The answer's length belongs to refusal 1
 
@@ -50,5 +48,9 @@ pub record AnswerTold : Type 0 where
 abbrev pub toldOf : ℕ → List ℕ → AnswerTold
 toldOf number answer = record { number = number; answer = answer }
 
+-- an answer of another length is refused as 1 and keeps its bytes
+unfoldable pub toldBytes : ℕ → List ℕ → List ℕ → AnswerTold
+toldBytes number bytes answer = cond (eqb (length answer) 24) (toldOf number bytes) (toldOf 1 answer)
+
 unfoldable pub told : ReadAnswer → List ℕ → AnswerTold
-told a answer = cond (eqb (length answer) 24) (toldOf (a .number) (readBytes a)) (toldOf 1 answer)
+told a answer = toldBytes (a .number) (readBytes a) answer

@@ -7,7 +7,7 @@ use Rattle.read_answers.specs.Cases.{readOf}
 use Rattle.wire_time.specs.declared.WireFraction.{WireFraction}
 
 abbrev pub fractionAnswer : WireFraction → ReadAnswer
-fractionAnswer w = readOf (w .number) false false (w .fraction) (w .remainder)
+fractionAnswer w = readOf (w .number) 0 false (w .fraction) (w .remainder)
 
 abbrev pub nanosAnswer : ℕ → ReadAnswer
-nanosAnswer n = readOf 0 false false n 0
+nanosAnswer n = readOf 0 0 false n 0

@@ -11,27 +11,34 @@ use wire_time::WireFraction;
 ghost use mathlib.Core.Path.{_≡_};
 ghost use lib.ListN.{length};
 ghost use Rattle.octets.specs.Fields.{puts};
-ghost use Rattle.read_answers.specs.Cases.{refusedAnswer, decisionAnswer, handleAnswer, timeAnswer, listingAnswer, holderAnswer, changesAnswer};
+ghost use Rattle.read_answers.specs.Cases.{readOf, refusedAnswer, decisionAnswer, handleAnswer, timeAnswer, listingAnswer, holderAnswer, changesAnswer};
 ghost use Rattle.boundary_reads.specs.ReadAnswers.{bitWidths, bitValues, valueWidths, valueValues, toldOf, told};
 ghost use Rattle.boundary_reads.specs.KeyHashes.{keyHashBytes, toldKeyHash};
 ghost use Rattle.boundary_reads.specs.WireAnswers.{fractionAnswer, nanosAnswer};
 
 // ---- the answers
 
+// An answer with these values, and no time.
+pub fn read_of(number: u8, said: u8, present: bool, size: u32, value: u64) -> ReadAnswer
+    ensures { λ r. ⌜ r ≡ readOf number said present size value ⌝ }
+{
+    ReadAnswer {
+        number: number,
+        said: said,
+        present: present,
+        stored: false,
+        size: size,
+        value: value,
+        sec: 0,
+        nanosec: 0,
+    }
+}
+
 // A refusal: its number alone. Number 0: nothing was found.
 pub fn refused_answer(n: u8) -> ReadAnswer
     ensures { λ r. ⌜ r ≡ refusedAnswer n ⌝ }
 {
-    ReadAnswer {
-        number: n,
-        yes: false,
-        present: false,
-        stored: false,
-        size: 0,
-        value: 0,
-        sec: 0,
-        nanosec: 0,
-    }
+    read_of(n, 0, false, 0, 0)
 }
 
 // A yes or a no.
@@ -40,16 +47,7 @@ pub fn decision_answer(d: Decision) -> ReadAnswer
 {
     match d {
         Decision::Refused(n) => refused_answer(n),
-        Decision::Is(yes) => ReadAnswer {
-            number: 0,
-            yes: yes,
-            present: false,
-            stored: false,
-            size: 0,
-            value: 0,
-            sec: 0,
-            nanosec: 0,
-        },
+        Decision::Is(yes) => read_of(0, boundary::bit_of(yes), false, 0, 0),
     }
 }
 
@@ -60,16 +58,7 @@ pub fn handle_answer(f: FoundHandle) -> ReadAnswer
     match f {
         FoundHandle::Refused(n) => refused_answer(n),
         FoundHandle::Missing => refused_answer(0),
-        FoundHandle::Is(h) => ReadAnswer {
-            number: 0,
-            yes: false,
-            present: true,
-            stored: false,
-            size: 0,
-            value: h.0,
-            sec: 0,
-            nanosec: 0,
-        },
+        FoundHandle::Is(h) => read_of(0, 0, true, 0, h.0),
     }
 }
 
@@ -82,12 +71,12 @@ pub fn time_answer(f: FoundTime) -> ReadAnswer
         FoundTime::Missing => refused_answer(0),
         FoundTime::Is(t) => ReadAnswer {
             number: 0,
-            yes: false,
+            said: 0,
             present: true,
             stored: false,
             size: 0,
             value: 0,
-            sec: t.sec,
+            sec: numbers::bits_of(t.sec),
             nanosec: t.nanosec,
         },
     }
@@ -99,16 +88,7 @@ pub fn listing_answer(l: Listing) -> ReadAnswer
 {
     match l {
         Listing::Refused(n) => refused_answer(n),
-        Listing::Listed(n) => ReadAnswer {
-            number: 0,
-            yes: false,
-            present: false,
-            stored: false,
-            size: n,
-            value: 0,
-            sec: 0,
-            nanosec: 0,
-        },
+        Listing::Listed(n) => read_of(0, 0, false, n, 0),
     }
 }
 
@@ -118,7 +98,7 @@ pub fn holder_answer(stored: bool, offset: u64, len: u16) -> ReadAnswer
 {
     ReadAnswer {
         number: 0,
-        yes: false,
+        said: 0,
         present: false,
         stored: stored,
         size: len as u32,
@@ -134,16 +114,7 @@ pub fn changes_answer(c: ChangesRead) -> ReadAnswer
 {
     match c {
         ChangesRead::Refused(n) => refused_answer(n),
-        ChangesRead::Is(n) => ReadAnswer {
-            number: 0,
-            yes: false,
-            present: false,
-            stored: false,
-            size: 0,
-            value: n,
-            sec: 0,
-            nanosec: 0,
-        },
+        ChangesRead::Is(n) => read_of(0, 0, false, 0, n),
     }
 }
 
@@ -151,32 +122,14 @@ pub fn changes_answer(c: ChangesRead) -> ReadAnswer
 pub fn fraction_answer(w: WireFraction) -> ReadAnswer
     ensures { λ r. ⌜ r ≡ fractionAnswer w ⌝ }
 {
-    ReadAnswer {
-        number: w.number,
-        yes: false,
-        present: false,
-        stored: false,
-        size: w.fraction,
-        value: w.remainder as u64,
-        sec: 0,
-        nanosec: 0,
-    }
+    read_of(w.number, 0, false, w.fraction, w.remainder as u64)
 }
 
 // The nanoseconds of a fraction and a remainder.
 pub fn nanos_answer(n: u32) -> ReadAnswer
     ensures { λ r. ⌜ r ≡ nanosAnswer n ⌝ }
 {
-    ReadAnswer {
-        number: 0,
-        yes: false,
-        present: false,
-        stored: false,
-        size: n,
-        value: 0,
-        sec: 0,
-        nanosec: 0,
-    }
+    read_of(0, 0, false, n, 0)
 }
 
 // ---- the bytes
@@ -187,7 +140,7 @@ fn write_bits(b: &mut [u8], a: ReadAnswer)
     ensures { λ _. ⌜ now (b .exit) ≡ puts bitWidths (bitValues a) (now (b .entry)) 0 0 ⌝ }
 {
     octets::put_u8(b, 0, a.number);
-    octets::put_u8(b, 1, boundary::bit_of(a.yes));
+    octets::put_u8(b, 1, a.said);
     octets::put_u8(b, 2, boundary::bit_of(a.present));
     octets::put_u8(b, 3, boundary::bit_of(a.stored));
 }
@@ -199,7 +152,7 @@ fn write_values(b: &mut [u8], a: ReadAnswer)
 {
     octets::put_u32(b, 4, a.size);
     octets::put_u64(b, 8, a.value);
-    octets::put_u32(b, 16, numbers::bits_of(a.sec));
+    octets::put_u32(b, 16, a.sec);
     octets::put_u32(b, 20, a.nanosec);
 }
 

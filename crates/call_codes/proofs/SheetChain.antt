@@ -1,5 +1,4 @@
 -- What the sheet decides: 4 to 8, one law a link, for any call.
--- Assumes nothing.
 use mathlib.Core.Bool.{true, false}
 use mathlib.Core.Path.{_≡_}
 use Rattle.model.specs.declared.Sheet.{Sheet}

@@ -2,7 +2,6 @@
 -- leave is what code 48 leaves; for a key that was not known, after a further code 16 on the instance now there.
 --     admit-calls     the calls
 --     admit-again     a further code 16 with the same sheet changes nothing
--- Assumes nothing.
 use Prim.Native.Nat.{ℕ}
 use mathlib.Core.Bool.{Bool, true, false, not, _&&_, cond}
 use mathlib.Core.List.{[]}

@@ -6,7 +6,6 @@
 --     judged-refuses, judged-turn
 --                                 4 to 8, what the sheet decides; none of these: the call's turn
 --     buffers                     what a call past 3 is lent are buffers of bytes
--- Assumes nothing.
 use Prim.Native.Nat.{ℕ, zero, suc}
 use mathlib.Core.Bool.{true, false}
 use mathlib.Core.Option.{none, some}

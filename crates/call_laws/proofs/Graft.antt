@@ -2,7 +2,6 @@
 --     tableOf          a state of which the instances and the next handle are kept, fresh otherwise
 --     instance-graft   the call on a state is the call on its table, put back
 --     admitted-graft, admit-graft      so is code 48
--- Assumes nothing.
 use Prim.Native.Nat.{ℕ}
 use mathlib.Core.Bool.{Bool, true, false, not, _&&_, cond}
 use mathlib.Core.List.{[]}

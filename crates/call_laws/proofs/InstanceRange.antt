@@ -2,10 +2,9 @@
 --     instance-outcome, admit-outcome     a call is accepted, or refused with nothing changed
 --     range-left          from what the code returns and leaves to the call on bytes
 --     graft-left          what such a call on the table leaves is, in head and buffers, what model says
--- Assumes nothing.
 use Prim.Native.Nat.{ℕ, zero, suc}
 use mathlib.Core.Bool.{Bool, true, false, not, _&&_, cond}
-use mathlib.Core.Option.{Option, none, some}
+use mathlib.Core.Option.{Option}
 use mathlib.Core.Path.{_≡_, refl, sym, ap, _∙_}
 use mathlib.Core.List.{List}
 use lib.Dec.{eqb, eqb·suc-zero}

@@ -1,7 +1,6 @@
 -- From what a call leaves of the whole state to the call on bytes.
 --     tracker-outcome, loss-outcome     a call is accepted, or refused with nothing changed
 --     whole-range                       from what the code returns and leaves, laid out, to the call on bytes
--- Assumes nothing.
 use Prim.Native.Nat.{ℕ, zero, suc}
 use mathlib.Core.Bool.{cond}
 use mathlib.Core.Path.{_≡_, refl, sym, ap, _∙_}

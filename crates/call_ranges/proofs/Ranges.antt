@@ -3,7 +3,6 @@
 --     entered           what a call past 3 is lent
 --     refused-3, by-code
 --                       refused as 3; else the call of its code
--- Assumes nothing.
 use Prim.Native.Nat.{ℕ, _*_}
 use mathlib.Core.Bool.{Bool, true, false, not}
 use mathlib.Core.List.{List}

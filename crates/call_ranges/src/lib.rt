@@ -35,7 +35,7 @@ pub fn instances(
     instance_calls::instance_turn(c, s, head, pens, out, places)
 }
 
-// Codes 32 to 40: calls on the writers.
+// The codes of the calls on writers.
 pub fn tracker(
     s: Sheet,
     head: Head,
@@ -57,7 +57,7 @@ pub fn tracker(
     writer_calls::tracker_turn(c, s, head, writers, lost, out)
 }
 
-// Codes 48 to 51: the joined calls.
+// The codes of the joined calls.
 pub fn joined(
     s: Sheet,
     head: Head,

@@ -4,7 +4,6 @@
 --     times-on, times-off      the times of a call, one after the other
 --     refuses-4, refuses-6, refuses-none      the chain of refusals
 --     sheet-made       fields that were read make the sheet
--- Assumes nothing.
 use Prim.Native.Nat.{ℕ, _+_, _-_, _%_, _≤_}
 use mathlib.Core.Bool.{Bool, true, false, _&&_, cond}
 use mathlib.Core.Path.{_≡_, refl, sym, ap, _∙_}

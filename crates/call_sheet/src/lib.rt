@@ -11,7 +11,7 @@ ghost use mathlib.Core.Bool.{true};
 ghost use mathlib.Core.List.{[], _∷_};
 ghost use Prim.Native.Nat.{_+_, _≤_, _<_, min};
 ghost use lib.ListN.{length, take, drop};
-ghost use Rattle.model.specs.InstanceRecord.{flag, timeAt};
+ghost use Rattle.model.specs.InstanceRecord.{flag};
 ghost use Rattle.model.specs.Calls.{instances};
 ghost use Rattle.model.specs.Refusals.{used, withTime, optional, timesUsedBy, nanosecondsOk, holderUsedBy, holderFits, sheetRefusal, clocksWith, kindWith};
 ghost use Rattle.model.specs.declared.ClockUse.the-variants.{ClockAndLease};
@@ -19,20 +19,6 @@ ghost use Rattle.model.specs.Sheets.{padded, holderOn, sheetOf};
 ghost use Rattle.model.specs.State.{State};
 ghost use Rattle.model.specs.Tables.{all};
 ghost use Rattle.model.specs.WellFormed.{clockOk};
-
-// The time from index at.
-fn read_time(s: &[u8], at: usize, present: bool) -> MaybeTime
-    requires { ⌜ at + 8 ≤ length (now s) ⌝ }
-    ensures { λ r. ⌜ r ≡ timeAt (now (s .entry)) at present ⌝ }
-{
-    let sec = octets::get_u32(s, at);
-    let nanosec = octets::get_u32(s, at + 4);
-    MaybeTime {
-        present: present,
-        sec: sec,
-        nanosec: nanosec,
-    }
-}
 
 // The first n bytes from index 84, zeros behind them.
 fn holder_bytes(s: &[u8], n: usize) -> [u8; 144]
@@ -67,7 +53,7 @@ fn read_holder(s: &[u8], present: bool) -> Holder
 }
 
 // The bit of weight w, a divisor of 128.
-fn bit_of(bits: u8, w: u8) -> bool
+fn has_bit(bits: u8, w: u8) -> bool
     requires { ⌜ 0 < w ⌝ }
     ensures { λ r. ⌜ r ≡ flag w bits ⌝ }
 {
@@ -83,9 +69,9 @@ pub fn read_sheet(s: &[u8]) -> Sheet
     let key = guid::guid_at(s, 0);
     let guid = guid::guid_at(s, 16);
     let handle = InstanceHandle(octets::get_u64(s, 32));
-    let time_1 = read_time(s, 40, bit_of(bits, 128));
-    let time_2 = read_time(s, 48, true);
-    let holder = read_holder(s, bit_of(bits, 16));
+    let time_1 = instance_decoding::read_time(s, 40, has_bit(bits, 128));
+    let time_2 = instance_decoding::read_time(s, 48, true);
+    let holder = read_holder(s, has_bit(bits, 16));
     Sheet {
         key: key,
         guid: guid,
@@ -96,10 +82,10 @@ pub fn read_sheet(s: &[u8]) -> Sheet
         b: octets::get_u64(s, 64),
         first: octets::get_u32(s, 72),
         second: octets::get_u32(s, 76),
-        deadline_present: bit_of(bits, 64),
-        lease_present: bit_of(bits, 32),
-        manual: bit_of(bits, 8),
-        by_source: bit_of(bits, 4),
+        deadline_present: has_bit(bits, 64),
+        lease_present: has_bit(bits, 32),
+        manual: has_bit(bits, 8),
+        by_source: has_bit(bits, 4),
         kind: bits % 4,
         code: octets::get_u8(s, 81),
         holder: holder,

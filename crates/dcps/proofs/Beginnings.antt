@@ -3,7 +3,6 @@
 --     room-is, rooms    the lengths of the buffers, as one test and one by one
 --     fresh-refused, fresh-left
 --                       a wrong length; buffers cleared, and the fresh head
--- Assumes nothing.
 use Prim.Native.Nat.{ℕ, _*_}
 use mathlib.Core.Bool.{Bool, true, false, _&&_}
 use mathlib.Core.Path.{_≡_, sym, ap, _∙_}

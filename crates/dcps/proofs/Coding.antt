@@ -3,7 +3,6 @@
 --     called-3          refused as 3 by the figure
 --     called-1, called-coded
 --                       past it: refused as 1; else the call by its code
--- Assumes nothing.
 use Prim.Native.Nat.{ℕ, _*_}
 use mathlib.Core.Bool.{Bool, true, false, _&&_}
 use mathlib.Core.Path.{_≡_, refl, sym, ap, _∙_}

@@ -1,7 +1,6 @@
 -- The number of a read's case is the scope document's number of its refusal, 0 for none.
 --     filter-number, order-number, delivered-number, next-number, walk-number, lookup-number, would-number, left-number,
 --     status-number, changes-number       of each read that has one
--- Assumes nothing.
 use Prim.Native.Nat.{ℕ, zero, suc}
 use mathlib.Core.Bool.{Bool, true, false, cond}
 use mathlib.Core.List.{List}

@@ -14,6 +14,9 @@ use model::FoundTime;
 use model::Guid;
 use model::Head;
 use model::InstanceHandle;
+use model::LAST_INSTANCE;
+use model::LAST_JOINED;
+use model::LAST_TRACKER;
 use model::LastWriter;
 use model::Listing;
 use model::Sheet;
@@ -54,9 +57,9 @@ fn coded(
 {
     let code = s.code;
     match code {
-        1..=21 => call_ranges::instances(s, head, pens, writers, lost, out, places),
-        32..=40 => call_ranges::tracker(s, head, pens, writers, lost, out, places),
-        48..=51 => call_ranges::joined(s, head, pens, writers, lost, out, places),
+        1..=LAST_INSTANCE => call_ranges::instances(s, head, pens, writers, lost, out, places),
+        32..=LAST_TRACKER => call_ranges::tracker(s, head, pens, writers, lost, out, places),
+        48..=LAST_JOINED => call_ranges::joined(s, head, pens, writers, lost, out, places),
         _ => answers::refused(2, head),
     }
 }
@@ -226,7 +229,7 @@ pub fn status(head: Head) -> StatusRead
     ensures case { λ r. ⌜ r ≡ statusRead head ⌝ }
     ensures number { λ r. ⌜ statusAnswer r .number ≡ cond (headAlone head) 0 3 ⌝ }
 {
-    writer_validity::status(head)
+    head_reads::status(head)
 }
 
 // How many changes of class the head has counted.
@@ -234,7 +237,7 @@ pub fn changes(head: Head) -> ChangesRead
     ensures case { λ r. ⌜ r ≡ changesRead head ⌝ }
     ensures number { λ r. ⌜ changesAnswer r .number ≡ cond (headAlone head) 0 3 ⌝ }
 {
-    writer_validity::changes(head)
+    head_reads::changes(head)
 }
 
 // ---- keys

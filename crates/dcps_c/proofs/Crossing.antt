@@ -4,7 +4,6 @@
 --     short-answer, short-head    refused for their lengths, or by the figure
 --     fresh-short, fresh-made     the fresh state
 --     made                        a call on a head that was read, and on one that was none
--- Assumes nothing.
 use Prim.Native.Nat.{ℕ}
 use mathlib.Core.Bool.{Bool, true, false, cond, and-false}
 use mathlib.Core.Option.{Option, none, some}

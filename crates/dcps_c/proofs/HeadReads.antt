@@ -3,7 +3,6 @@
 --     status-told, status-untold      the answer's bytes, and where it has another length
 --     unanswered-..                   the number where the answer has another length
 --     changes-short, changes-made, changes-told, changes-untold      likewise for the changes
--- Assumes nothing.
 use Prim.Native.Nat.{ℕ}
 use Rattle.octets.specs.Octets.{be}
 use mathlib.Core.Bool.{Bool, true, false, cond, and-false}

@@ -2,7 +2,6 @@
 --     decided, handled, timed, placed     what was read is what is told
 --     hashed                              the same of a KeyHash
 --     left-untold, left-told              the list, where the answer has its length
--- Assumes nothing.
 use Prim.Native.Nat.{ℕ}
 use mathlib.Core.Path.{_≡_, ap, _∙_}
 use mathlib.Core.List.{List}
@@ -17,7 +16,7 @@ use Rattle.model.specs.State.{placesIn}
 use Rattle.read_answers.specs.declared.ReadAnswer.{ReadAnswer}
 use Rattle.read_answers.specs.Cases.{decisionAnswer, handleAnswer, timeAnswer, listingAnswer, holderAnswer}
 use Rattle.key_hash.specs.declared.KeyHashed.{KeyHashed}
-use Rattle.boundary_reads.specs.ReadAnswers.{toldOf, told}
+use Rattle.boundary_reads.specs.ReadAnswers.{toldOf, told, toldBytes}
 use Rattle.boundary_reads.specs.KeyHashes.{toldKeyHash}
 use Rattle.instance_reads.specs.declared.HolderPlace.{HolderPlace}
 use Rattle.dcps_c.specs.Reads.{placeAnswer, toldList, boundaryLeft}
@@ -43,7 +42,7 @@ hashed lent left tells e = tells ∙ ap (λ (z : KeyHashed). toldKeyHash z lent)
 
 module _ (pens gone : List ℕ) (mask : ℕ) (out answer : List ℕ) where
   pub left-untold : (length answer ≡ 24 → ⊥) → toldList 1 out answer ≡ boundaryLeft pens gone mask out answer
-  unfolding boundaryLeft told
+  unfolding boundaryLeft told toldBytes
   left-untold h = rw (ne-eqb (length answer) 24 h)
 
   pub left-told : (n : ℕ) (out′ answer′ : List ℕ) (l : Listing) (a : ReadAnswer) → length answer ≡ 24 → toldOf n answer′ ≡ told a answer →

@@ -32,12 +32,12 @@ ghost use Rattle.dcps_c.specs.Version.{versionNumber};
 
 // ---- the version
 
-// The version of the library, 0.2.0, as one number.
+// The version of the library, 0.3.0, as one number.
 #[no_mangle]
 pub extern "C" fn dcps_version() -> u32
     ensures { λ r. ⌜ r ≡ versionNumber ⌝ }
 {
-    512
+    768
 }
 
 // ---- the head and the answer

@@ -6,7 +6,6 @@
 --     digits-eq             equal numbers have equal digits
 --     eqb-low, eqb-high     the test of two numbers is that of the low digits where the high ones agree, else false
 --     ltb-low               the same of their order
--- Assumes nothing.
 use mathlib.Core.Path.{_≡_, refl, sym, ap, _∙_}
 use mathlib.Core.Bool.{Bool, true, false}
 use Prim.Native.Nat.{ℕ, _+_, _*_, _/_, _<_}

@@ -3,7 +3,6 @@
 --     every-judged       a call on every instance
 --     single-judged      a call on one instance
 --     by-reach           a call that is not on every instance reaches one
--- Assumes nothing.
 use Prim.Native.Nat.{ℕ}
 use mathlib.Core.Bool.{true, false}
 use mathlib.Core.List.{List, []}

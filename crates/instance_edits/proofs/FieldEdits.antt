@@ -1,7 +1,6 @@
 -- One field of a layout, among the others and in front of what follows: written and read.
 --     put-field                  a field written where it stands is its value replaced
 --     read-field                 a field that fits is read where it stands
--- Assumes nothing.
 use Prim.Native.Nat.{ℕ, zero, suc, _+_, _^_, _≤_, _<_}
 use mathlib.Core.Path.{_≡_, refl, sym, ap, _∙_}
 use mathlib.Core.List.{List, [], _∷_, _++_, append-assoc}

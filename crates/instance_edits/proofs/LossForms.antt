@@ -1,8 +1,8 @@
 -- Writers lost one after the other are lost all at once, of an instance whose writer set is sound and rises.
+--     unemptied, undropped         a list with none of its writers changes nothing
 --     left-form, drop-form         code 7 for one writer: what it lists, what it leaves
 --     cleared-form                 codes 18 for several: how many clear the owner
 --     listed-form, loss-form       codes 7 and 18 for several: what they list, what they leave
--- Assumes nothing.
 use Prim.Native.Nat.{ℕ, _+_}
 use mathlib.Core.Bool.{Bool, true, false, not, _&&_, _||_, cond, and-false, or-false}
 use mathlib.Core.List.{List, [], _∷_}
@@ -16,20 +16,21 @@ use Rattle.model.specs.declared.MaybeTime.{MaybeTime}
 use Rattle.model.specs.declared.WriterSet.{WriterSet}
 use Rattle.model.specs.Guids.{num}
 use Rattle.model.specs.InstanceRecord.{bit}
-use Rattle.model.specs.Instances.{isAlive, leftBy, ownerCleared, owns, sampledAt, withSet, withWriters, writerDropped, writerless, writersIn}
+use Rattle.model.specs.Instances.{isAlive, leftBy, ownerCleared, owns, withSet, withWriters, writerDropped, writersIn}
 use Rattle.model.specs.Joined.{clearings, leftByOne, leftWithout, leftWithoutAll}
 use Rattle.model.specs.Sets.{members, setOf, has, isEmpty, remove}
 use Rattle.model.specs.Tables.{rising}
 use Rattle.model.proofs.Keeps.{set-loss}
 use Rattle.model.proofs.SetLaws.{members-of}
 use Rattle.model.proofs.Tests.{both, clash, split}
-use Rattle.instance_writers.specs.Places.{Sound, padded}
-use Rattle.instance_writers.proofs.PlaceLaws.{length-members}
-use Rattle.instance_writers.proofs.SetLaws.{sound-size}
+use Rattle.writer_set.specs.Places.{Sound, padded}
+use Rattle.writer_set.proofs.PlaceLaws.{length-members}
+use Rattle.writer_set.proofs.SetLaws.{sound-size}
 use Rattle.instance_fields.proofs.UsableLaws.{sound-loss}
-use Rattle.instance_sets.specs.Others.{others}
+use Rattle.writer_set_bytes.specs.Others.{others}
+use Rattle.instance_edits.specs.Edits.{emptiedTo, settled, settledIf}
 use Rattle.instance_edits.specs.Losses.{disownedBy, droppedOf, emptiedBy, ownedBy}
-use Rattle.instance_sets.proofs.SideBySide.{none-out, others-empty, others-more, others-none, remove-one, rising-remove, same-sym}
+use Rattle.writer_set_bytes.proofs.SideBySide.{none-out, others-empty, others-more, others-none, remove-one, rising-remove, same-sym}
 
 -- ---- the set
 
@@ -59,15 +60,15 @@ still : (b a : Bool) → (not b && (b && a)) ≡ false
 still true a = refl
 still false a = refl
 
-unemptied : (gone : List Guid) (x : InstanceState) → others gone (writersIn x) ≡ writersIn x → emptiedBy gone x ≡ false
-unfolding emptiedBy
+pub unemptied : (gone : List Guid) (x : InstanceState) → others gone (writersIn x) ≡ writersIn x → emptiedBy gone x ≡ false
+unfolding emptiedTo
 unemptied gone x e = rw e (still (isEmpty (writersIn x)) (isAlive (x .life .kind)))
 
-pub as-it-is : (x : InstanceState) → Sound (x .writers) → withSet (writersIn x) x ≡ x
+as-it-is : (x : InstanceState) → Sound (x .writers) → withSet (writersIn x) x ≡ x
 as-it-is x h = ap (λ (w : WriterSet). withWriters w x) (set-of (x .writers) h)
 
 pub left-form : (g : Guid) (x : InstanceState) → rising num (writersIn x) ≡ true → leftBy g x ≡ emptiedBy (g ∷ []) x
-unfolding leftBy emptiedBy
+unfolding leftBy emptiedTo
 left-form g x r =
     rw (remove-one g (writersIn x) r)
     (split (has g (writersIn x)) (λ e. rw (e, has-empty g (writersIn x) e))
@@ -75,32 +76,28 @@ left-form g x r =
 
 pub drop-form : (g : Guid) (at : MaybeTime) (x : InstanceState) → Sound (x .writers) → rising num (writersIn x) ≡ true →
     writerDropped g at x ≡ droppedOf (g ∷ []) at x
-unfolding writerDropped droppedOf
+unfolding writerDropped settled
 drop-form g at x h r =
     rw (left-form g x r)
     (split (has g (writersIn x)) (λ e. rw (e, remove-one g (writersIn x) r))
-    (λ e. let n = none-out g (writersIn x) e in rw (e, n, unemptied (g ∷ []) x n) (sym (as-it-is x h))))
+    (λ e. let n = none-out g (writersIn x) e in rw (e, unemptied (g ∷ []) x n, n) (sym (as-it-is x h))))
 
 -- ---- codes 7, one after the other
 
-dropped-none : (at : MaybeTime) (x : InstanceState) → Sound (x .writers) → droppedOf [] at x ≡ x
-unfolding droppedOf
-dropped-none at x h = rw (unemptied [] x (others-none (writersIn x)), others-none (writersIn x)) (as-it-is x h)
+pub undropped : (gone : List Guid) (at : MaybeTime) (x : InstanceState) → Sound (x .writers) → others gone (writersIn x) ≡ writersIn x → droppedOf gone at x ≡ x
+unfolding settled
+undropped gone at x h e = rw (unemptied gone x e, e) (as-it-is x h)
 
--- what is left with the set s; e says that it is emptied
-abbrev settled : Bool → MaybeTime → List Guid → InstanceState → InstanceState
-settled e at s x = cond e (sampledAt at (writerless at (withSet s x))) (withSet s x)
+left-set : (e : Bool) (at : MaybeTime) (s : List Guid) (x : InstanceState) → writersIn (settledIf e s at x) ≡ s
+left-set true at s x = members-of s
+left-set false at s x = members-of s
 
-settled-set : (e : Bool) (at : MaybeTime) (s : List Guid) (x : InstanceState) → writersIn (settled e at s x) ≡ s
-settled-set true at s x = members-of s
-settled-set false at s x = members-of s
-
-settled-twice : (e f : Bool) (at : MaybeTime) (s t : List Guid) (x : InstanceState) → (e ≡ true → f ≡ false) →
-    settled f at t (settled e at s x) ≡ settled (e || f) at t x
-settled-twice true true at s t x h = clash true refl (h refl)
-settled-twice true false at s t x h = refl
-settled-twice false true at s t x h = refl
-settled-twice false false at s t x h = refl
+left-twice : (e f : Bool) (at : MaybeTime) (s t : List Guid) (x : InstanceState) → (e ≡ true → f ≡ false) →
+    settledIf f t at (settledIf e s at x) ≡ settledIf (e || f) t at x
+left-twice true true at s t x h = clash true refl (h refl)
+left-twice true false at s t x h = refl
+left-twice false true at s t x h = refl
+left-twice false false at s t x h = refl
 
 -- s, t, u: the set is empty, is so after one loss, and after all; a, b: the instance is alive, and is so after one loss
 emptied-twice : (s t u a b : Bool) → (s ≡ true → t ≡ true) → (t ≡ true → u ≡ true) → (t ≡ false → b ≡ a) →
@@ -119,33 +116,33 @@ module _ (g : Guid) (gs : List Guid) (at : MaybeTime) (x : InstanceState) where
   next = droppedOf (g ∷ []) at x
 
   next-set : writersIn next ≡ rest
-  unfolding droppedOf
-  next-set = settled-set (emptiedBy (g ∷ []) x) at rest x
+  unfolding settled
+  next-set = left-set (emptiedBy (g ∷ []) x) at rest x
 
   next-kind : isEmpty rest ≡ false → isAlive (next .life .kind) ≡ isAlive (x .life .kind)
-  unfolding droppedOf emptiedBy
+  unfolding settled emptiedTo
   next-kind e = split (isEmpty (writersIn x)) (λ q. rw q) (λ q. rw (q, e))
 
   -- it is emptied once
   emptied-once : emptiedBy (g ∷ []) x ≡ true → emptiedBy gs next ≡ false
-  unfolding emptiedBy
+  unfolding emptiedTo
   emptied-once e =
       let b = both (not (isEmpty (writersIn x))) (isEmpty rest && isAlive (x .life .kind)) e in
       rw (next-set, both (isEmpty rest) (isAlive (x .life .kind)) (b .1) .0)
 
   emptied-more : (emptiedBy (g ∷ []) x || emptiedBy gs next) ≡ emptiedBy (g ∷ gs) x
-  unfolding emptiedBy
+  unfolding emptiedTo
   emptied-more =
       rw (next-set, others-more g gs (writersIn x))
       (emptied-twice (isEmpty (writersIn x)) (isEmpty rest) (isEmpty (others (g ∷ gs) (writersIn x))) (isAlive (x .life .kind)) (isAlive (next .life .kind))
       (others-empty (g ∷ []) (writersIn x)) (λ e. rw (others-more g gs (writersIn x)) at (others-empty gs rest e)) next-kind)
 
   dropped-more : droppedOf gs at next ≡ droppedOf (g ∷ gs) at x
-  unfolding droppedOf
+  unfolding settled
   dropped-more =
-      ap (λ (s : List Guid). settled (emptiedBy gs next) at s next) (ap (others gs) next-set ∙ others-more g gs (writersIn x))
-      ∙ settled-twice (emptiedBy (g ∷ []) x) (emptiedBy gs next) at rest (others (g ∷ gs) (writersIn x)) x emptied-once
-      ∙ ap (λ (e : Bool). settled e at (others (g ∷ gs) (writersIn x)) x) emptied-more
+      left-twice (emptiedBy (g ∷ []) x) (emptiedBy gs next) at rest (others gs (writersIn next)) x emptied-once
+      ∙ ap (λ (e : Bool). settledIf e (others gs (writersIn next)) at x) emptied-more
+      ∙ ap (λ (s : List Guid). settledIf (emptiedBy (g ∷ gs) x) s at x) (ap (others gs) next-set ∙ others-more g gs (writersIn x))
 
 -- ---- the owner
 
@@ -180,14 +177,14 @@ cleared-form (g ∷ gs) at x =
 
 -- code 18 changes nothing else
 emptied-cleared : (g : Guid) (gs : List Guid) (x : InstanceState) → emptiedBy gs (ownerCleared g x) ≡ emptiedBy gs x
-unfolding ownerCleared emptiedBy
+unfolding ownerCleared emptiedTo
 emptied-cleared g gs x = split (owns g (x .owner)) (λ e. rw e) (λ e. rw e)
 
-settled-cleared : (g : Guid) (e : Bool) (at : MaybeTime) (s : List Guid) (x : InstanceState) →
-    settled e at s (ownerCleared g x) ≡ ownerCleared g (settled e at s x)
+left-cleared : (g : Guid) (e : Bool) (at : MaybeTime) (s : List Guid) (x : InstanceState) →
+    settledIf e s at (ownerCleared g x) ≡ ownerCleared g (settledIf e s at x)
 unfolding ownerCleared
-settled-cleared g true at s x = split (owns g (x .owner)) (λ q. rw q) (λ q. rw q)
-settled-cleared g false at s x = split (owns g (x .owner)) (λ q. rw q) (λ q. rw q)
+left-cleared g true at s x = split (owns g (x .owner)) (λ q. rw q) (λ q. rw q)
+left-cleared g false at s x = split (owns g (x .owner)) (λ q. rw q) (λ q. rw q)
 
 cleared-set : (g : Guid) (x : InstanceState) → ownerCleared g x .writers ≡ x .writers
 unfolding ownerCleared
@@ -195,9 +192,9 @@ cleared-set g x = split (owns g (x .owner)) (λ e. rw e) (λ e. rw e)
 
 dropped-cleared : (g : Guid) (gs : List Guid) (at : MaybeTime) (x : InstanceState) →
     droppedOf gs at (ownerCleared g x) ≡ ownerCleared g (droppedOf gs at x)
-unfolding droppedOf
+unfolding settled
 dropped-cleared g gs at x =
-    rw (emptied-cleared g gs x, cleared-set g x) (settled-cleared g (emptiedBy gs x) at (others gs (writersIn x)) x)
+    rw (emptied-cleared g gs x, cleared-set g x) (left-cleared g (emptiedBy gs x) at (others gs (writersIn x)) x)
 
 -- ---- codes 7 and 18, one after the other
 
@@ -215,7 +212,7 @@ listed-form (g ∷ gs) at x h r =
 pub loss-form : (gs : List Guid) (at : MaybeTime) (x : InstanceState) → Sound (x .writers) → rising num (writersIn x) ≡ true →
     leftWithoutAll gs at x ≡ disownedBy gs (droppedOf gs at x)
 unfolding leftWithoutAll
-loss-form [] at x h r = sym (ap (disownedBy []) (dropped-none at x h) ∙ disowned-none x)
+loss-form [] at x h r = sym (ap (disownedBy []) (undropped [] at x h (others-none (writersIn x))) ∙ disowned-none x)
 loss-form (g ∷ gs) at x h r =
     loss-form gs at (leftWithout g at x) (sound-loss g at x h) (rises-loss g at x r)
     ∙ ap (disownedBy gs)

@@ -1,14 +1,12 @@
 -- The bytes of an instance with some of its fields written, and its flags then.
 --     alive-flags                      what they say of the kind
---     emptied-form, dropped-form       what Losses.antt says of a list that is gone
 --     emptied-same, emptied-some, emptied-dead, emptied-all      whether the new set leaves it writerless
 --     flags-in, flags-old              the flags are read from the bytes
 --     strengthened, cleared-by         the owner's bytes written
 --     set-replaced                     the set's bytes written
 --     set-same, set-less               the set replaced by one as long, and by a shorter one
 --     silent-by, given-by              it was the last set of an alive instance: without a time, and with one
---     settled-same, settled-left, settled-less      what `settle` writes of it: nothing, the end of its last set, a length
--- Assumes nothing.
+--     settled-same, settled-left, settled-less      what `write_remainder` writes of it: nothing, the end of its last set, a length
 use Prim.Native.Nat.{ℕ, zero, suc, _+_, _-_, _/_, _≤_, _<_}
 use mathlib.Core.Bool.{Bool, true, false, not, _&&_, cond, and-false}
 use mathlib.Core.List.{List, [], _∷_, _++_, append-assoc, append-nil}
@@ -34,11 +32,9 @@ use Rattle.model.specs.Sets.{setOf, isEmpty}
 use Rattle.model.proofs.FlagLaws.{flags-apart, flags-small}
 use Rattle.model.proofs.GuidLaws.{length-guids}
 use Rattle.model.proofs.Tests.{split}
-use Rattle.instance_writers.specs.Places.{Sound, padded}
-use Rattle.instance_writers.proofs.PlaceLaws.{empty-members}
-use Rattle.instance_edits.specs.Edits.{OwnerCleared, Settled, WriterlessLeft, changed, emptiedTo, leftAt, settled, unsettled, withBit, withStrength}
-use Rattle.instance_sets.specs.Others.{others}
-use Rattle.instance_edits.specs.Losses.{droppedOf, emptiedBy}
+use Rattle.writer_set.specs.Places.{Sound, padded}
+use Rattle.writer_set.proofs.PlaceLaws.{empty-members}
+use Rattle.instance_edits.specs.Edits.{OwnerCleared, Settled, WriterlessLeft, changed, emptiedTo, leftAt, settled, settledIf, unsettled, withBit, withStrength}
 use Rattle.instance_edits.proofs.FieldEdits.{put-field, read-field}
 
 -- ---- the flags of a changed instance
@@ -106,14 +102,6 @@ alive-flags : (x : InstanceState) → x .writers .len < 32 → isAlive (x .life 
 alive-flags x few = ap isAlive (sym (flags-apart x few .kind)) ∙ alive-kind (flagsOf x / 16384)
 
 -- ---- the set emptied
-
-pub emptied-form : (gone : List Guid) (x : InstanceState) → emptiedBy gone x ≡ emptiedTo (others gone (writersIn x)) x
-unfolding emptiedBy emptiedTo
-emptied-form gone x = refl
-
-pub dropped-form : (gone : List Guid) (at : MaybeTime) (x : InstanceState) → droppedOf gone at x ≡ settled (others gone (writersIn x)) at x
-unfolding droppedOf settled
-dropped-form gone at x = rw (emptied-form gone x)
 
 empty-length : (o : List Guid) → isEmpty o ≡ eqb (length o) 0
 empty-length [] = refl
@@ -265,9 +253,9 @@ module _ (at : MaybeTime) (r : List ℕ) (f : ℕ) where
 
 module _ (o : List Guid) (at : MaybeTime) (x : Instance) where
   settled-by : (b : Bool) → emptiedTo o (x .state) ≡ b →
-      instanceBytes (changed (λ (y : InstanceState). cond b (leftAt at (withSet o y)) (withSet o y)) x) ≡ instanceBytes (changed (settled o at) x)
+      instanceBytes (changed (settledIf b o at) x) ≡ instanceBytes (changed (settled o at) x)
   unfolding settled
-  settled-by b e = ap (λ (d : Bool). instanceBytes (changed (λ (y : InstanceState). cond d (leftAt at (withSet o y)) (withSet o y)) x)) (sym e)
+  settled-by b e = ap (λ (d : Bool). instanceBytes (changed (settledIf d o at) x)) (sym e)
 
 module _ (n k : ℕ) (at : MaybeTime) (r s : List ℕ) (f : ℕ) where
   pub settled-same : k ≡ n → Settled n k at r r false

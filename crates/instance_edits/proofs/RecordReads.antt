@@ -5,7 +5,6 @@
 --     owner-other, owner-there               a test of the owner's GUID, and of the flags then
 --     listed-none, listed-at, listed-missing without an owner, and what the search says of one
 --     apart-high, apart-none, apart-low      the first writer is above a span, there is none, the last is below it
--- Assumes nothing.
 use Prim.Native.Nat.{ℕ, zero, suc, _+_, _-_, _*_, _/_, _%_, _^_, _≤_, _<_}
 use mathlib.Core.Bool.{Bool, true, false, _&&_, and-false, and-true}
 use mathlib.Core.List.{List, [], _∷_, map}
@@ -36,12 +35,12 @@ use Rattle.tables.specs.Found.{foundIn}
 use Rattle.tables.specs.Keys.{keys}
 use Rattle.tables.proofs.Puts.{above-at}
 use Rattle.tables.proofs.RecordLaws.{find-at, find-none, keyed, keys-read}
-use Rattle.instance_record.proofs.Rows.{guid-in}
+use Rattle.instance_decoding.proofs.Rows.{guid-in}
 use Rattle.instance_edits.specs.declared.Span.{Span}
 use Rattle.instance_edits.specs.Edits.{Formed}
 use Rattle.instance_edits.specs.Losses.{ownedBy}
 use Rattle.instance_edits.specs.Spans.{AllOutside}
-use Rattle.instance_sets.proofs.SideBySide.{From, from-first}
+use Rattle.writer_set_bytes.proofs.SideBySide.{From, from-first}
 
 -- ---- two GUIDs by their halves
 

@@ -5,7 +5,7 @@
 --     withStrength       an owner's strength replaced
 --     unsettled          a record whose set was replaced and whose flags were not
 --     emptiedTo          the set o is the first empty one of an alive instance
---     settled            what is left with the set o
+--     settledIf, settled what is left with the set o
 --     OwnerCleared, StrengthPut, WriterlessLeft, Settled
 --                        what an edit makes of the bytes r of an instance, whichever it is: the bytes s
 use Prim.Native.Nat.{ℕ, _+_, _<_}
@@ -23,7 +23,7 @@ use Rattle.model.specs.InstanceRecord.{flag, flagsAt, flagsOf, instanceBytes, i
 use Rattle.model.specs.Instances.{isAlive, noOwner, sampledAt, withOwner, withSet, writerless, writersIn}
 use Rattle.model.specs.Sets.{isEmpty}
 use Rattle.model.specs.Tables.{rising}
-use Rattle.instance_writers.specs.Places.{Sound, padded}
+use Rattle.writer_set.specs.Places.{Sound, padded}
 
 -- key and handle stay
 abbrev pub changed : (InstanceState → InstanceState) → Instance → Instance
@@ -57,8 +57,12 @@ emptiedTo o x = not (isEmpty (writersIn x)) && (isEmpty o && isAlive (x .life .k
 abbrev pub leftAt : MaybeTime → InstanceState → InstanceState
 leftAt at x = sampledAt at (writerless at x)
 
+-- with the set o; e tells whether it is left writerless
+abbrev pub settledIf : Bool → List Guid → MaybeTime → InstanceState → InstanceState
+settledIf e o at x = cond e (leftAt at (withSet o x)) (withSet o x)
+
 unfoldable pub settled : List Guid → MaybeTime → InstanceState → InstanceState
-settled o at x = cond (emptiedTo o x) (leftAt at (withSet o x)) (withSet o x)
+settled o at x = settledIf (emptiedTo o x) o at x
 
 -- ---- what an edit makes of the bytes of an instance
 

@@ -3,26 +3,23 @@
 --     droppedOf           the writers of the list are taken out of its set
 --     ownedBy             its owner is in the list
 --     disownedBy          such an owner is cleared
-use mathlib.Core.Bool.{Bool, not, _&&_, cond}
+use mathlib.Core.Bool.{Bool, _&&_, cond}
 use mathlib.Core.List.{List}
 use Rattle.model.specs.declared.Guid.{Guid}
 use Rattle.model.specs.declared.InstanceState.{InstanceState}
 use Rattle.model.specs.declared.MaybeOwner.{MaybeOwner}
 use Rattle.model.specs.declared.MaybeTime.{MaybeTime}
-use Rattle.model.specs.Instances.{isAlive, noOwner, sampledAt, withOwner, withSet, writerless, writersIn}
-use Rattle.model.specs.Sets.{has, isEmpty}
-use Rattle.instance_sets.specs.Others.{others}
+use Rattle.model.specs.Instances.{noOwner, withOwner, writersIn}
+use Rattle.model.specs.Sets.{has}
+use Rattle.writer_set_bytes.specs.Others.{others}
+use Rattle.instance_edits.specs.Edits.{emptiedTo, settled}
 
--- it is alive, had writers and has none left
-unfoldable pub emptiedBy : List Guid → InstanceState → Bool
-emptiedBy gone x = not (isEmpty (writersIn x)) && (isEmpty (others gone (writersIn x)) && isAlive (x .life .kind))
-
-abbrev pub outOf : List Guid → InstanceState → InstanceState
-outOf gone x = withSet (others gone (writersIn x)) x
+abbrev pub emptiedBy : List Guid → InstanceState → Bool
+emptiedBy gone x = emptiedTo (others gone (writersIn x)) x
 
 -- times are given only to an instance that is left writerless
-unfoldable pub droppedOf : List Guid → MaybeTime → InstanceState → InstanceState
-droppedOf gone at x = cond (emptiedBy gone x) (sampledAt at (writerless at (outOf gone x))) (outOf gone x)
+abbrev pub droppedOf : List Guid → MaybeTime → InstanceState → InstanceState
+droppedOf gone at x = settled (others gone (writersIn x)) at x
 
 abbrev pub ownedBy : List Guid → MaybeOwner → Bool
 ownedBy gone o = o .present && has (o .guid) gone

@@ -16,7 +16,7 @@ ghost use Rattle.model.specs.Guids.{less, guidAt};
 ghost use Rattle.model.specs.InstanceRecord.{flag, flagsAt, instanceOf};
 ghost use Rattle.model.specs.Instances.{owns, ownsPrefix, writersIn};
 ghost use Rattle.instance_edits.specs.Edits.{Formed, OwnerCleared, StrengthPut, WriterlessLeft, Settled, withBit};
-ghost use Rattle.instance_sets.specs.Lists.{gonesIn, Listed};
+ghost use Rattle.writer_set_bytes.specs.Lists.{gonesIn, Listed};
 ghost use Rattle.instance_edits.specs.Losses.{ownedBy};
 ghost use Rattle.instance_edits.specs.Spans.{Outside, AllOutside};
 
@@ -65,7 +65,7 @@ pub fn owner_listed(s: &[u8], gone: &[u8], guesses: &[u8; 1024]) -> bool
         return false;
     }
     let g = guid::guid_at(s, 92);
-    match instance_sets::find_listed(gone, guesses, g) {
+    match writer_set_bytes::find_listed(gone, guesses, g) {
         Found::At(_) => true,
         Found::Missing(_) => false,
     }
@@ -119,7 +119,7 @@ fn leave_writerless(s: &mut [u8], f: u16, at: MaybeTime)
 }
 
 // What is left to write of a record whose set was just reduced from n to k GUIDs; whether that leaves it writerless.
-pub fn settle(s: &mut [u8], n: usize, k: usize, at: MaybeTime) -> bool
+pub fn write_remainder(s: &mut [u8], n: usize, k: usize, at: MaybeTime) -> bool
     requires { ⌜ (length (now s) ≡ 512) × (flagsAt (now s) % 32 ≡ n) × (k ≤ n) ⌝ }
     ensures { λ r. ⌜ Settled n k at (now (s .entry)) (now (s .exit)) r ⌝ }
 {

@@ -1,5 +1,6 @@
-// One instance by value: `take_effect`, the table of what each of the calls 1 to 21 does to it, with code 21, the purge, and a
-// started instance. Each function gives what the definition of its name in model's Instances says.
+// One instance by value: `take_effect`, the table of what each call that reaches one instance does to it, and a started
+// instance. What a call does to every instance is done in their records (instance_pass). Each function gives what the definition
+// of its name in model's Instances says.
 //
 // Derives from instance_tracker.rs of ZeroDDS.
 // Copyright 2026 ZeroDDS Contributors. SPDX-License-Identifier: Apache-2.0. Changed: written anew in Rattle; an instance is
@@ -19,37 +20,11 @@ use model::MaybeTime;
 use model::Sheet;
 use model::Times;
 use model::WriterSet;
-ghost use mathlib.Core.Bool.{true};
+ghost use mathlib.Core.Bool.{true, false};
 ghost use mathlib.Core.Option.{some};
 ghost use mathlib.Core.Path.{_≡_};
-ghost use Rattle.model.specs.Instances.{purged, effect, rule, startedState, started};
+ghost use Rattle.model.specs.Instances.{effect, rule, onEvery, startedState, started};
 ghost use Rattle.instance_fields.specs.Usable.{Usable, Room};
-ghost use Rattle.instance_effects.specs.Effects.{leftOf};
-
-// What a call leaves of an instance: its state, or nothing where it purges it.
-pub struct Effect {
-    pub keep: bool,
-    pub state: InstanceState,
-}
-
-// ---- code 21
-
-// READER_DATA_LIFECYCLE (DDS 1.4, 2.2.3.22): A is the delay of a disposed instance, B of one without writers.
-pub fn purged(s: Sheet, x: InstanceState) -> bool
-    ensures { λ r. ⌜ r ≡ purged s x ⌝ }
-{
-    let l = x.life;
-    let k = l.kind;
-    let t = x.times;
-    let disposed_at = t.disposed_at;
-    let no_writers_at = t.no_writers_at;
-    let now = s.time_2;
-    match k {
-        InstanceStateKind::Alive => false,
-        InstanceStateKind::NotAliveDisposed => sample_time::purge_due(disposed_at, now, s.a),
-        InstanceStateKind::NotAliveNoWriters => sample_time::purge_due(no_writers_at, now, s.b),
-    }
-}
 
 // ---- a started instance
 
@@ -111,61 +86,39 @@ pub fn started(key: Guid, handle: u64) -> Instance
 
 // ---- the table of the calls
 
-// The instance stays, as x.
-fn kept(x: InstanceState) -> Effect
-    ensures { λ r. ⌜ leftOf r ≡ some x ⌝ }
-{
-    Effect {
-        keep: true,
-        state: x,
-    }
-}
-
-// What a call leaves of an instance that it reaches.
-pub fn take_effect(c: InstanceCall, s: Sheet, x: InstanceState) -> Effect
-    requires { ⌜ Usable x × (rule c .«adds_writer» ≡ true → Room (s .guid) x) ⌝ }
-    ensures { λ r. ⌜ leftOf r ≡ effect c s x ⌝ }
+// What a call that reaches one instance leaves of it. A call on every instance does not come here.
+pub fn take_effect(c: InstanceCall, s: Sheet, x: InstanceState) -> InstanceState
+    requires { ⌜ (onEvery c ≡ false) × Usable x × (rule c .«adds_writer» ≡ true → Room (s .guid) x) ⌝ }
+    ensures { λ r. ⌜ effect c s x ≡ some r ⌝ }
 {
     let g = s.guid;
     let t = s.time_1;
     let n = s.second;
     match c {
-        InstanceCall::Register => kept(instance_lifecycle::registered(s, x)),
-        InstanceCall::EnsureRegisteredLimited => kept(instance_lifecycle::ensured(x)),
-        InstanceCall::Dispose => kept(instance_lifecycle::disposed(if_present(t), x)),
-        InstanceCall::Unregister => kept(instance_lifecycle::unregistered(if_present(t), x)),
-        InstanceCall::UnregisterWriter => kept(instance_lifecycle::writer_unregistered(
+        InstanceCall::Register => instance_lifecycle::registered(s, x),
+        InstanceCall::EnsureRegisteredLimited => instance_lifecycle::ensured(x),
+        InstanceCall::Dispose => instance_lifecycle::disposed(if_present(t), x),
+        InstanceCall::Unregister => instance_lifecycle::unregistered(if_present(t), x),
+        InstanceCall::UnregisterWriter => instance_lifecycle::writer_unregistered(
             g,
             if_present(t),
             x,
-        )),
-        InstanceCall::NoteWriter => kept(instance_fields::writer_noted(g, x)),
-        InstanceCall::DropWriter => kept(instance_lifecycle::writer_dropped(g, if_present(t), x)),
-        InstanceCall::ObserveLifecycle => kept(instance_samples::lifecycle_observed(s, x)),
-        InstanceCall::ObserveAdmitted => kept(instance_samples::admitted_observed(s, x)),
-        InstanceCall::NoteAdmitted => kept(instance_samples::admitted_noted(s, x)),
-        InstanceCall::RecordDelivery => kept(instance_samples::delivery_recorded(always(t), x)),
-        InstanceCall::NoteTaken => kept(instance_samples::viewed(
-            false,
-            instance_samples::drained(n, x),
-        )),
-        InstanceCall::MarkViewSeen => kept(instance_samples::viewed(false, x)),
-        InstanceCall::MarkViewNew => kept(instance_samples::viewed(true, x)),
-        InstanceCall::DrainSamples => kept(instance_samples::drained(n, x)),
-        InstanceCall::AcceptUnderExclusiveOwnership => kept(instance_ownership::ownership_tried(
-            s,
-            x,
-        )),
-        InstanceCall::UpdateOwnerStrength => kept(instance_ownership::strength_updated(g, n, x)),
-        InstanceCall::ClearOwnerForWriter => kept(instance_ownership::owner_cleared(g, x)),
-        InstanceCall::ClearOwnerForWriterPrefix => kept(instance_ownership::prefix_cleared(g, x)),
-        InstanceCall::ReleaseOwnerOf => kept(instance_ownership::owner_cleared(g, x)),
-        InstanceCall::Autopurge => {
-            let gone = purged(s, x);
-            Effect {
-                keep: !gone,
-                state: x,
-            }
-        }
+        ),
+        InstanceCall::NoteWriter => instance_fields::writer_noted(g, x),
+        InstanceCall::DropWriter => x,
+        InstanceCall::ObserveLifecycle => instance_samples::lifecycle_observed(s, x),
+        InstanceCall::ObserveAdmitted => instance_samples::admitted_observed(s, x),
+        InstanceCall::NoteAdmitted => instance_samples::admitted_noted(s, x),
+        InstanceCall::RecordDelivery => instance_samples::delivery_recorded(always(t), x),
+        InstanceCall::NoteTaken => instance_samples::viewed(false, instance_samples::drained(n, x)),
+        InstanceCall::MarkViewSeen => instance_samples::viewed(false, x),
+        InstanceCall::MarkViewNew => instance_samples::viewed(true, x),
+        InstanceCall::DrainSamples => instance_samples::drained(n, x),
+        InstanceCall::AcceptUnderExclusiveOwnership => instance_ownership::ownership_tried(s, x),
+        InstanceCall::UpdateOwnerStrength => x,
+        InstanceCall::ClearOwnerForWriter => x,
+        InstanceCall::ClearOwnerForWriterPrefix => x,
+        InstanceCall::ReleaseOwnerOf => instance_ownership::owner_cleared(g, x),
+        InstanceCall::Autopurge => x,
     }
 }

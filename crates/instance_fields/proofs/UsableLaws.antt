@@ -3,7 +3,6 @@
 --     without-sound                a sound set stays sound without a GUID
 --     sound-after                  what a call leaves has a sound writer set
 --     sound-loss, sound-losses     so does what the loss of a writer, or of several, leaves
--- Assumes nothing.
 use Prim.Native.Nat.{_^_}
 use mathlib.Core.Bool.{true}
 use mathlib.Core.List.{List}
@@ -25,8 +24,8 @@ use Rattle.model.specs.WellFormed.{instanceStateOk}
 use Rattle.model.proofs.Keeps.{set-kept, set-loss, set-losses}
 use Rattle.model.proofs.SetLaws.{remove-le}
 use Rattle.model.proofs.Valid.{valid-parts}
-use Rattle.instance_writers.specs.Places.{Sound}
-use Rattle.instance_writers.proofs.SetLaws.{set-sound, sound-of}
+use Rattle.writer_set.specs.Places.{Sound}
+use Rattle.writer_set.proofs.SetLaws.{set-sound, sound-of}
 use Rattle.instance_fields.specs.Usable.{Usable, Room}
 
 pub usable : (x : InstanceState) → length (x .writers .items) ≡ 16 → instanceStateOk x ≡ true → Usable x

@@ -8,7 +8,7 @@ use Rattle.model.specs.declared.InstanceState.{InstanceState}
 use Rattle.model.specs.declared.Life.{Life}
 use Rattle.model.specs.Instances.{topGeneration, writersIn}
 use Rattle.model.specs.Sets.{setPlaces, insert}
-use Rattle.instance_writers.specs.Places.{Sound}
+use Rattle.writer_set.specs.Places.{Sound}
 
 -- generations within their bound
 pub record UsableLife (l : Life) : Type 0 where

@@ -17,7 +17,7 @@ ghost use mathlib.Core.Bool.{cond};
 ghost use mathlib.Core.Path.{_≡_};
 ghost use Rattle.model.specs.Instances.{withLife, withTimes, withOwner, withHolder, withWriters, withKind, withView, withGenerations, withWriterCount, withSamples, withLastSample, withDelivery, withDisposedAt, withNoWritersAt, withOwnerAt, isAlive, isDisposed, revived, revivedNew, sampledAt, stored, writerNoted};
 ghost use Rattle.model.specs.Times.{always, ifPresent, given};
-ghost use Rattle.instance_writers.specs.Places.{Sound};
+ghost use Rattle.writer_set.specs.Places.{Sound};
 ghost use Rattle.instance_fields.specs.Usable.{UsableLife, Room};
 
 // ---- an instance with one group of its fields changed
@@ -288,5 +288,5 @@ pub fn writer_noted(g: Guid, x: InstanceState) -> InstanceState
     ensures { λ r. ⌜ r ≡ writerNoted g x ⌝ }
 {
     let w = x.writers;
-    with_writers(instance_writers::with_writer(w, g), x)
+    with_writers(writer_set::with_writer(w, g), x)
 }

@@ -1,4 +1,4 @@
--- The hash byte by byte, and a GUID's sixteen bytes as two stores leave them. Assumes nothing.
+-- The hash byte by byte, and a GUID's sixteen bytes as two stores leave them.
 use Prim.Native.Nat.{ℕ, _+_, _≤_, _<_}
 use mathlib.Core.List.{List, [], _∷_, append-nil}
 use mathlib.Core.Path.{_≡_, _∙_}

@@ -1,6 +1,5 @@
-// Codes 1 to 5 and 7 on one instance by value: it is registered, disposed and unregistered, and loses its writers. Each
-// function gives what the definition of its name in model's Instances says. Code 6 is in
-// instance_fields.
+// Codes 1 to 5 on one instance by value: it is registered, disposed and unregistered. Each function gives what the definition
+// of its name in model's Instances says. Code 6 is in instance_fields.
 //
 // Derives from instance_tracker.rs of ZeroDDS.
 // Copyright 2026 ZeroDDS Contributors. SPDX-License-Identifier: Apache-2.0. Changed: written anew in Rattle; an instance is
@@ -31,9 +30,9 @@ ghost use mathlib.Core.Bool.{not, _&&_};
 ghost use mathlib.Core.Path.{_≡_};
 ghost use lib.Dec.{eqb};
 ghost use Prim.Native.Nat.{_-_, max};
-ghost use Rattle.model.specs.Instances.{isAlive, isDisposed, writerless, writersIn, countedDown, without, registered, ensured, disposed, unregistered, writerUnregistered, leftBy, writerDropped};
+ghost use Rattle.model.specs.Instances.{isAlive, isDisposed, writerless, writersIn, countedDown, without, registered, ensured, disposed, unregistered, writerUnregistered};
 ghost use Rattle.model.specs.Sets.{isEmpty};
-ghost use Rattle.instance_writers.specs.Places.{Sound};
+ghost use Rattle.writer_set.specs.Places.{Sound};
 ghost use Rattle.instance_fields.specs.Usable.{UsableLife};
 
 // ---- the parts of which the calls are made
@@ -64,7 +63,7 @@ fn without(g: Guid, x: InstanceState) -> InstanceState
     ensures { λ r. ⌜ r ≡ without g x ⌝ }
 {
     let w = x.writers;
-    with_writers(instance_writers::without_writer(w, g), x)
+    with_writers(writer_set::without_writer(w, g), x)
 }
 
 // ---- codes 1 and 2
@@ -146,7 +145,7 @@ fn is_writerless(x: InstanceState) -> bool
     let w = x.writers;
     let l = x.life;
     let k = l.kind;
-    if instance_writers::is_empty(w) {
+    if writer_set::is_empty(w) {
         return is_alive(k);
     }
     false
@@ -162,35 +161,4 @@ pub fn writer_unregistered(g: Guid, at: MaybeTime, x: InstanceState) -> Instance
         return sampled_at(at, writerless(at, rest));
     }
     sampled_at(at, rest)
-}
-
-// ---- code 7
-
-// The loss of the writer leaves an alive instance writerless: it is the only one.
-pub fn left_by(g: Guid, x: InstanceState) -> bool
-    requires { ⌜ Sound (x .writers) ⌝ }
-    ensures { λ r. ⌜ r ≡ leftBy g x ⌝ }
-{
-    let w = x.writers;
-    let l = x.life;
-    let k = l.kind;
-    if w.len != 1 {
-        return false;
-    }
-    if instance_writers::holds(w, g) {
-        return is_alive(k);
-    }
-    false
-}
-
-// The writer is lost to the instance (DDS 1.4, 2.2.2.5.1.3): times are given only to one that is left writerless.
-pub fn writer_dropped(g: Guid, at: MaybeTime, x: InstanceState) -> InstanceState
-    requires { ⌜ Sound (x .writers) ⌝ }
-    ensures { λ r. ⌜ r ≡ writerDropped g at x ⌝ }
-{
-    let y = without(g, x);
-    if left_by(g, x) {
-        return sampled_at(at, writerless(at, y));
-    }
-    y
 }

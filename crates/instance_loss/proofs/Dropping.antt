@@ -4,7 +4,6 @@
 --     set-back           the record when the part is back
 --     flags-kept         its flags are still those of the instance
 --     dropped-left       what is left once the flags are settled
--- Assumes nothing.
 use Prim.Native.Nat.{ℕ, _-_, _%_, _≤_, _<_}
 use mathlib.Core.Bool.{Bool}
 use mathlib.Core.List.{List, [], _++_, append-nil, append-assoc}
@@ -18,7 +17,6 @@ use Rattle.octets.specs.Patch.{fields}
 use Rattle.octets.proofs.PatchLaws.{length-fields}
 use Rattle.model.specs.declared.Guid.{Guid}
 use Rattle.model.specs.declared.Instance.{Instance}
-use Rattle.model.specs.declared.InstanceState.{InstanceState}
 use Rattle.model.specs.declared.MaybeTime.{MaybeTime}
 use Rattle.model.specs.Guids.{guidOf, guidsIn, guidsBytes}
 use Rattle.model.specs.InstanceRecord.{flagsAt, instanceOf, instanceBytes, instanceValues, instanceWidths}
@@ -26,14 +24,14 @@ use Rattle.model.specs.Instances.{writersIn}
 use Rattle.model.proofs.GuidLaws.{bytes-drop, guids-forth}
 use Rattle.model.proofs.InstanceLaws.{instance-fits, instance-forth}
 use Rattle.model.proofs.RowLaws.{length-read, take-read}
-use Rattle.instance_record.proofs.Rows.{put-back}
-use Rattle.instance_writers.specs.Places.{padded}
-use Rattle.instance_sets.specs.Others.{others}
-use Rattle.instance_sets.specs.Walks.{Filled}
-use Rattle.instance_sets.proofs.SideBySide.{length-others}
-use Rattle.instance_edits.specs.Edits.{changed, Formed, Settled, settled, unsettled}
+use Rattle.instance_decoding.proofs.Rows.{put-back}
+use Rattle.writer_set.specs.Places.{padded}
+use Rattle.writer_set_bytes.specs.Others.{others}
+use Rattle.writer_set_bytes.specs.Walks.{Filled}
+use Rattle.writer_set_bytes.proofs.SideBySide.{length-others}
+use Rattle.instance_edits.specs.Edits.{changed, Formed, Settled, unsettled}
 use Rattle.instance_edits.specs.Losses.{emptiedBy, droppedOf}
-use Rattle.instance_edits.proofs.RecordEdits.{dropped-form, emptied-form, flags-in, flags-old}
+use Rattle.instance_edits.proofs.RecordEdits.{flags-in, flags-old}
 
 module _ (r : List ℕ) (bytes : Bytes r) (f : Formed r) where
   abbrev x : Instance
@@ -121,7 +119,4 @@ module _ (r : List ℕ) (bytes : Bytes r) (f : Formed r) where
     pub dropped-left : (at : MaybeTime) (s : List ℕ) (left : Bool) → Settled (v % 32) k at (putMid 256 256 r set′) s left →
         (s ≡ instanceBytes (changed (droppedOf gone at) x)) × (left ≡ emptiedBy gone (x .state))
     dropped-left at s left t =
-        let u = t x o is-unsettled (f .sound) (len-is ∙ rw e) (sym (c ∙ ap length others-are)) in (
-          u .0 ∙ ap (λ (y : InstanceState). instanceBytes record { key = x .key; handle = x .handle; state = y }) (sym (dropped-form gone at (x .state))),
-          u .1 ∙ sym (emptied-form gone (x .state)),
-        )
+        t x o is-unsettled (f .sound) (len-is ∙ rw e) (sym (c ∙ ap length others-are))

@@ -4,9 +4,8 @@
 --     few-left, owner-left     what is left of an instance that drops writers: its set is small enough, its owner is the same
 --     owner-flag               the flag of the owner in its bytes
 --     lost-left                the record once the owner is cleared where it goes
--- Assumes nothing.
 use Prim.Native.Nat.{ℕ, suc, _<_}
-use mathlib.Core.Bool.{Bool, true, false, not, _&&_, cond, and-false}
+use mathlib.Core.Bool.{Bool, true, false, _&&_, cond, and-false}
 use mathlib.Core.List.{List, [], _∷_}
 use mathlib.Core.Logic.{⊎-elim}
 use mathlib.Core.Path.{_≡_, refl, sym, ap, _∙_}
@@ -22,19 +21,19 @@ use Rattle.model.specs.declared.MaybeOwner.{MaybeOwner}
 use Rattle.model.specs.declared.MaybeTime.{MaybeTime}
 use Rattle.model.specs.Guids.{num}
 use Rattle.model.specs.InstanceRecord.{flag, flagsAt, instanceOf, instanceBytes}
-use Rattle.model.specs.Instances.{isAlive, noOwner, withOwner, writersIn}
-use Rattle.model.specs.Sets.{has, isEmpty, setOf}
+use Rattle.model.specs.Instances.{noOwner, withOwner, writersIn}
+use Rattle.model.specs.Sets.{has, setOf}
 use Rattle.model.proofs.FlagLaws.{flags-apart}
 use Rattle.model.proofs.InstanceLaws.{instance-forth}
 use Rattle.model.proofs.Tests.{both, split}
-use Rattle.instance_writers.specs.Places.{Sound}
-use Rattle.instance_sets.specs.Others.{others}
-use Rattle.instance_sets.proofs.SideBySide.{Below, From, others-apart-low, others-apart-high, length-others}
+use Rattle.writer_set.specs.Places.{Sound}
+use Rattle.writer_set_bytes.specs.Others.{others}
+use Rattle.writer_set_bytes.proofs.SideBySide.{Below, From, others-apart-low, others-apart-high, length-others}
 use Rattle.instance_edits.specs.declared.Span.{Span}
-use Rattle.instance_edits.specs.Edits.{OwnerCleared, changed, Formed}
+use Rattle.instance_edits.specs.Edits.{OwnerCleared, changed, Formed, settled}
 use Rattle.instance_edits.specs.Losses.{emptiedBy, droppedOf, ownedBy, disownedBy}
 use Rattle.instance_edits.specs.Spans.{Outside, AllOutside}
-use Rattle.instance_edits.proofs.LossForms.{as-it-is}
+use Rattle.instance_edits.proofs.LossForms.{undropped, unemptied}
 use Rattle.instance_edits.proofs.RecordEdits.{flags-in}
 use Rattle.instance_loss.specs.Lost.{Within, ClearedIf, lostBy}
 
@@ -57,19 +56,6 @@ apart-others w gone s o h =
     ⊎-elim (λ b. others-apart-low (num (w .low)) gone s b (within-from w gone h))
     (λ b. others-apart-high (suc (num (w .high))) gone s (within-below w gone h) (above-from (num (w .high)) s b)) o
 
-no-more : (s : List Guid) (b : Bool) → (not (isEmpty s) && (isEmpty s && b)) ≡ false
-no-more [] b = refl
-no-more (g ∷ s) b = refl
-
-module _ (gone : List Guid) (at : MaybeTime) (x : InstanceState) where
-  still-there : others gone (writersIn x) ≡ writersIn x → emptiedBy gone x ≡ false
-  unfolding emptiedBy
-  still-there e = rw e (no-more (writersIn x) (isAlive (x .life .kind)))
-
-  still-same : Sound (x .writers) → others gone (writersIn x) ≡ writersIn x → droppedOf gone at x ≡ x
-  unfolding droppedOf
-  still-same h e = rw (still-there e, e) (as-it-is x h)
-
 pub apart-stays : (w : Span) (gone : List Guid) (at : MaybeTime) (r s : List ℕ) (b : Bool) → Bytes r → Formed r → All (Within w) gone →
     (b ≡ true → AllOutside w (writersIn (instanceOf r .state))) → b ≡ true → s ≡ r →
     (s ≡ instanceBytes (changed (droppedOf gone at) (instanceOf r))) × (false ≡ emptiedBy gone (instanceOf r .state))
@@ -77,8 +63,8 @@ apart-stays w gone at r s b bytes f h o e q =
     let x = instanceOf r in
     let k : others gone (writersIn (x .state)) ≡ writersIn (x .state) = apart-others w gone (writersIn (x .state)) (o e) h in (
       q ∙ sym (instance-forth r bytes (f .size) (f .kind))
-          ∙ ap (λ (y : InstanceState). instanceBytes record { key = x .key; handle = x .handle; state = y }) (sym (still-same gone at (x .state) (f .sound) k)),
-      sym (still-there gone at (x .state) k),
+          ∙ ap (λ (y : InstanceState). instanceBytes record { key = x .key; handle = x .handle; state = y }) (sym (undropped gone at (x .state) (f .sound) k)),
+      sym (unemptied gone (x .state) k),
     )
 
 not-in : (w : Span) (g : Guid) (gone : List Guid) → Outside w g → All (Within w) gone → has g gone ≡ false
@@ -104,14 +90,14 @@ cleared-no b e x q m h = rw e q
 
 module _ (gone : List Guid) (at : MaybeTime) (x : InstanceState) where
   pub few-left : Sound (x .writers) → droppedOf gone at x .writers .len < 32
-  unfolding droppedOf setOf
+  unfolding settled setOf
   few-left h =
       let n : length (others gone (writersIn x)) < 32 =
       omega (arith, length-others gone (writersIn x), length-take (x .writers .len) (x .writers .items), h .few) in
       split (emptiedBy gone x) (λ e. rw e n) (λ e. rw e n)
 
   pub owner-left : droppedOf gone at x .owner ≡ x .owner
-  unfolding droppedOf
+  unfolding settled
   owner-left = split (emptiedBy gone x) (λ e. rw e) (λ e. rw e)
 
 module _ (clears : Bool) (gone : List Guid) (at : MaybeTime) (r r₁ : List ℕ) (b : Bool) (f : Formed r)

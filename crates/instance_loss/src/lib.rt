@@ -11,7 +11,7 @@ ghost use mathlib.Core.Path.{_≡_};
 ghost use lib.ListN.{length};
 ghost use Rattle.octets.specs.Lay.{All};
 ghost use Rattle.model.specs.InstanceRecord.{flag, flagsAt, instanceOf, instanceBytes};
-ghost use Rattle.instance_sets.specs.Lists.{gonesIn, Listed};
+ghost use Rattle.writer_set_bytes.specs.Lists.{gonesIn, Listed};
 ghost use Rattle.instance_edits.specs.Edits.{changed, Formed};
 ghost use Rattle.instance_edits.specs.Losses.{emptiedBy, droppedOf, ownedBy};
 ghost use Rattle.instance_loss.specs.Lost.{Within, ClearedIf, lostBy, toldOf};
@@ -31,8 +31,8 @@ fn drop_listed(s: &mut [u8], gone: &[u8], guesses: &[u8; 1024], at: MaybeTime) -
         × (r ≡ emptiedBy (gonesIn (now (gone .entry))) (instanceOf (now (s .entry)) .state)) ⌝ }
 {
     let n = (octets::get_u16(s, 24) % 32) as usize;
-    let k = instance_sets::keep_others(&mut s[256..512], n, gone, guesses);
-    instance_edits::settle(s, n, k, at)
+    let k = writer_set_bytes::keep_others(&mut s[256..512], n, gone, guesses);
+    instance_edits::write_remainder(s, n, k, at)
 }
 
 // The same of a list within a span: a set apart from the span stays as it is.

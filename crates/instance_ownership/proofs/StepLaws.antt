@@ -1,4 +1,4 @@
--- A bid against a present owner of another GUID, by its strength: bid-more, bid-equal, bid-less. Assumes nothing.
+-- A bid against a present owner of another GUID, by its strength: bid-more, bid-equal, bid-less.
 use Prim.Native.Nat.{ℕ, _<_, _≤_}
 use mathlib.Core.Bool.{true, false}
 use mathlib.Core.Path.{_≡_}

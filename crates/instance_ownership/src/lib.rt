@@ -1,4 +1,4 @@
-// Codes 16 to 20 on one instance by value: OWNERSHIP and OWNERSHIP_STRENGTH (DDS 1.4, 2.2.3.9, 2.2.3.10). Each function gives
+// Codes 16 and 20 on one instance by value: OWNERSHIP and OWNERSHIP_STRENGTH (DDS 1.4, 2.2.3.9, 2.2.3.10). Each function gives
 // what the definition of its name in model's Instances says. An owner is lost in four ways (2.2.3.9.2): to a stronger writer, by
 // a change of its own strength, with its liveliness, and by a missed deadline.
 //
@@ -14,7 +14,7 @@ use model::InstanceState;
 use model::MaybeOwner;
 use model::Sheet;
 ghost use mathlib.Core.Path.{_≡_};
-ghost use Rattle.model.specs.Instances.{withOwner, noOwner, owns, ownsPrefix, outbids, takesOver, ownedFrom, ownershipTried, strengthUpdated, ownerCleared, prefixCleared};
+ghost use Rattle.model.specs.Instances.{withOwner, noOwner, owns, outbids, takesOver, ownedFrom, ownershipTried, ownerCleared};
 
 // Whether o is the writer's ownership.
 pub fn owns(g: Guid, o: MaybeOwner) -> bool
@@ -23,18 +23,6 @@ pub fn owns(g: Guid, o: MaybeOwner) -> bool
     let og = o.guid;
     if o.present {
         return guid::is_same(og, g);
-    }
-    false
-}
-
-// Whether o is the ownership of one of the participant's writers: where a participant's lease ends, its GUID prefix is all
-// that is known.
-pub fn owns_prefix(g: Guid, o: MaybeOwner) -> bool
-    ensures { λ r. ⌜ r ≡ ownsPrefix g o ⌝ }
-{
-    let og = o.guid;
-    if o.present {
-        return guid::same_prefix(og, g);
     }
     false
 }
@@ -108,24 +96,6 @@ pub fn ownership_tried(s: Sheet, x: InstanceState) -> InstanceState
     x
 }
 
-// The owner announces another strength (2.2.3.9.2). It stays the owner: a writer that is now stronger takes over with its next
-// sample.
-pub fn strength_updated(g: Guid, strength: u32, x: InstanceState) -> InstanceState
-    ensures { λ r. ⌜ r ≡ strengthUpdated g strength x ⌝ }
-{
-    let o = x.owner;
-    let og = o.guid;
-    if owns(g, o) {
-        let n = MaybeOwner {
-            present: true,
-            guid: og,
-            strength: strength,
-        };
-        return with_owner(n, x);
-    }
-    x
-}
-
 // The instance with no owner: the next sample of any writer takes it over. The time of the last owner stays, as in the original;
 // nothing asks for it until there is an owner again.
 fn unowned(x: InstanceState) -> InstanceState
@@ -140,23 +110,12 @@ fn unowned(x: InstanceState) -> InstanceState
     with_owner(o, x)
 }
 
-// The writer's ownership is cleared: it lost its liveliness, or unregistered the instance and gave it up (2.2.3.23.3).
+// The writer's ownership is cleared: it unregistered the instance and gave it up (2.2.3.23.3).
 pub fn owner_cleared(g: Guid, x: InstanceState) -> InstanceState
     ensures { λ r. ⌜ r ≡ ownerCleared g x ⌝ }
 {
     let o = x.owner;
     if owns(g, o) {
-        return unowned(x);
-    }
-    x
-}
-
-// The ownership of the participant's writers is cleared: they are gone with it.
-pub fn prefix_cleared(g: Guid, x: InstanceState) -> InstanceState
-    ensures { λ r. ⌜ r ≡ prefixCleared g x ⌝ }
-{
-    let o = x.owner;
-    if owns_prefix(g, o) {
         return unowned(x);
     }
     x

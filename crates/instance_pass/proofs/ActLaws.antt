@@ -1,7 +1,6 @@
 -- Acts over the instances of a list.
 --     Agree, passed-as     acts that agree on each instance leave the same of a pass
 --     all-kept             an act that purges nothing leaves as many
--- Assumes nothing.
 use Prim.Native.Nat.{ℕ, _+_}
 use mathlib.Core.Bool.{true}
 use mathlib.Core.List.{List, [], _∷_}
@@ -17,7 +16,7 @@ use Rattle.model.specs.InstanceCalls.{kept, handleBytes}
 use Rattle.model.specs.Tables as tables
 use Rattle.model.specs.Tables.{isSome, pick, sift}
 use Rattle.model.proofs.Tests.{clash}
-use Rattle.instance_pass.specs.declared.Tally.{Tally}
+use Rattle.instance_pass.specs.declared.PassCounts.{PassCounts}
 use Rattle.instance_pass.specs.Acts.{Act, Keeps}
 use Rattle.instance_pass.specs.Passes.{remaining, listing, amount, total, Passed}
 
@@ -45,7 +44,7 @@ module _ (a b : Act) where
   same-counted [] h = refl
   same-counted (x ∷ xs) h = rw (h .0 .counted, same-counted xs (h .1))
 
-  pub passed-as : (xs : List Instance) (t out t′ out′ : List ℕ) (r : Tally) → All (Agree a b) xs → Passed a xs t out t′ out′ r → Passed b xs t out t′ out′ r
+  pub passed-as : (xs : List Instance) (t out t′ out′ : List ℕ) (r : PassCounts) → All (Agree a b) xs → Passed a xs t out t′ out′ r → Passed b xs t out t′ out′ r
   passed-as xs t out t′ out′ r h p =
       record {
         laid = λ places l. rw (same-left xs h) at (p .laid places l);

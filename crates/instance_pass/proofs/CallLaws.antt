@@ -5,7 +5,6 @@
 --     Every, every-turn      model's call, by the steps of a pass
 --     every-few, every-left  the bounds of its tally; the call from its pass
 --     Lost, lost             what model says of the loss of writers, by the steps of a pass
--- Assumes nothing.
 use Prim.Native.Nat.{ℕ, _+_, _*_, _≤_}
 use mathlib.Core.Bool.{Bool, true, false}
 use mathlib.Core.List.{List, [], _∷_}
@@ -37,7 +36,7 @@ use Rattle.model.proofs.RowLaws.{length-read}
 use Rattle.model.proofs.Tests.{split}
 use Rattle.model.proofs.TableLaws.{length-sift}
 use Rattle.instance_table.proofs.LaidOut.{table-formed, table-laid}
-use Rattle.instance_pass.specs.declared.Tally.{Tally}
+use Rattle.instance_pass.specs.declared.PassCounts.{PassCounts}
 use Rattle.instance_pass.specs.Acts.{Act, Bounded}
 use Rattle.instance_pass.specs.Steps.{callAct, lossAct, ownerAct}
 use Rattle.instance_pass.specs.Passes.{remaining, listing, amount, total, Passed}
@@ -59,12 +58,12 @@ unfolding total
 total-le a h [] = omega arith
 total-le a h (x ∷ xs) = omega (arith, h x, total-le a h xs)
 
-pub record Few (r : Tally) (n : ℕ) : Type 0 where
+pub record Few (r : PassCounts) (n : ℕ) : Type 0 where
   pub kept : r .kept ≤ n
   pub listed : r .listed ≤ n
   pub counted : r .counted ≤ n * 256
 
-pub passed-few : (a : Act) (xs : List Instance) (t out t′ out′ : List ℕ) (r : Tally) → Bounded a → Passed a xs t out t′ out′ r → Few r (length xs)
+pub passed-few : (a : Act) (xs : List Instance) (t out t′ out′ : List ℕ) (r : PassCounts) → Bounded a → Passed a xs t out t′ out′ r → Few r (length xs)
 passed-few a xs t out t′ out′ r h d =
     record {
       kept = omega (arith, d .kept, length-sift (remaining a) xs);
@@ -84,7 +83,7 @@ reporting Purge = Autopurge
 reported : (c : InstanceCall) → onEvery c ≡ true → c ≡ reporting (rule c .reports)
 reported c h = every-cases (λ (d : InstanceCall). d ≡ reporting (rule d .reports)) c h refl refl refl refl refl
 
-module _ (c : InstanceCall) (s : Sheet) (k : Report) (h : onEvery c ≡ true) (e : k ≡ rule c .reports) (xs : List Instance) (t out t′ out′ : List ℕ) (r : Tally) where
+module _ (c : InstanceCall) (s : Sheet) (k : Report) (h : onEvery c ≡ true) (e : k ≡ rule c .reports) (xs : List Instance) (t out t′ out′ : List ℕ) (r : PassCounts) where
   pub by-report : (v : Report) → k ≡ v → Passed (callAct (reporting v) s) xs t out t′ out′ r → Passed (callAct c s) xs t out t′ out′ r
   by-report v q p =
       let d : c ≡ reporting v = reported c h ∙ ap reporting (sym e ∙ q) in
@@ -117,7 +116,7 @@ every-turn places c s xs next e =
     record { answer = ap counting (total-pick (isPurged s) xs); instances = refl; same = refl; list = refl }
 
 -- the bounds of its tally
-pub every-few : (places count next : ℕ) (c : InstanceCall) (s : Sheet) (t out t′ out′ : List ℕ) (r : Tally) → TableFormed places count next t →
+pub every-few : (places count next : ℕ) (c : InstanceCall) (s : Sheet) (t out t′ out′ : List ℕ) (r : PassCounts) → TableFormed places count next t →
     Passed (callAct c s) (instancesIn count t) t out t′ out′ r → Few r 128
 every-few places count next c s t out t′ out′ r d p =
     let h = table-editable places count next t d in
@@ -126,7 +125,7 @@ every-few places count next c s t out t′ out′ r d p =
     record { kept = omega (arith, w .kept, h .few); listed = omega (arith, w .listed, h .few); counted = omega (arith, w .counted, h .few) }
 
 -- the call from its pass
-pub every-left : (places count : ℕ) (c : InstanceCall) (s : Sheet) (next : InstanceHandle) (t out t′ out′ : List ℕ) (r : Tally) (a : Answer) → onEvery c ≡ true →
+pub every-left : (places count : ℕ) (c : InstanceCall) (s : Sheet) (next : InstanceHandle) (t out t′ out′ : List ℕ) (r : PassCounts) (a : Answer) → onEvery c ≡ true →
     Bytes t → TableFormed places count (next .0) t →
     Passed (callAct c s) (instancesIn count t) t out t′ out′ r →
     a ≡ answerAs (rule c .reports) (r .listed) (r .counted) →

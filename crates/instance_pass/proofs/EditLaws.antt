@@ -3,7 +3,6 @@
 --     formed-part, edited-part, edited-as, unedited
 --                                     a record lent and given back changed; one that stayed
 --     record-formed                   record i of it, while those from i on are as they were
--- Assumes nothing.
 use Prim.Native.Nat.{ℕ, zero, suc, _+_, _-_, _*_, _≤_, _<_}
 use mathlib.Core.Bool.{true}
 use mathlib.Core.List.{List, [], _∷_, _++_}
@@ -31,10 +30,10 @@ use Rattle.model.specs.WellFormed.{instanceOk, kindsOk}
 use Rattle.model.proofs.RowLaws.{length-read, get-read}
 use Rattle.model.proofs.Tests.{both}
 use Rattle.model.proofs.Valid.{valid-parts}
-use Rattle.instance_writers.specs.Places.{Sound}
-use Rattle.instance_writers.proofs.SetLaws.{members-rise}
-use Rattle.instance_record.specs.Parts.{recordAt}
-use Rattle.instance_record.proofs.Rows.{lent-part, put-back}
+use Rattle.writer_set.specs.Places.{Sound}
+use Rattle.writer_set.proofs.SetLaws.{members-rise}
+use Rattle.instance_decoding.specs.Parts.{recordAt}
+use Rattle.instance_decoding.proofs.Rows.{lent-part, put-back}
 use Rattle.instance_fields.proofs.UsableLaws.{usable}
 use Rattle.instance_edits.specs.Edits.{changed, Formed}
 use Rattle.instance_table.specs.TableCalls.{TableFormed}

@@ -2,7 +2,6 @@
 --     total-append, total-take             the sum, an instance more
 --     total-pick                           the sum of a test's bits is the number of which it holds
 --     drop-same                            what agrees from n on agrees from later on
--- Assumes nothing.
 use Prim.Native.Nat.{ℕ, _+_, _-_, _≤_, _<_}
 use mathlib.Core.Bool.{Bool}
 use mathlib.Core.List.{List, [], _∷_, _++_}

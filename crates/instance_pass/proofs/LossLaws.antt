@@ -6,7 +6,6 @@
 --                                 a list as bytes; one of one writer
 --     drop-passed                 code 7 for the writer of a sheet
 --     loss-bounded, by-bounded    how much an instance counts at most
--- Assumes nothing.
 use Prim.Native.Nat.{ℕ, _+_, _-_, _*_, _/_, _≤_, _<_}
 use mathlib.Core.Bool.{Bool, true, false, _&&_, cond}
 use mathlib.Core.List.{List, [], _∷_, append-nil}
@@ -40,16 +39,16 @@ use Rattle.model.proofs.Fits.{FitsGuid}
 use Rattle.model.proofs.GuidLaws.{length-guids, guids-back}
 use Rattle.model.proofs.HandleLists.{list-start}
 use Rattle.model.proofs.RowLaws.{length-read}
-use Rattle.instance_writers.specs.Places.{Sound}
-use Rattle.instance_record.specs.Parts.{recordAt}
-use Rattle.instance_record.proofs.Rows.{put-back}
+use Rattle.writer_set.specs.Places.{Sound}
+use Rattle.instance_decoding.specs.Parts.{recordAt}
+use Rattle.instance_decoding.proofs.Rows.{put-back}
 use Rattle.instance_edits.specs.Edits.{changed}
 use Rattle.instance_edits.specs.Losses.{ownedBy}
 use Rattle.instance_edits.proofs.LossForms.{left-form, drop-form, cleared-form, listed-form, loss-form}
 use Rattle.instance_loss.specs.declared.Told.{Told}
 use Rattle.instance_loss.specs.Lost.{lostBy, toldOf}
-use Rattle.instance_sets.specs.Lists.{gonesIn, Listed}
-use Rattle.instance_pass.specs.declared.Tally.{Tally}
+use Rattle.writer_set_bytes.specs.Lists.{gonesIn, Listed}
+use Rattle.instance_pass.specs.declared.PassCounts.{PassCounts}
 use Rattle.instance_pass.specs.Acts.{Act, Bounded}
 use Rattle.instance_pass.specs.Passes.{remaining, listing, amount, total, UsableIn, RisesIn, Editable, TookOne, Passed, withTold}
 use Rattle.instance_pass.specs.Steps.{callAct, lossAct, lossBy}
@@ -58,7 +57,7 @@ use Rattle.instance_pass.proofs.StepLaws.{bit-le}
 
 -- ---- one record
 
-pub lost-one : (clears : Bool) (gone : List Guid) (at : MaybeTime) (i : ℕ) (t out t′ out′ p r : List ℕ) (c c′ : Tally) (told : Told) (h : InstanceHandle) → c .kept ≡ i →
+pub lost-one : (clears : Bool) (gone : List Guid) (at : MaybeTime) (i : ℕ) (t out t′ out′ p r : List ℕ) (c c′ : PassCounts) (told : Told) (h : InstanceHandle) → c .kept ≡ i →
     p ≡ recordAt t i → h ≡ instanceOf (recordAt t i) .handle → t′ ≡ putMid (i * 512) (i * 512 + 512 - i * 512) t r →
     (r ≡ instanceBytes (changed (lostBy clears gone at) (instanceOf p))) × (told ≡ toldOf clears gone (instanceOf p .state)) →
     out′ ≡ cond (told .left) (put 8 out (c .listed * 8) (h .0)) out → c′ ≡ withTold c told →
@@ -71,9 +70,9 @@ lost-one clears gone at i t out t′ out′ p r c c′ told h k e eh v w n q =
       table = v ∙ put-back (i * 512) 512 t r ∙ ap (λ (z : List ℕ). patch t (i * 512) 512 z) b
           ∙ ap (λ (j : ℕ). patch t (j * 512) 512 (instanceBytes (changed (lostBy clears gone at) x))) (sym k);
       list = n ∙ ap (λ (u : Told). cond (u .left) (put 8 out (c .listed * 8) (h .0)) out) d ∙ rw eh;
-      kept = ap (λ (u : Tally). u .kept) q;
-      listed = ap (λ (u : Tally). u .listed) q ∙ ap (λ (u : Told). c .listed + bit (u .left)) d;
-      counted = ap (λ (u : Tally). u .counted) q ∙ ap (λ (u : Told). c .counted + bit (u .cleared)) d;
+      kept = ap (λ (u : PassCounts). u .kept) q;
+      listed = ap (λ (u : PassCounts). u .listed) q ∙ ap (λ (u : Told). c .listed + bit (u .left)) d;
+      counted = ap (λ (u : PassCounts). u .counted) q ∙ ap (λ (u : Told). c .counted + bit (u .cleared)) d;
     }
 
 -- ---- how much an instance counts
@@ -95,7 +94,7 @@ agree-all : (a b : Act) → ((x : Instance) → Sound (x .state .writers) → Ri
 agree-all a b f [] u r = tt
 agree-all a b f (x ∷ xs) u r = (f x (u .0 .writers) (r .0), agree-all a b f xs (u .1) (r .1))
 
-module _ (count : ℕ) (t out t′ out′ : List ℕ) (r : Tally) (d : Editable count t) where
+module _ (count : ℕ) (t out t′ out′ : List ℕ) (r : PassCounts) (d : Editable count t) where
   pub losses-passed : (gone : List Guid) (at : MaybeTime) → Passed (lossBy true gone at) (instancesIn count t) t out t′ out′ r →
       Passed (lossAct gone at) (instancesIn count t) t out t′ out′ r
   losses-passed gone at p =

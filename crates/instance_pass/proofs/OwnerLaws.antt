@@ -3,7 +3,6 @@
 --     Changing, changing-start, changing-turn, changing-end     the pass while it goes on
 --     owner-flag                                                an owner is present
 --     strength-put, owner-put, strength-kept, owner-kept        one record from its parts
--- Assumes nothing.
 use Prim.Native.Nat.{ℕ, _+_, _-_, _*_, _≤_, _<_}
 use mathlib.Core.Bool.{Bool, true, false}
 use mathlib.Core.List.{List}
@@ -21,9 +20,9 @@ use Rattle.model.specs.InstanceRecord.{flag, flagsAt, instanceOf}
 use Rattle.model.specs.Instances.{noOwner, owns, strengthUpdated, withOwner}
 use Rattle.model.specs.State.{instancesIn}
 use Rattle.model.proofs.Tests.{both}
-use Rattle.instance_record.specs.Parts.{recordAt}
+use Rattle.instance_decoding.specs.Parts.{recordAt}
 use Rattle.instance_edits.specs.Edits.{withStrength, OwnerCleared, StrengthPut}
-use Rattle.instance_pass.specs.declared.Tally.{Tally}
+use Rattle.instance_pass.specs.declared.PassCounts.{PassCounts}
 use Rattle.instance_pass.specs.Acts.{Act, Bounded}
 use Rattle.instance_pass.specs.Passes.{EditedAt, Passed}
 use Rattle.instance_pass.specs.Steps.{ownsAs, clearedAs}
@@ -47,7 +46,7 @@ strength-same g strength x e = rw (e, owner-present false g (x .owner) e)
 -- ---- the pass
 
 -- the first i instances stay, and n are counted
-abbrev pub changeTally : ℕ → ℕ → Tally
+abbrev pub changeTally : ℕ → ℕ → PassCounts
 changeTally i n = record { kept = i; listed = 0; counted = n }
 
 module _ (act : Act) (g : InstanceState → InstanceState) (left : (x : InstanceState) → act .left x ≡ some (g x)) (unlisted : (x : InstanceState) → act .listed x ≡ false)

@@ -7,7 +7,6 @@
 --     during-went                     either
 --     during-end                      all are passed, and the places behind those kept are cleared
 --     during-stays, during-over       of an act that purges nothing: each at its place; all are passed
--- Assumes nothing.
 use Prim.Native.Nat.{ℕ, _+_, _*_, _≤_, _<_}
 use mathlib.Core.Bool.{Bool, true, false, cond}
 use mathlib.Core.List.{List, append-nil, append-assoc}
@@ -30,15 +29,13 @@ use Rattle.model.specs.InstanceRecord.{bit, instanceOf, instanceBytes}
 use Rattle.model.specs.State.{instancesIn}
 use Rattle.model.specs.Tables.{isSome, pick, sift}
 use Rattle.model.proofs.RowLaws.{length-read, get-read}
-use Rattle.tables.proofs.Passes.{survivors}
-use Rattle.tables.proofs.Passes.{midway}
 use Rattle.tables.proofs.Finds.{pick-take, pick-more}
-use Rattle.tables.proofs.Passes.{survivors-keep, survivors-drop, midway-start, midway-end, length-midway, midway-keep, midway-drop, midway-get}
+use Rattle.tables.proofs.Passes.{survivors, survivors-keep, survivors-drop, midway, midway-start, midway-end, length-midway, midway-keep, midway-drop, midway-get}
 use Rattle.instance_table.specs.Laid.{Wide, Laid}
 use Rattle.instance_table.proofs.LaidOut.{patch-width, replaced}
-use Rattle.instance_record.specs.Parts.{recordAt}
+use Rattle.instance_decoding.specs.Parts.{recordAt}
 use Rattle.instance_edits.specs.Edits.{changed}
-use Rattle.instance_pass.specs.declared.Tally.{Tally}
+use Rattle.instance_pass.specs.declared.PassCounts.{PassCounts}
 use Rattle.instance_pass.specs.Acts.{Act, Bounded, Keeps}
 use Rattle.instance_pass.specs.Passes.{remaining, listing, amount, total, keptAt, Ahead, TookOne, Spared, EditedAt, Passed}
 use Rattle.instance_pass.proofs.ActLaws.{all-kept}
@@ -81,7 +78,7 @@ module _ (act : Act) (count : ℕ) (t₀ out₀ : List ℕ) where
   abbrev xs : List Instance
   xs = instancesIn count t₀
 
-  pub record During (i : ℕ) (t out : List ℕ) (c : Tally) : Type 0 where
+  pub record During (i : ℕ) (t out : List ℕ) (c : PassCounts) : Type 0 where
     pub below : i ≤ count
     pub long : length t ≡ length t₀
     pub wide : length out ≡ length out₀
@@ -116,7 +113,7 @@ module _ (act : Act) (count : ℕ) (t₀ out₀ : List ℕ) where
         laid = λ places l. rw (midway-start f xs) l;
       }
 
-  module _ (i : ℕ) (t out : List ℕ) (c : Tally) (d : During i t out c) where
+  module _ (i : ℕ) (t out : List ℕ) (c : PassCounts) (d : During i t out c) where
     -- record i is as it was
     pub during-read : i < count → instanceOf (recordAt t i) ≡ getD xs i (instanceOf (recordAt t i))
     during-read h =
@@ -154,6 +151,27 @@ module _ (act : Act) (count : ℕ) (t₀ out₀ : List ℕ) where
       onward : drop ((i + 1) * 512) t ≡ drop ((i + 1) * 512) t₀
       onward = drop-same (i * 512) ((i + 1) * 512) t t₀ (omega arith) (d .ahead)
 
+      -- z is left of x; it goes to its place as the bytes r, which are its layout where those of x were
+      edited : (x z : Instance) → x ≡ getD xs i x → f x ≡ some z → (r t′ : List ℕ) → t′ ≡ patch t (c .kept * 512) 512 r → length t′ ≡ length t →
+          (recordAt t i ≡ instanceBytes x → r ≡ instanceBytes z) → Behind (some z) t′
+      edited x z e g r t′ v n q =
+          let u : f (getD xs i x) ≡ some z = sym (ap f e) ∙ g in
+          let w : length r ≡ 512 = patch-width t (c .kept * 512) 512 r fits (sym (ap length v) ∙ n) in
+          let k : drop (c .kept * 512 + 512) t′ ≡ drop (c .kept * 512 + 512) t =
+          ap (drop (c .kept * 512 + 512)) v ∙ drop-patch t (c .kept * 512) 512 r (omega (arith, fits)) w in
+          let m : i < length (midway f xs i) = omega (arith, length-midway f xs i (omega (arith, size)), size) in
+          record {
+            kept = omega (arith, d .kept, survivors-keep f xs i x inside z u);
+            few = omega (arith, d .fewKept);
+            ahead = drop-same (c .kept * 512 + 512) ((i + 1) * 512) t′ t (omega (arith, d .fewKept)) k ∙ onward;
+            laid = λ places l.
+                let b : recordAt t i ≡ instanceBytes x =
+                bytes-of places (midway f xs i) t (d .laid places l) i x m ∙ ap instanceBytes (midway-get f xs i x (omega (arith, size)) ∙ sym e) in
+                rw (← midway-keep f xs i x inside z u, ← d .kept)
+                (replaced t t′ (c .kept) z (v ∙ ap (λ (h : List ℕ). patch t (c .kept * 512) 512 h) (q b)) n fits places (midway f xs i) (d .laid places l)
+                (omega (arith, d .fewKept, m)));
+          }
+
       behind : (x : Instance) → x ≡ getD xs i x → (o : Option Instance) → f x ≡ o → (t′ : List ℕ) → t′ ≡ keptAt t (c .kept) o → length t′ ≡ length t → Behind o t′
       behind x e none g t′ v n =
           let k : f (getD xs i x) ≡ none = sym (ap f e) ∙ g in
@@ -163,20 +181,7 @@ module _ (act : Act) (count : ℕ) (t₀ out₀ : List ℕ) where
             ahead = rw v onward;
             laid = λ places l. rw (v, midway-drop f xs i x inside k) (d .laid places l);
           }
-      behind x e (some y) g t′ v n =
-          let k : f (getD xs i x) ≡ some y = sym (ap f e) ∙ g in
-          let w : length (instanceBytes y) ≡ 512 = patch-width t (c .kept * 512) 512 (instanceBytes y) fits (sym (ap length v) ∙ n) in
-          let z : drop (c .kept * 512 + 512) t′ ≡ drop (c .kept * 512 + 512) t =
-          ap (drop (c .kept * 512 + 512)) v ∙ drop-patch t (c .kept * 512) 512 (instanceBytes y) (omega (arith, fits)) w in
-          record {
-            kept = omega (arith, d .kept, survivors-keep f xs i x inside y k);
-            few = omega (arith, d .fewKept);
-            ahead = drop-same (c .kept * 512 + 512) ((i + 1) * 512) t′ t (omega (arith, d .fewKept)) z ∙ onward;
-            laid = λ places l.
-                rw (← midway-keep f xs i x inside y k, ← d .kept)
-                (replaced t t′ (c .kept) y v n fits places (midway f xs i) (d .laid places l)
-                (omega (arith, d .fewKept, length-midway f xs i (omega (arith, size)), size)));
-          }
+      behind x e (some y) g t′ v n = edited x y e g (instanceBytes y) t′ v n (λ b. refl)
 
       -- Out behind x, which is listed where b says so
       noting : (x : Instance) → x ≡ getD xs i x → (b : Bool) → q x ≡ b → (out′ : List ℕ) → out′ ≡ cond b (put 8 out (c .listed * 8) (x .handle .0)) out →
@@ -191,13 +196,13 @@ module _ (act : Act) (count : ℕ) (t₀ out₀ : List ℕ) where
           (list-more (pick q (take i xs)) x out₀ (omega (arith, d .listed, d .fewListed)))
 
       -- Out and the tally behind x
-      pub record Told (x : Instance) (out′ : List ℕ) (c′ : Tally) : Type 0 where
+      pub record Told (x : Instance) (out′ : List ℕ) (c′ : PassCounts) : Type 0 where
         pub noted : out′ ≡ cond (q x) (put 8 out (c .listed * 8) (x .handle .0)) out
         pub kept : c′ .kept ≡ c .kept + bit (isSome (f x))
         pub listed : c′ .listed ≡ c .listed + bit (q x)
         pub counted : c′ .counted ≡ c .counted + a x
 
-      told : (x : Instance) → x ≡ getD xs i x → (t′ out′ : List ℕ) (c′ : Tally) → length t′ ≡ length t → length out′ ≡ length out →
+      told : (x : Instance) → x ≡ getD xs i x → (t′ out′ : List ℕ) (c′ : PassCounts) → length t′ ≡ length t → length out′ ≡ length out →
           Behind (f x) t′ → Told x out′ c′ → During (i + 1) t′ out′ c′
       told x e t′ out′ c′ n m b w =
           record {
@@ -217,7 +222,7 @@ module _ (act : Act) (count : ℕ) (t₀ out₀ : List ℕ) where
             laid = b .laid;
           }
 
-      pub during-turn : (t′ out′ : List ℕ) (c′ : Tally) → length t′ ≡ length t → length out′ ≡ length out →
+      pub during-turn : (t′ out′ : List ℕ) (c′ : PassCounts) → length t′ ≡ length t → length out′ ≡ length out →
           TookOne act (instanceOf (recordAt t i)) t out c t′ out′ c′ → During (i + 1) t′ out′ c′
       during-turn t′ out′ c′ n m w = go (instanceOf (recordAt t i)) (during-read h) w
         where
@@ -226,30 +231,8 @@ module _ (act : Act) (count : ℕ) (t₀ out₀ : List ℕ) where
               told x e t′ out′ c′ n m (behind x e (f x) refl t′ (w .table) n)
               record { noted = w .list; kept = w .kept; listed = w .listed; counted = w .counted }
 
-      -- what is left of x goes to its place as the bytes r, which are its layout where those of x were
-      edited : (x z : Instance) → x ≡ getD xs i x → f x ≡ some z → (r t′ : List ℕ) → t′ ≡ patch t (c .kept * 512) 512 r → length t′ ≡ length t →
-          (recordAt t i ≡ instanceBytes x → r ≡ instanceBytes z) → Behind (f x) t′
-      edited x z e g r t′ v n q =
-          let u : f (getD xs i x) ≡ some z = sym (ap f e) ∙ g in
-          let w : length r ≡ 512 = patch-width t (c .kept * 512) 512 r fits (sym (ap length v) ∙ n) in
-          let k : drop (c .kept * 512 + 512) t′ ≡ drop (c .kept * 512 + 512) t =
-          ap (drop (c .kept * 512 + 512)) v ∙ drop-patch t (c .kept * 512) 512 r (omega (arith, fits)) w in
-          rw g
-          record {
-            kept = omega (arith, d .kept, survivors-keep f xs i x inside z u);
-            few = omega (arith, d .fewKept);
-            ahead = drop-same (c .kept * 512 + 512) ((i + 1) * 512) t′ t (omega (arith, d .fewKept)) k ∙ onward;
-            laid = λ places l.
-                let m : i < length (midway f xs i) = omega (arith, length-midway f xs i (omega (arith, size)), size) in
-                let b : recordAt t i ≡ instanceBytes x =
-                bytes-of places (midway f xs i) t (d .laid places l) i x m ∙ ap instanceBytes (midway-get f xs i x (omega (arith, size)) ∙ sym e) in
-                rw (← midway-keep f xs i x inside z u, ← d .kept)
-                (replaced t t′ (c .kept) z (v ∙ ap (λ (h : List ℕ). patch t (c .kept * 512) 512 h) (q b)) n fits places (midway f xs i) (d .laid places l)
-                (omega (arith, d .fewKept, length-midway f xs i (omega (arith, size)), size)));
-          }
-
       -- x stays at its place, changed by g
-      pub during-edited : (g : InstanceState → InstanceState) (t′ out′ : List ℕ) (c′ : Tally) → length t′ ≡ length t → length out′ ≡ length out → c .kept ≡ i →
+      pub during-edited : (g : InstanceState → InstanceState) (t′ out′ : List ℕ) (c′ : PassCounts) → length t′ ≡ length t → length out′ ≡ length out → c .kept ≡ i →
           act .left (instanceOf (recordAt t i) .state) ≡ some (g (instanceOf (recordAt t i) .state)) → EditedAt g i t t′ →
           Told (instanceOf (recordAt t i)) out′ c′ → During (i + 1) t′ out′ c′
       during-edited g t′ out′ c′ n m k v w p = go (instanceOf (recordAt t i)) (during-read h) v (w .bytes) p
@@ -259,16 +242,16 @@ module _ (act : Act) (count : ℕ) (t₀ out₀ : List ℕ) where
           go x e v q p =
               let u : f x ≡ some (changed g x) = ap (λ (o : Option InstanceState). kept x o) v in
               let b : t′ ≡ patch t (c .kept * 512) 512 (recordAt t′ i) = w .table ∙ ap (λ (j : ℕ). patch t (j * 512) 512 (recordAt t′ i)) (sym k) in
-              told x e t′ out′ c′ n m (edited x (changed g x) e u (recordAt t′ i) t′ b n q) p
+              told x e t′ out′ c′ n m (rw u (edited x (changed g x) e u (recordAt t′ i) t′ b n q)) p
 
-      during-spared : (t′ out′ : List ℕ) (c′ : Tally) → length t′ ≡ length t → length out′ ≡ length out →
+      during-spared : (t′ out′ : List ℕ) (c′ : PassCounts) → length t′ ≡ length t → length out′ ≡ length out →
           Spared act (instanceOf (recordAt t i)) i t out c t′ out′ c′ → During (i + 1) t′ out′ c′
       during-spared t′ out′ c′ n m w = go (instanceOf (recordAt t i)) (during-read h) w
         where
           go : (x : Instance) → x ≡ getD xs i x → Spared act x i t out c t′ out′ c′ → During (i + 1) t′ out′ c′
           go x e w =
               let g : f x ≡ some x = ap (λ (o : Option InstanceState). kept x o) (w .untouched .left) in
-              told x e t′ out′ c′ n m (edited x x e g (recordAt t i) t′ (w .table) n (λ b. b))
+              told x e t′ out′ c′ n m (rw g (edited x x e g (recordAt t i) t′ (w .table) n (λ b. b)))
               record {
                 noted = rw (w .untouched .unlisted) (w .list);
                 kept = rw (g, w .tally);
@@ -276,7 +259,7 @@ module _ (act : Act) (count : ℕ) (t₀ out₀ : List ℕ) where
                 counted = rw (w .untouched .uncounted, w .tally) (omega arith);
               }
 
-      pub during-went : (t′ out′ : List ℕ) (c′ : Tally) → length t′ ≡ length t → length out′ ≡ length out →
+      pub during-went : (t′ out′ : List ℕ) (c′ : PassCounts) → length t′ ≡ length t → length out′ ≡ length out →
           TookOne act (instanceOf (recordAt t i)) t out c t′ out′ c′ ⊎ Spared act (instanceOf (recordAt t i)) i t out c t′ out′ c′ →
           During (i + 1) t′ out′ c′
       during-went t′ out′ c′ n m w = ⊎-elim (λ a. during-turn t′ out′ c′ n m a) (λ b. during-spared t′ out′ c′ n m b) w

@@ -3,7 +3,6 @@
 --     purged-part, purge-one, keep-one, kept-le       a turn from its parts
 --     Purging, purging-start, purging-turn, purging-end
 --                                                     the pass while it goes on
--- Assumes nothing.
 use Prim.Native.Nat.{ℕ, _+_, _-_, _*_, _/_, _≤_, _<_}
 use mathlib.Core.Bool.{Bool, true, false}
 use mathlib.Core.List.{List}
@@ -20,10 +19,10 @@ use Rattle.model.specs.InstanceRecord.{flag, flagsAt, instanceOf, timeAt}
 use Rattle.model.specs.Instances.{purged}
 use Rattle.model.specs.State.{instancesIn}
 use Rattle.model.specs.Times.{purgeDue}
-use Rattle.instance_record.specs.Parts.{recordAt}
-use Rattle.instance_record.proofs.Rows.{kind-rest, lent-part}
+use Rattle.instance_decoding.specs.Parts.{recordAt}
+use Rattle.instance_decoding.proofs.Rows.{kind-rest, lent-part}
 use Rattle.instance_table.specs.Laid.{Laid}
-use Rattle.instance_pass.specs.declared.Tally.{Tally}
+use Rattle.instance_pass.specs.declared.PassCounts.{PassCounts}
 use Rattle.instance_pass.specs.Acts.{Act}
 use Rattle.instance_pass.specs.Passes.{TookOne, Spared, Passed}
 use Rattle.instance_pass.specs.Purges.{Delays, PurgedOne}
@@ -68,7 +67,7 @@ kept-le true i k k′ t t′ w = omega (arith, w .kept)
 kept-le false i k k′ t t′ w = omega (arith, w .kept)
 
 -- kept of the first i
-abbrev pub purgeTally : ℕ → ℕ → Tally
+abbrev pub purgeTally : ℕ → ℕ → PassCounts
 purgeTally i kept = record { kept = kept; listed = 0; counted = i - kept }
 
 module _ (s : Sheet) (count : ℕ) (t₀ : List ℕ) where

@@ -1,6 +1,5 @@
 -- The span of a list that rises, from its first GUID to its last.
 --     span-none, span-all     a list with none; one with some
--- Assumes nothing.
 use Prim.Native.Nat.{ℕ, zero, suc, _-_, _*_, _/_, _≤_, _<_}
 use mathlib.Core.Bool.{true}
 use mathlib.Core.List.{List, [], _∷_}
@@ -18,8 +17,8 @@ use Rattle.model.proofs.Tests.{both}
 use Rattle.tables.proofs.Puts.{above-at}
 use Rattle.instance_edits.specs.declared.Span.{Span}
 use Rattle.instance_loss.specs.Lost.{Within}
-use Rattle.instance_sets.specs.Lists.{gonesIn, Listed}
-use Rattle.instance_sets.proofs.SideBySide.{From, from-first}
+use Rattle.writer_set_bytes.specs.Lists.{gonesIn, Listed}
+use Rattle.writer_set_bytes.proofs.SideBySide.{From, from-first}
 
 pub span-none : (w : Span) (gone : List ℕ) → length gone / 16 ≡ 0 → All (Within w) (gonesIn gone)
 unfolding readRows

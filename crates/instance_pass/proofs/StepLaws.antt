@@ -1,6 +1,5 @@
 -- How much an instance counts.
 --     bit-le, call-bounded     at most one in a call on every instance
--- Assumes nothing.
 use Prim.Native.Nat.{_≤_}
 use mathlib.Core.Bool.{Bool, true, false}
 use native.Mathlib.Omega.{arith}

@@ -3,7 +3,7 @@
 --     total                         the sum of the amounts
 --     UsableIn, RisesIn             an instance that the steps can take; its writers rise
 --     Editable                      a table over which a pass may run
---     keptAt, withTold              a table where what is left of an instance is written; a tally with one instance more
+--     keptAt, withTold              a table where what is left of an instance is written; the counts with one instance more
 --     Ahead, TookOne                one record of a pass: what it asks, what it leaves
 --     Untouched, Spared             it was left alone
 --     EditedAt                      it was changed where it stands
@@ -27,12 +27,12 @@ use Rattle.model.specs.Instances.{writersIn}
 use Rattle.model.specs.State.{instancesIn}
 use Rattle.model.specs.Tables.{isSome, pick, rising, sift}
 use Rattle.model.specs.WellFormed.{kindsOk}
-use Rattle.instance_record.specs.Parts.{recordAt}
+use Rattle.instance_decoding.specs.Parts.{recordAt}
 use Rattle.instance_fields.specs.Usable.{Usable}
 use Rattle.instance_edits.specs.Edits.{changed}
 use Rattle.instance_loss.specs.declared.Told.{Told}
 use Rattle.instance_table.specs.Laid.{Laid}
-use Rattle.instance_pass.specs.declared.Tally.{Tally}
+use Rattle.instance_pass.specs.declared.PassCounts.{PassCounts}
 use Rattle.instance_pass.specs.Acts.{Act}
 
 -- what is left, with its key and its handle
@@ -75,12 +75,12 @@ abbrev pub keptAt : List ℕ → ℕ → Option Instance → List ℕ
 keptAt t k none = t
 keptAt t k (some y) = patch t (k * instanceSize) instanceSize (instanceBytes y)
 
--- the tally with one instance more, of which r is told
-abbrev pub withTold : Tally → Told → Tally
+-- the counts with one instance more, of which r is told
+abbrev pub withTold : PassCounts → Told → PassCounts
 withTold c r = record { kept = c .kept + 1; listed = c .listed + bit (r .left); counted = c .counted + bit (r .cleared) }
 
 -- record i is to come: the instances before it are passed, and none was purged
-pub record Ahead (t out : List ℕ) (i : ℕ) (c : Tally) : Type 0 where
+pub record Ahead (t out : List ℕ) (i : ℕ) (c : PassCounts) : Type 0 where
   pub below : i < 128
   pub room : i * 512 + 512 ≤ length t
   pub wide : 1024 ≤ length out
@@ -88,8 +88,8 @@ pub record Ahead (t out : List ℕ) (i : ℕ) (c : Tally) : Type 0 where
   pub listed : c .listed ≤ i
   pub counted : c .counted ≤ i * 256
 
--- from the table t, Out and the tally so far to those behind the instance x
-pub record TookOne (a : Act) (x : Instance) (t out : List ℕ) (c : Tally) (t′ out′ : List ℕ) (c′ : Tally) : Type 0 where
+-- from the table t, Out and the counts so far to those behind the instance x
+pub record TookOne (a : Act) (x : Instance) (t out : List ℕ) (c : PassCounts) (t′ out′ : List ℕ) (c′ : PassCounts) : Type 0 where
   pub table : t′ ≡ keptAt t (c .kept) (remaining a x)
   pub list : out′ ≡ cond (listing a x) (put 8 out (c .listed * 8) (x .handle .0)) out
   pub kept : c′ .kept ≡ c .kept + bit (isSome (remaining a x))
@@ -103,7 +103,7 @@ pub record Untouched (a : Act) (x : InstanceState) : Type 0 where
   pub uncounted : a .counted x ≡ 0
 
 -- the pass leaves the instance x of record i as it is: its bytes go to its place
-pub record Spared (a : Act) (x : Instance) (i : ℕ) (t out : List ℕ) (c : Tally) (t′ out′ : List ℕ) (c′ : Tally) : Type 0 where
+pub record Spared (a : Act) (x : Instance) (i : ℕ) (t out : List ℕ) (c : PassCounts) (t′ out′ : List ℕ) (c′ : PassCounts) : Type 0 where
   pub untouched : Untouched a (x .state)
   pub table : t′ ≡ patch t (c .kept * instanceSize) instanceSize (recordAt t i)
   pub list : out′ ≡ out
@@ -116,7 +116,7 @@ pub record EditedAt (f : InstanceState → InstanceState) (i : ℕ) (t t′ : Li
 
 -- ---- the whole pass, of the instances xs
 
-pub record Passed (a : Act) (xs : List Instance) (t out t′ out′ : List ℕ) (r : Tally) : Type 0 where
+pub record Passed (a : Act) (xs : List Instance) (t out t′ out′ : List ℕ) (r : PassCounts) : Type 0 where
   pub laid : (places : ℕ) → Laid places xs t → Laid places (sift (remaining a) xs) t′
   pub list : out′ ≡ listIn (handleBytes (pick (listing a) xs)) out
   pub kept : r .kept ≡ length (sift (remaining a) xs)

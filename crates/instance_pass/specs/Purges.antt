@@ -9,7 +9,7 @@ use Rattle.octets.specs.Patch.{patch}
 use Rattle.model.specs.declared.MaybeTime.{MaybeTime}
 use Rattle.model.specs.declared.Sheet.{Sheet}
 use Rattle.model.specs.InstanceRecord.{instanceSize}
-use Rattle.instance_record.specs.Parts.{recordAt}
+use Rattle.instance_decoding.specs.Parts.{recordAt}
 
 -- A is the disposed delay, B the no-writer delay, time 2 is now
 pub record Delays (s : Sheet) (at : MaybeTime) (a b : ℕ) : Type 0 where

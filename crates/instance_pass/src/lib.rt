@@ -28,8 +28,8 @@ ghost use Rattle.model.specs.InstanceCalls.{instanceCall};
 ghost use Rattle.model.specs.InstanceRecord.{bit, instanceOf};
 ghost use Rattle.model.specs.Instances.{rule, onEvery, purged, strengthUpdated};
 ghost use Rattle.model.specs.State.{instancesIn};
-ghost use Rattle.instance_record.specs.Parts.{recordAt};
-ghost use Rattle.instance_sets.specs.Lists.{gonesIn, Listed};
+ghost use Rattle.instance_decoding.specs.Parts.{recordAt};
+ghost use Rattle.writer_set_bytes.specs.Lists.{gonesIn, Listed};
 ghost use Rattle.instance_edits.specs.Edits.{Formed};
 ghost use Rattle.instance_loss.specs.Lost.{Within};
 ghost use Rattle.instance_table.specs.TableCalls.{TableFormed, stateWith};
@@ -39,7 +39,7 @@ ghost use Rattle.instance_pass.specs.Purges.{Delays, PurgedOne};
 ghost use Rattle.instance_pass.specs.Steps.{callAct, lossAct, lossBy, ownsAs, clearedAs, ownerAct};
 
 // How many instances stay and are listed, and what was counted.
-pub struct Tally {
+pub struct PassCounts {
     pub kept: usize,
     pub listed: usize,
     pub counted: usize,
@@ -91,14 +91,14 @@ fn span_of(gone: &[u8]) -> Span
     }
 }
 
-// The tally with one instance more, which stays.
-fn with_told(c: Tally, r: Told) -> Tally
+// The counts with one instance more, which stays.
+fn with_told(c: PassCounts, r: Told) -> PassCounts
     requires { ⌜ (c .kept < 128) × (c .listed < 128) × (c .counted ≤ 32768) ⌝ }
     ensures { λ t. ⌜ t ≡ withTold c r ⌝ }
 {
     let l = one(r.left);
     let n = one(r.cleared);
-    Tally {
+    PassCounts {
         kept: c.kept + 1,
         listed: c.listed + l,
         counted: c.counted + n,
@@ -110,19 +110,19 @@ fn lose_at(
     pens: &mut [u8],
     out: &mut [u8],
     i: usize,
-    tally: Tally,
+    tally: PassCounts,
     w: Span,
     gone: &[u8],
     guesses: &[u8; 1024],
     at: MaybeTime,
     clears: bool,
-) -> Tally
+) -> PassCounts
     requires { ⌜ Ahead (now pens) (now out) i tally × Formed (recordAt (now pens) i) × Listed (now gone) × All (Within w) (gonesIn (now gone)) ⌝ }
     ensures { λ r. ⌜ TookOne (lossBy clears (gonesIn (now (gone .entry))) at) (instanceOf (recordAt (now (pens .entry)) i)) (now (pens .entry)) (now (out .entry)) tally (now (pens .exit)) (now (out .exit)) r ⌝ }
 {
     let from = i * 512;
     let end = from + 512;
-    let h = instance_record::handle_at(pens, i);
+    let h = instance_decoding::handle_at(pens, i);
     let told = instance_loss::lose(&mut pens[from..end], w, gone, guesses, at, clears);
     note(out, tally.listed, told.left, h.0);
     with_told(tally, told)
@@ -136,14 +136,14 @@ fn lose_every(
     gone: &[u8],
     at: MaybeTime,
     clears: bool,
-) -> Tally
+) -> PassCounts
     requires { ⌜ Editable count (now pens) × Listed (now gone) × (1024 ≤ length (now out)) ⌝ }
     ensures { λ r. ⌜ Passed (lossBy clears (gonesIn (now (gone .entry))) at) (instancesIn count (now (pens .entry))) (now (pens .entry)) (now (out .entry)) (now (pens .exit)) (now (out .exit)) r ⌝ }
 {
     let w = span_of(gone);
     let mut guesses = [0u8; 1024]; // made once for all instances
-    instance_sets::note_guesses(gone, &mut guesses);
-    let mut tally = Tally {
+    writer_set_bytes::note_guesses(gone, &mut guesses);
+    let mut tally = PassCounts {
         kept: 0,
         listed: 0,
         counted: 0,
@@ -163,12 +163,12 @@ pub fn lose_writers(
     count: usize,
     gone: &[u8],
     at: MaybeTime,
-) -> Tally
+) -> PassCounts
     requires { ⌜ Editable count (now pens) × Listed (now gone) × (1024 ≤ length (now out)) ⌝ }
     ensures { λ r. ⌜ Passed (lossAct (gonesIn (now (gone .entry))) at) (instancesIn count (now (pens .entry))) (now (pens .entry)) (now (out .entry)) (now (pens .exit)) (now (out .exit)) r ⌝ }
 {
     if gone.len() < 16 {
-        return Tally {
+        return PassCounts {
             kept: count,
             listed: 0,
             counted: 0,
@@ -178,7 +178,7 @@ pub fn lose_writers(
 }
 
 // Code 7: the writer of the sheet alone, and no owner is cleared.
-fn drop_writer(pens: &mut [u8], out: &mut [u8], count: usize, s: Sheet) -> Tally
+fn drop_writer(pens: &mut [u8], out: &mut [u8], count: usize, s: Sheet) -> PassCounts
     requires { ⌜ Editable count (now pens) × (1024 ≤ length (now out)) ⌝ }
     ensures { λ r. ⌜ Passed (callAct DropWriter s) (instancesIn count (now (pens .entry))) (now (pens .entry)) (now (out .entry)) (now (pens .exit)) (now (out .exit)) r ⌝ }
 {
@@ -211,7 +211,7 @@ fn strength_at(pens: &mut [u8], i: usize, g: Guid, strength: u32)
 }
 
 // Code 17.
-fn set_strengths(pens: &mut [u8], count: usize, s: Sheet) -> Tally
+fn set_strengths(pens: &mut [u8], count: usize, s: Sheet) -> PassCounts
     requires { ⌜ (count ≤ 128) × (count * 512 ≤ length (now pens)) ⌝ }
     ensures { λ r. ⌜ ((out : List ℕ) → 1024 ≤ length out → Passed (callAct UpdateOwnerStrength s) (instancesIn count (now (pens .entry))) (now (pens .entry)) out (now (pens .exit)) out r) ⌝ }
 {
@@ -222,7 +222,7 @@ fn set_strengths(pens: &mut [u8], count: usize, s: Sheet) -> Tally
         strength_at(pens, i, g, strength);
         i += 1;
     }
-    Tally {
+    PassCounts {
         kept: count,
         listed: 0,
         counted: 0,
@@ -255,7 +255,7 @@ fn owner_at(pens: &mut [u8], i: usize, g: Guid, prefix: bool) -> bool
 }
 
 // Codes 18 and 19.
-fn clear_owners(pens: &mut [u8], count: usize, g: Guid, prefix: bool) -> Tally
+fn clear_owners(pens: &mut [u8], count: usize, g: Guid, prefix: bool) -> PassCounts
     requires { ⌜ (count ≤ 128) × (count * 512 ≤ length (now pens)) ⌝ }
     ensures { λ r. ⌜ ((out : List ℕ) → 1024 ≤ length out → Passed (ownerAct prefix g) (instancesIn count (now (pens .entry))) (now (pens .entry)) out (now (pens .exit)) out r) ⌝ }
 {
@@ -265,7 +265,7 @@ fn clear_owners(pens: &mut [u8], count: usize, g: Guid, prefix: bool) -> Tally
         n = n + one(owner_at(pens, i, g, prefix));
         i += 1;
     }
-    Tally {
+    PassCounts {
         kept: count,
         listed: 0,
         counted: n,
@@ -294,9 +294,9 @@ fn purged_in(r: &[u8], at: MaybeTime, a: u64, b: u64) -> bool
         return false;
     }
     if f < 32768 {
-        return sample_time::purge_due(instance_record::read_time(r, 68, f / 512 % 2 == 1), at, a);
+        return sample_time::purge_due(instance_decoding::read_time(r, 68, f / 512 % 2 == 1), at, a);
     }
-    sample_time::purge_due(instance_record::read_time(r, 76, f / 256 % 2 == 1), at, b)
+    sample_time::purge_due(instance_decoding::read_time(r, 76, f / 256 % 2 == 1), at, b)
 }
 
 // Record i goes behind the k kept, unless it is purged. How many are kept then.
@@ -314,7 +314,7 @@ fn purge_at(pens: &mut [u8], i: usize, k: usize, at: MaybeTime, a: u64, b: u64) 
 }
 
 // The instances whose delay has run out are taken out of the table; Out has no part in it.
-fn purge(pens: &mut [u8], count: usize, s: Sheet) -> Tally
+fn purge(pens: &mut [u8], count: usize, s: Sheet) -> PassCounts
     requires { ⌜ (count ≤ 128) × (count * 512 ≤ length (now pens)) ⌝ }
     ensures { λ r. ⌜ ((out : List ℕ) → 1024 ≤ length out → Passed (callAct Autopurge s) (instancesIn count (now (pens .entry))) (now (pens .entry)) out (now (pens .exit)) out r) ⌝ }
 {
@@ -328,7 +328,7 @@ fn purge(pens: &mut [u8], count: usize, s: Sheet) -> Tally
         i += 1;
     }
     instance_table::truncate(pens, k, count);
-    Tally {
+    PassCounts {
         kept: k,
         listed: 0,
         counted: count - k,
@@ -338,7 +338,7 @@ fn purge(pens: &mut [u8], count: usize, s: Sheet) -> Tally
 // ---- the calls on every instance
 
 // The pass of a call, by what it reports: the one that reports nothing is an update of the owner's strength.
-fn call_pass(pens: &mut [u8], out: &mut [u8], count: usize, c: InstanceCall, s: Sheet) -> Tally
+fn call_pass(pens: &mut [u8], out: &mut [u8], count: usize, c: InstanceCall, s: Sheet) -> PassCounts
     requires { ⌜ (onEvery c ≡ true) × Editable count (now pens) × (1024 ≤ length (now out)) ⌝ }
     ensures { λ r. ⌜ Passed (callAct c s) (instancesIn count (now (pens .entry))) (now (pens .entry)) (now (out .entry)) (now (pens .exit)) (now (out .exit)) r ⌝ }
 {
@@ -352,8 +352,8 @@ fn call_pass(pens: &mut [u8], out: &mut [u8], count: usize, c: InstanceCall, s: 
     }
 }
 
-// What a call answers, from the tally of its pass.
-fn answered(k: Report, t: Tally) -> Answer
+// What a call answers, from the counts of its pass.
+fn answered(k: Report, t: PassCounts) -> Answer
     requires { ⌜ (t .listed ≤ 128) × (t .counted ≤ 32768) ⌝ }
     ensures { λ r. ⌜ r ≡ answerAs k (t .listed) (t .counted) ⌝ }
 {

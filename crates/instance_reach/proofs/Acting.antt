@@ -2,12 +2,11 @@
 --     insert-known, room           a writer has room where it is known, or where fewer than 16 are
 --     crowds-full                  the test of it, by the set's own length
 --     acted-of                     what the effect leaves, as an instance
--- Assumes nothing.
 use Prim.Native.Nat.{ℕ, _≤_}
-use mathlib.Core.Bool.{Bool, true, false, not, _&&_, cond}
+use mathlib.Core.Bool.{true, false, not, _&&_}
 use mathlib.Core.List.{List, [], _∷_}
-use mathlib.Core.Option.{Option, none, some}
-use mathlib.Core.Path.{_≡_, refl, sym, ap}
+use mathlib.Core.Option.{some}
+use mathlib.Core.Path.{_≡_, refl, ap}
 use native.Mathlib.Omega.{arith}
 use borrow.Author.Tests.{ltb-true, ltb-false, leb-false, ne-eqb}
 use lib.Dec.{ltb, leb, eqb}
@@ -21,19 +20,14 @@ use Rattle.model.specs.Guids.{num, same}
 use Rattle.model.specs.InstanceCalls.{crowds}
 use Rattle.model.specs.Instances.{effect, rule, writersIn}
 use Rattle.model.specs.Sets.{has, insert}
-use Rattle.model.specs.Tables.{isSome, rising, above}
-use Rattle.model.proofs.Keeps.{lasting}
+use Rattle.model.specs.Tables.{rising, above}
 use Rattle.model.proofs.Tests.{both, split, clash}
 use Rattle.model.proofs.SetLaws.{insert-le}
-use Rattle.instance_writers.proofs.SetLaws.{sound-size}
-use Rattle.instance_writers.proofs.PlaceLaws.{length-members}
-use Rattle.instance_effects.specs.declared.Effect.{Effect}
+use Rattle.writer_set.proofs.SetLaws.{sound-size}
+use Rattle.writer_set.proofs.PlaceLaws.{length-members}
 use Rattle.instance_fields.specs.Usable.{Usable, Room}
-use Rattle.instance_effects.specs.Effects.{leftOf}
 use Rattle.instance_fields.proofs.UsableLaws.{sound-after}
-use Rattle.instance_reach.specs.Rules.{single}
 use Rattle.instance_reach.specs.Turned.{withState, Acted}
-use Rattle.instance_reach.proofs.Turns.{one-only}
 
 -- ---- room for a writer
 
@@ -66,16 +60,9 @@ module _ (g : Guid) (x : InstanceState) (r : rising num (writersIn x) ≡ true) 
 
 -- ---- the instance that is left
 
--- what is left is there
-left-is : (keep : Bool) (z : InstanceState) (o : Option InstanceState) → cond keep (some z) none ≡ o → isSome o ≡ true → o ≡ some z
-left-is true z o e h = sym e
-left-is false z o e h = clash (isSome o) h (ap isSome (sym e))
-
-pub acted-of : (c : InstanceCall) (s : Sheet) (x : Instance) (e : Effect) → single (rule c .reach) ≡ true → Usable (x .state) →
-    (rule c .«adds_writer» ≡ true → Room (s .guid) (x .state)) → leftOf e ≡ effect c s (x .state) → Acted c s x (withState x (e .state))
-acted-of c s x e h u r q =
-    let l : effect c s (x .state) ≡ some (e .state) = left-is (e .keep) (e .state) (effect c s (x .state)) q (lasting c s (x .state) (one-only (rule c .reach) h)) in
-    record { left = l; same = refl; few = omega (arith, sound-after c s (x .state) r (u .writers) (e .state) l .few) }
+pub acted-of : (c : InstanceCall) (s : Sheet) (x : Instance) (z : InstanceState) → Usable (x .state) →
+    (rule c .«adds_writer» ≡ true → Room (s .guid) (x .state)) → effect c s (x .state) ≡ some z → Acted c s x (withState x z)
+acted-of c s x z u r e = record { left = e; same = refl; few = omega (arith, sound-after c s (x .state) r (u .writers) z e .few) }
 
 -- ---- the tests of the code
 

@@ -10,7 +10,6 @@
 --                                          where one would start: what that asks; none at the limit; refusals 9 and 13; the start
 --     reached-key, absent-key, reached-handle, absent-handle
 --                                          from what was found to what is reached
--- Assumes nothing.
 use Prim.Native.Nat.{ℕ, _+_, _*_, _≤_, _<_}
 use mathlib.Core.Bool.{Bool, true, false, not, _&&_}
 use mathlib.Core.List.{List, [], _∷_, _++_, map}
@@ -49,7 +48,7 @@ use Rattle.tables.specs.Places.{placeOf, Only, Nowhere}
 use Rattle.tables.proofs.Finds.{all-at, any-only, place-at, noplace}
 use Rattle.tables.proofs.Puts.{found-only, missing-nowhere, missing-le, only-handle}
 use Rattle.model.proofs.Valid.{valid-parts, started-valid}
-use Rattle.instance_writers.proofs.SetLaws.{members-rise}
+use Rattle.writer_set.proofs.SetLaws.{members-rise}
 use Rattle.instance_fields.specs.Usable.{Usable, Room}
 use Rattle.instance_fields.proofs.UsableLaws.{usable}
 use Rattle.instance_table.specs.Laid.{Laid}

@@ -7,7 +7,6 @@
 --     call-none                            no instance is reached, and none started
 --     call-limited, call-full, call-spent, call-started
 --                                          one would start: none at the limit, refusals 9 and 13, the start
--- Assumes nothing.
 use Prim.Native.Nat.{ℕ, _≤_, _<_, _^_}
 use mathlib.Core.Bool.{Bool, true, false, not, _&&_, cond}
 use mathlib.Core.List.{List, [], _∷_, _++_, map}

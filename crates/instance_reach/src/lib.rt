@@ -125,7 +125,7 @@ pub fn crowds(s: Sheet, x: Instance) -> bool
     let g = s.guid;
     let y = x.state;
     let w = y.writers;
-    if instance_writers::holds(w, g) {
+    if writer_set::holds(w, g) {
         return false;
     }
     16 <= w.len
@@ -227,8 +227,7 @@ fn acted(c: InstanceCall, s: Sheet, x: Instance) -> Instance
     let key = x.key;
     let handle = x.handle;
     let before = x.state;
-    let e = instance_effects::take_effect(c, s, before);
-    let after = e.state;
+    let after = instance_effects::take_effect(c, s, before);
     Instance {
         key: key,
         handle: handle,
@@ -249,7 +248,7 @@ fn change(
     requires { ⌜ TableFormed places count (next .0) (now pens) × Reached c s (instancesIn count (now pens)) i ⌝ }
     ensures { λ r. ⌜ Turned places c s (instancesIn count (now (pens .entry))) (next .0) r (now (pens .exit)) ⌝ }
 {
-    let x = instance_record::instance_at(pens, i);
+    let x = instance_decoding::instance_at(pens, i);
     if crowded(c, s, x) {
         return stopped(10, count, next);
     }

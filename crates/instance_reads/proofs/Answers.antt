@@ -6,7 +6,6 @@
 --     filter-refused, filter-is                             the filter
 --     order-refused, order-any, order-is                    destination order
 --     delivered-refused, delivered-missing, delivered-is    last_delivered_ts
--- Assumes nothing.
 use Prim.Native.Nat.{ℕ, zero, suc, _≤_, _<_}
 use mathlib.Core.Bool.{Bool, true, false}
 use mathlib.Core.List.{List}

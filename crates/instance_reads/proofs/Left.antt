@@ -3,7 +3,6 @@
 --     gone-test                                          one writer is among those gone
 --     list-odd, list-long, list-fine, list-free          the refusal for a list of GUIDs
 --     would-refused, would-is                            would_leave_writerless
--- Assumes nothing.
 use Prim.Native.Nat.{ℕ, zero, suc, _+_, _*_, _/_, _%_, _≤_, _<_}
 use mathlib.Core.Bool.{Bool, true, false, not}
 use mathlib.Core.List.{List, [], _∷_}
@@ -23,7 +22,7 @@ use Rattle.model.specs.Layout.{readRows}
 use Rattle.model.specs.Reads.{usedIn, tableOf, tableRefusal, viewIn, among, leftWith, listOk, listRefusal, wouldLeaveRead}
 use Rattle.model.specs.Sets.{has, isEmpty}
 use Rattle.model.specs.Tables.{all, pick}
-use Rattle.instance_record.proofs.Rows.{guid-in}
+use Rattle.instance_decoding.proofs.Rows.{guid-in}
 use Rattle.tables.specs.Places.{placeOf}
 use Rattle.model.proofs.Tests.{split, lt-or-le}
 use Rattle.instance_reads.proofs.Answers.{refused-decision}

@@ -3,7 +3,6 @@
 --     listed-start, listed-turn, listed-end              the pass over the table
 --     listed-few, listed-room, listed-length             how many there are; Out is as long as it was
 --     left-short, left-number, left-refused, left-listed left_writerless
--- Assumes nothing.
 use Prim.Native.Nat.{ℕ, zero, suc, _+_, _*_, _/_, _≤_, _<_}
 use mathlib.Core.Bool.{Bool, true, false, cond}
 use mathlib.Core.List.{List, [], _∷_, _++_, append-nil}

@@ -5,7 +5,6 @@
 --     rest-part                             the writers' bytes lent as a part
 --     part-ok, part-told                    record i of a table lent as a part
 --     place-table                           the place of the first of which p holds
--- Assumes nothing.
 use Prim.Native.Nat.{ℕ, zero, suc, _+_, _-_, _*_, _/_, _%_, _≤_, _<_}
 use mathlib.Core.Bool.{Bool, true, false}
 use mathlib.Core.List.{List}
@@ -23,9 +22,9 @@ use Rattle.model.specs.Instances.{isAlive, writersIn}
 use Rattle.model.specs.Reads.{usedIn, tableOf, writes}
 use Rattle.model.specs.Sets.{has}
 use Rattle.model.specs.WellFormed.{instanceOk}
-use Rattle.instance_record.specs.Parts.{recordAt}
+use Rattle.instance_decoding.specs.Parts.{recordAt}
 use Rattle.model.proofs.RowLaws.{take-read}
-use Rattle.instance_record.proofs.Rows.{lent-part}
+use Rattle.instance_decoding.proofs.Rows.{lent-part}
 use Rattle.tables.specs.Places.{placeOf}
 use Rattle.instance_reads.proofs.Scans.{place-row}
 use Rattle.instance_reads.proofs.Stored.{set-len}

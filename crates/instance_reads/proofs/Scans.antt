@@ -3,7 +3,6 @@
 --     each-row, not-each-row          whether it holds of all
 --     place-row                       the place of the first
 --     has-any, guid-test, has-here, has-nowhere     a GUID in a list of them
--- Assumes nothing.
 use Prim.Native.Nat.{ℕ, _*_, _≤_, _<_}
 use mathlib.Core.Bool.{Bool, true, false}
 use mathlib.Core.List.{List, [], _∷_}

@@ -5,7 +5,6 @@
 --     in-force                              the bytes at that place, or those offered, are the holder in force
 --     place-room                            the place is within the table
 --     force-at, offered-there, part-there, part-room     the same of a place that was looked for
--- Assumes nothing.
 use Prim.Native.Nat.{ℕ, _+_, _-_, _*_, _/_, _%_, _≤_, _<_}
 use mathlib.Core.Bool.{true, false, _&&_}
 use mathlib.Core.List.{List, [], map}
@@ -30,9 +29,9 @@ use Rattle.model.specs.State.{instanceKey}
 use Rattle.model.specs.Tables.{find, all, rising}
 use Rattle.model.specs.WellFormed.{instanceOk, holderOk, setOk, isNil}
 use Rattle.model.proofs.Valid.{valid-parts}
-use Rattle.instance_record.specs.Parts.{recordAt}
+use Rattle.instance_decoding.specs.Parts.{recordAt}
 use Rattle.octets.proofs.Laws.{be-part}
-use Rattle.instance_record.proofs.Rows.{drop-take}
+use Rattle.instance_decoding.proofs.Rows.{drop-take}
 use Rattle.instance_table.proofs.Finding.{key-only}
 use Rattle.tables.specs.declared.Found.{Found}
 use Rattle.tables.specs.declared.Found.the-variants.{At}

@@ -5,7 +5,6 @@
 --     located                                  where a key is looked for
 --     found-room, found-here                   the instance of a key that was found
 --     found-none                               a key that was not
--- Assumes nothing.
 use Prim.Native.Nat.{ℕ, _+_, _*_, _≤_, _<_}
 use mathlib.Core.Bool.{true, false, cond}
 use mathlib.Core.List.{List, [], map}
@@ -30,7 +29,7 @@ use Rattle.tables.specs.declared.Found.{Found}
 use Rattle.tables.specs.declared.Found.the-variants.{At, Missing}
 use Rattle.tables.specs.Found.{foundIn}
 use Rattle.tables.proofs.RecordLaws.{at-lt, find-at, find-none}
-use Rattle.instance_record.specs.Parts.{recordAt}
+use Rattle.instance_decoding.specs.Parts.{recordAt}
 use Rattle.instance_table.proofs.LaidOut.{Formed, lone-formed}
 use Rattle.model.proofs.Tests.{split, eq-or-ne}
 use Rattle.tables.proofs.Finds.{all-at}

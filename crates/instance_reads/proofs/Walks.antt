@@ -4,7 +4,6 @@
 --     next-refused, next-first, next-after         next_handle_after
 --     walk-refused, walk-is                        the handle at a position, as it is read
 --     lookup-refused, lookup-is                    the writer lookup, from the place of the first
--- Assumes nothing.
 use Prim.Native.Nat.{ℕ, suc, _+_, _≤_, _<_}
 use mathlib.Core.Bool.{Bool}
 use mathlib.Core.List.{List, [], _∷_}
@@ -28,7 +27,7 @@ use Rattle.model.specs.Reads.{usedIn, tableOf, tableRefusal, handleFound, first
 use Rattle.model.specs.State.{instancesIn}
 use Rattle.model.specs.Tables.{find}
 use Rattle.model.proofs.RowLaws.{length-read}
-use Rattle.instance_record.specs.Parts.{recordAt}
+use Rattle.instance_decoding.specs.Parts.{recordAt}
 use Rattle.tables.specs.Places.{placeOf}
 use Rattle.model.proofs.Tests.{split}
 use Rattle.tables.proofs.Finds.{place-le}

@@ -33,7 +33,7 @@ ghost use Rattle.model.specs.Tables.{find, all};
 ghost use Rattle.model.specs.Times.{noTime, timeBits};
 ghost use Rattle.model.specs.WellFormed.{instanceOk};
 ghost use Rattle.tables.specs.Found.{foundIn};
-ghost use Rattle.instance_record.specs.Parts.{recordAt};
+ghost use Rattle.instance_decoding.specs.Parts.{recordAt};
 ghost use Rattle.tables.specs.Places.{placeOf};
 ghost use Rattle.instance_reads.specs.HolderPlaces.{noPlace, storedAt, holderPlace, bytesAt};
 ghost use Rattle.instance_reads.specs.Looked.{timesIn, ListedBy};
@@ -48,7 +48,7 @@ pub struct HolderPlace {
 // ---- refusals
 
 // The number of the refusal for a table of so many places, 0 for none.
-fn refusal_of(pens: &[u8], places: usize) -> u8
+pub fn refusal_of(pens: &[u8], places: usize) -> u8
     requires { ⌜ places ≤ 128 ⌝ }
     ensures { λ r. ⌜ r ≡ tableRefusal places (now (pens .entry)) ⌝ }
 {
@@ -103,7 +103,7 @@ fn times_of(pens: &[u8], places: usize, key: Guid) -> Times
 {
     match locate(pens, places, key) {
         Found::At(i) => {
-            let x = instance_record::instance_at(pens, i);
+            let x = instance_decoding::instance_at(pens, i);
             let y = x.state;
             let times = y.times;
             times
@@ -213,7 +213,7 @@ fn handle_in(pens: &[u8], places: usize, position: usize) -> FoundHandle
     if count <= position {
         return FoundHandle::Missing;
     }
-    let handle = instance_record::handle_at(pens, position);
+    let handle = instance_decoding::handle_at(pens, position);
     FoundHandle::Is(handle)
 }
 
@@ -342,16 +342,16 @@ fn writer_place(pens: &[u8], places: usize, count: usize, g: Guid) -> usize
     requires { ⌜ (tableRefusal places (now pens) ≡ 0) × (count ≡ usedIn places (now pens)) ⌝ }
     ensures { λ r. ⌜ r ≡ placeOf (writesIn g) (tableOf places (now (pens .entry))) ⌝ }
 {
-    let mut i = 0;
-    while i < count {
-        let o = i * 512;
+    let mut place = 0;
+    while place < count {
+        let o = place * 512;
         let e = o + 512;
         if writes(&pens[o..e], g) {
-            return i;
+            return place;
         }
-        i += 1;
+        place += 1;
     }
-    i
+    place
 }
 
 // The handle of the first alive instance in key order that has the GUID among its writers.
@@ -488,7 +488,7 @@ fn list_left(
     if !left_with(&pens[o..e], gone, m, view_states) {
         return k;
     }
-    let h = instance_record::handle_at(pens, i);
+    let h = instance_decoding::handle_at(pens, i);
     octets::put_u64(out, k * 8, h.0);
     k + 1
 }

@@ -1,4 +1,4 @@
--- A code that is none of those passed is beyond them. Assumes nothing.
+-- A code that is none of those passed is beyond them.
 use Prim.Native.Nat.{ℕ, suc, _≤_}
 use mathlib.Core.List.{[], _∷_}
 use mathlib.Core.Logic.{⊎-elim}

@@ -22,7 +22,7 @@ use model::MaybeTime;
 use model::Sheet;
 ghost use mathlib.Core.Path.{_≡_};
 ghost use Rattle.model.specs.Instances.{counted, lifecycleObserved, admittedObserved, admittedNoted, deliveryRecorded, viewed, drained};
-ghost use Rattle.instance_writers.specs.Places.{Sound};
+ghost use Rattle.writer_set.specs.Places.{Sound};
 ghost use Rattle.instance_fields.specs.Usable.{UsableLife, Room};
 
 // ---- the parts of which the calls are made

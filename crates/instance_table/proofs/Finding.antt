@@ -2,7 +2,6 @@
 --     keys-read     the keys that `tables` reads are the instances' keys
 --     rise-read     they rise by either test
 --     key-only      the instance of a key that was found is the only one; a missing key is nowhere
--- Assumes nothing.
 use Prim.Native.Nat.{ℕ, _<_}
 use mathlib.Core.List.{List, [], map}
 use mathlib.Core.Bool.{true}

@@ -5,7 +5,6 @@
 --     handles-ok, met-end, low-end, high-end, used-end       how it ends
 --     noted-turn, noted-outside, noted-by                    the handles as numbers, and what is known of these
 --     used-start, used-stop, used-on, used-all               the used records, from a place on
--- Assumes nothing.
 use Prim.Native.Nat.{ℕ, suc, _+_, _-_, _*_, _%_, _≤_, _<_}
 use mathlib.Core.Bool.{Bool, true, false, not, _&&_}
 use mathlib.Core.List.{List, []}
@@ -32,8 +31,8 @@ use Rattle.tables.specs.Places.{placeOf}
 use Rattle.model.proofs.Tests.{both, split, clash, eq-or-ne}
 use Rattle.tables.proofs.Finds.{all-at, at-all, place-unique}
 use Rattle.tables.proofs.Puts.{distinct-ne, pairs-distinct}
-use Rattle.handle_order.proofs.Order.{positive}
-use Rattle.handle_order.specs.Apart.{Within, Apart}
+use Rattle.distinct_handles.proofs.Order.{positive}
+use Rattle.distinct_handles.specs.Apart.{Within, Apart}
 use Rattle.instance_table.specs.Laid.{handleAt}
 use Rattle.octets.proofs.Laws.{be-drop}
 use Rattle.instance_table.proofs.Rows.{handle-read}

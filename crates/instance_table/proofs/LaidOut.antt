@@ -6,7 +6,6 @@
 --     laid-set, laid-insert, laid-take      an instance replaced, one put in, the last ones cleared
 --     truncated, replaced, inserted         the same, from what the calls leave
 --     patch-width                           what was written over a part without a change of length is as long as it
--- Assumes nothing.
 use Prim.Native.Nat.{ℕ, zero, suc, _+_, _-_, _*_, _≤_, _<_}
 use mathlib.Core.Bool.{true}
 use mathlib.Core.List.{List, _∷_, _++_}

@@ -2,7 +2,6 @@
 --     recordTest, recordsTest            of one record's bytes, and of the first n records
 --     records-first, records-none        the first record apart; of no record
 --     table-by                           the whole test, from its parts in the order of the code
--- Assumes nothing.
 use Prim.Native.Nat.{ℕ, zero, suc, _*_}
 use mathlib.Core.Bool.{Bool, true, false, _&&_}
 use mathlib.Core.List.{List}

@@ -1,5 +1,4 @@
 -- An instance's handle and key by its place.
--- Assumes nothing.
 use Prim.Native.Nat.{ℕ, _+_, _*_, _<_}
 use mathlib.Core.List.{List, []}
 use mathlib.Core.Path.{_≡_, ap, _∙_}

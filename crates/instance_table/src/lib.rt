@@ -42,7 +42,7 @@ fn number_at(t: &[u8], i: usize) -> u64
 }
 
 // Whether none of the first n instances has the handle h.
-fn fresh(t: &[u8], n: usize, h: u64) -> bool
+fn is_unused(t: &[u8], n: usize, h: u64) -> bool
     requires { ⌜ n * 512 ≤ length (now t) ⌝ }
     ensures { λ r. ⌜ r ≡ all (otherHandle h) (instancesIn n (now (t .entry))) ⌝ }
 {
@@ -75,10 +75,10 @@ fn ordered_ok(t: &[u8], count: usize, next: u64) -> bool
 {
     let mut hs = [0u64; 128];
     note(t, count, &mut hs);
-    if !handle_order::within(&hs, count, next) {
+    if !distinct_handles::within(&hs, count, next) {
         return false;
     }
-    handle_order::distinct(&hs, count)
+    distinct_handles::distinct(&hs, count)
 }
 
 // Whether the handles of the first count instances are from 1 to below next, and distinct. A handle that differs modulo
@@ -104,7 +104,7 @@ fn handles_ok(t: &[u8], count: usize, next: u64) -> bool
             if (1280 < scanned) & (count <= 128) {
                 return ordered_ok(t, count, next);
             }
-            if !fresh(t, i, h) {
+            if !is_unused(t, i, h) {
                 return false;
             }
             scanned = std::num::wrapping_add_usize(scanned, i);
@@ -209,7 +209,7 @@ pub fn replace(t: &mut [u8], i: usize, x: Instance)
     requires { ⌜ (i * 512 + 512 ≤ length (now t)) × (x .state .writers .len < 32) ⌝ }
     ensures { λ _. ⌜ ((places : ℕ) (xs : List Instance) → Laid places xs (now (t .entry)) → i < length xs → Laid places (set xs i x) (now (t .exit))) ⌝ }
 {
-    instance_writing::put_instance(t, i, x);
+    instance_encoding::put_instance(t, i, x);
 }
 
 // x goes in at place at of the first count instances.
@@ -218,7 +218,7 @@ pub fn insert(t: &mut [u8], count: usize, at: usize, x: Instance)
     ensures { λ _. ⌜ ((places : ℕ) (xs : List Instance) → Laid places xs (now (t .entry)) → length xs ≡ count → count < places → Laid places (take at xs ++ x ∷ drop at xs) (now (t .exit))) ⌝ }
 {
     tables::open_gap(t, 512, at, count);
-    instance_writing::put_instance(t, at, x);
+    instance_encoding::put_instance(t, at, x);
 }
 
 // Of the first count instances only the first kept stay: the places behind them are cleared.

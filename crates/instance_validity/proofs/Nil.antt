@@ -2,7 +2,6 @@
 --     zero-time     two numbers of 4 bytes are 0 where the 8 bytes are as one number
 --     guids-nil     GUIDs are nil where their bytes are zero
 --     set-tail      the unused places of the writer set are nil where the record's end is zero
--- Assumes nothing.
 use Prim.Native.Nat.{ℕ, zero, suc, _+_, _-_, _*_, _^_, _≤_}
 use mathlib.Core.Bool.{_&&_}
 use mathlib.Core.Path.{_≡_, refl, sym, ap, _∙_}

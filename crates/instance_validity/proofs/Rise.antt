@@ -3,7 +3,6 @@
 --     next-high, next-low               the high halves decide that where they differ, else the low ones
 --     rise-few, rise-next, rise-six     none or one, two and six of them
 --     rise-stop, rise-turn              the first ones do not rise, or do: then the rest decides
--- Assumes nothing.
 use Prim.Native.Nat.{ℕ, zero, suc, _+_, _-_, _*_, _^_, _≤_, _<_}
 use mathlib.Core.Bool.{Bool, true, false, _&&_, and-true, and-false, and-assoc}
 use mathlib.Core.Path.{_≡_, refl, sym, ap, _∙_}

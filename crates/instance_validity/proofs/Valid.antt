@@ -1,7 +1,6 @@
 -- The test of a record, in the order in which the code tests, and that of the records of a table.
 --     times-by, record-by     the six times, and one record, from their parts
 --     records-ok              what model asks of the first n records of a table, record by record
--- Assumes nothing.
 use Prim.Native.Nat.{ℕ, zero, suc}
 use mathlib.Core.Bool.{Bool, true, false, _&&_, and-assoc, and-false}
 use mathlib.Core.Path.{_≡_, refl, sym, _∙_}
@@ -14,7 +13,7 @@ use Rattle.model.specs.Layout.{readRows}
 use Rattle.model.specs.State.{instancesIn}
 use Rattle.model.specs.Tables.{all}
 use Rattle.model.specs.WellFormed.{timeOk, timesOk, ownerOk, holderOk, setOk, lifeOk, instanceStateOk, instanceOk, kindsOk}
-use Rattle.instance_record.specs.Parts.{recordOk, recordsOk}
+use Rattle.instance_decoding.specs.Parts.{recordOk, recordsOk}
 use Rattle.octets.proofs.Laws.{be-take}
 
 pub times-by : (s : List ℕ) (f : ℕ) {a b c d e g : Bool} → timeOk (timeAt s 44 (flag 4096 f)) ≡ a → timeOk (timeAt s 52 (flag 2048 f)) ≡ b →

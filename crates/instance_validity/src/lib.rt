@@ -14,7 +14,7 @@ ghost use Rattle.model.specs.Guids.{num, less, guidAt, guidsIn};
 ghost use Rattle.model.specs.InstanceRecord.{timeAt, lifeOf, timesOf, ownerOf, holderOf, writerSetOf};
 ghost use Rattle.model.specs.Tables.{rising};
 ghost use Rattle.model.specs.WellFormed.{timeOk, timesOk, ownerOk, holderOk, setOk, lifeOk};
-ghost use Rattle.instance_record.specs.Parts.{recordOk};
+ghost use Rattle.instance_decoding.specs.Parts.{recordOk};
 
 // A time that is present has nanoseconds below 10^9; an absent one is zero.
 fn time_ok(s: &[u8], at: usize, present: bool) -> bool

@@ -1,6 +1,5 @@
 -- Machine values as lowering writes them, for the proofs by hand.
 --     found-as     what is known of an answer's machine value is known of the lowered one
--- Assumes nothing.
 use mathlib.Core.List.{List, [], _∷_}
 use mir.Val.{Val}
 use denote.Laws.{Is}

@@ -1,7 +1,6 @@
 -- A step of the walker, from what handle_at_position answers.
 --     inside                                a position whose handle is given is below 128
 --     step-refused, step-none, step-given   the step, by the answer
--- Assumes nothing.
 use Prim.Native.Nat.{ℕ, zero, suc, _+_, _≤_, _<_}
 use mathlib.Core.List.{List}
 use mathlib.Core.Path.{_≡_, refl, ap, _∙_}

@@ -1,6 +1,5 @@
 -- Code 48 on head and buffers.
 --     admit-left     what the call on the table leaves is, in head and buffers, what model says
--- Assumes nothing.
 use Prim.Native.Nat.{ℕ}
 use mathlib.Core.List.{List}
 use mathlib.Core.Path.{_≡_, sym, ap, _∙_}

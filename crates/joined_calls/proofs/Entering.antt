@@ -2,7 +2,6 @@
 --     entered-parts                     head and buffers are well formed, part by part
 --     entered-held, entered-losable     what the calls on the tracker and the pass ask for
 --     sheet-refused                     refusals 4 to 6
--- Assumes nothing.
 use Prim.Native.Nat.{ℕ, _≤_}
 use mathlib.Core.List.{List}
 use mathlib.Core.Path.{_≡_, ap, _∙_}
@@ -17,7 +16,7 @@ use Rattle.model.specs.Calls.{joined}
 use Rattle.model.specs.Refusals.{sheetRefusal}
 use Rattle.model.specs.State.{Lent, State, stateOf}
 use Rattle.instance_pass.proofs.EditLaws.{table-editable}
-use Rattle.writer_turns.specs.WriterCalls.{WritersFormed}
+use Rattle.writer_counts.specs.WriterCalls.{WritersFormed}
 use Rattle.lent_state.proofs.Formed.{Parts, parts}
 use Rattle.call_laws.specs.Entered.{Entered}
 use Rattle.call_laws.specs.Heads.{called}

@@ -3,7 +3,6 @@
 --     gone-rises, gone-few
 --                       those expired rise, and are no more than the writers
 --     expired-gone      the part of Lost that an expiry added
--- Assumes nothing.
 use Prim.Native.Nat.{ℕ, _-_, _*_, _≤_}
 use mathlib.Core.Bool.{Bool, true}
 use mathlib.Core.List.{List, [], _∷_, _++_, map}
@@ -27,7 +26,7 @@ use Rattle.model.proofs.Fits.{FitsGuid, FitsWriter}
 use Rattle.model.proofs.GuidLaws.{length-guid, length-guids}
 use Rattle.model.proofs.Tests.{both, split}
 use Rattle.writer_pass.proofs.Picks.{pick-le, writers-fit}
-use Rattle.instance_sets.specs.Lists.{gonesIn}
+use Rattle.writer_set_bytes.specs.Lists.{gonesIn}
 use Rattle.instance_pass.proofs.LossLaws.{gones-back}
 use Rattle.joined_calls.specs.Losses.{goneSince}
 

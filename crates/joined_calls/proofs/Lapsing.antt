@@ -4,7 +4,6 @@
 --     lapse-listed        those that come to Lost rise, and are at most 128
 --     lapse-left          what the call leaves where the expiry is accepted
 --     lapse-stays         and where it is refused
--- Assumes nothing.
 use Prim.Native.Nat.{ℕ, _+_, _≤_}
 use mathlib.Core.Bool.{Bool, true, false, cond}
 use mathlib.Core.List.{List, _++_}
@@ -30,8 +29,8 @@ use Rattle.model.specs.Tables.{rising}
 use Rattle.model.specs.Writers.{movers, trackerState, trackerTurn, trackerLate, trackerCall}
 use Rattle.model.proofs.RowLaws.{length-read}
 use Rattle.model.proofs.TrackerLaws.{late-number}
-use Rattle.writer_turns.specs.WriterCalls.{WritersFormed}
-use Rattle.writer_turns.proofs.Holding.{good}
+use Rattle.writer_counts.specs.WriterCalls.{WritersFormed}
+use Rattle.writer_counts.proofs.Holding.{good}
 use Rattle.writer_expiry.specs.Losing.{Leaves, Expires}
 use Rattle.joined_calls.specs.Losses.{Losable, Loses, goneSince, LapseJudged}
 use Rattle.joined_calls.proofs.Gone.{gone-fits, gone-rises, gone-few, expired-gone}

@@ -5,7 +5,6 @@
 --     loss-left                     the joined call where the tracker's is accepted
 --     loss-stays                    where it is refused, nothing is changed
 --     leave-left, leave-number      codes 50 and 51
--- Assumes nothing.
 use Prim.Native.Nat.{ℕ, zero, suc}
 use mathlib.Core.Bool.{Bool, true, false}
 use mathlib.Core.List.{List, [], _∷_}
@@ -39,13 +38,13 @@ use Rattle.model.proofs.StateLaws.{formed-facts}
 use Rattle.model.proofs.TrackerLaws.{instances-stay}
 use Rattle.instance_table.specs.Laid.{Laid}
 use Rattle.instance_table.proofs.LaidOut.{table-formed, table-laid}
-use Rattle.instance_pass.specs.declared.Tally.{Tally}
+use Rattle.instance_pass.specs.declared.PassCounts.{PassCounts}
 use Rattle.instance_pass.specs.Passes.{Passed}
-use Rattle.instance_sets.specs.Lists.{gonesIn, Listed}
+use Rattle.writer_set_bytes.specs.Lists.{gonesIn, Listed}
 use Rattle.instance_pass.specs.Steps.{lossAct}
 use Rattle.instance_pass.proofs.CallLaws.{Few, passed-few, lost}
 use Rattle.instance_pass.proofs.LossLaws.{loss-bounded}
-use Rattle.writer_turns.specs.WriterCalls.{heldBy, Settles, Turns, leaving}
+use Rattle.writer_counts.specs.WriterCalls.{heldBy, Settles, Turns, leaving}
 use Rattle.writer_expiry.specs.Losing.{Leaves}
 use Rattle.writer_expiry.proofs.Expiring.{lost-laid}
 use Rattle.call_laws.specs.Entered.{Entered}
@@ -56,7 +55,7 @@ use Rattle.joined_calls.proofs.Entering.{entered-parts}
 
 -- ---- the pass
 
-module _ (s : Sheet) (gone : List ℕ) (count : ℕ) (pens out pens′ out′ : List ℕ) (r : Tally) (at : MaybeTime) (given : at ≡ lossTime s)
+module _ (s : Sheet) (gone : List ℕ) (count : ℕ) (pens out pens′ out′ : List ℕ) (r : PassCounts) (at : MaybeTime) (given : at ≡ lossTime s)
     (passed : Passed (lossAct (gonesIn gone) at) (instancesIn count pens) pens out pens′ out′ r) where
   p : Passed (lossAct (gonesIn gone) (lossTime s)) (instancesIn count pens) pens out pens′ out′ r
   p = rw given at passed

@@ -27,7 +27,7 @@ use Rattle.model.specs.Tables.{pick, sift}
 use Rattle.model.specs.Times.{ifPresent}
 use Rattle.instance_table.specs.Laid.{Laid}
 use Rattle.instance_pass.specs.Passes.{Editable}
-use Rattle.instance_sets.specs.Lists.{gonesIn}
+use Rattle.writer_set_bytes.specs.Lists.{gonesIn}
 use Rattle.call_laws.specs.Entered.{Entered}
 
 -- ---- the loss of writers

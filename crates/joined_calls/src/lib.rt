@@ -21,9 +21,9 @@ ghost use Rattle.model.specs.Guids.{num};
 ghost use Rattle.model.specs.State.{instancesIn};
 ghost use Rattle.model.specs.Tables.{rising};
 ghost use Rattle.model.specs.WellFormed.{lostOk};
-ghost use Rattle.instance_sets.specs.Lists.{gonesIn, Listed};
+ghost use Rattle.writer_set_bytes.specs.Lists.{gonesIn, Listed};
 ghost use Rattle.instance_table.specs.TableCalls.{TableFormed};
-ghost use Rattle.writer_turns.specs.WriterCalls.{WritersFormed};
+ghost use Rattle.writer_counts.specs.WriterCalls.{WritersFormed};
 ghost use Rattle.call_laws.specs.Entered.{Entered};
 ghost use Rattle.joined_calls.specs.Losses.{Losable, Loses, goneSince, AdmitJudged, departing, LeaveJudged, LapseJudged};
 

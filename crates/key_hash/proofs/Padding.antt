@@ -1,4 +1,4 @@
--- Padding keeps keys of one length apart. Assumes nothing.
+-- Padding keeps keys of one length apart.
 use mathlib.Core.List.{List}
 use mathlib.Core.Path.{_≡_, refl, sym, ap, _∙_}
 use Prim.Native.Nat.{ℕ}

@@ -1,4 +1,4 @@
--- Refused or not. Assumes nothing.
+-- Refused or not.
 --     unrefused         a key that is not refused is not longer than the stated size
 --     turned-away       a refusal is its number and zeros
 --     taken-in          else it is the hash

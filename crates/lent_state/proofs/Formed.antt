@@ -1,7 +1,6 @@
 -- The test of head and buffers together, from its parts.
 --     formed-by       the whole test, from its parts in the order of the code
 --     parts           its parts, from the whole test
--- Assumes nothing.
 use Prim.Native.Nat.{ℕ}
 use mathlib.Core.Bool.{Bool, true, false, _&&_, and-false}
 use mathlib.Core.List.{List}

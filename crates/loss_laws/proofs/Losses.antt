@@ -5,7 +5,6 @@
 --     composed        what these calls leave and answer together
 --     loss-calls      code 49, 50 or 51, not refused, is that
 --     lapse-calls, part-calls, depart-calls      each code
--- Assumes nothing.
 use Prim.Native.Nat.{ℕ, suc, _+_}
 use mathlib.Core.Bool.{Bool, true, false, not, _&&_, _||_, cond}
 use mathlib.Core.List.{List, [], _∷_, _++_, map}

@@ -1,7 +1,6 @@
 -- A block is worked on alike wherever it stands: its words are those of its 64 bytes.
 --     blocks-agree      of two lists that begin alike
 --     blocks-split      of a list that begins like one and goes on like another
--- Assumes nothing.
 use Prim.Native.Nat.{ℕ, zero, suc, _+_, _*_, _<_, _≤_}
 use mathlib.Core.List.{List}
 use mathlib.Core.Path.{_≡_, refl, ap, _∙_}

@@ -1,4 +1,4 @@
--- A padded message is the message's whole blocks, and one block or two behind them. Assumes nothing.
+-- A padded message is the message's whole blocks, and one block or two behind them.
 --     tail-built        what the code writes into 128 zeros is the end of the padded message
 --     digested          the digest of the padded message, by both
 use Prim.Native.Nat.{ℕ, suc, _+_, _-_, _*_, _/_, _%_}

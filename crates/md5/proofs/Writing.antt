@@ -1,4 +1,4 @@
--- Bytes written over zeros, and the low-order one first. Assumes nothing.
+-- Bytes written over zeros, and the low-order one first.
 use Prim.Native.Nat.{ℕ, zero, suc, _+_, _/_, _%_, _≤_}
 use mathlib.Core.List.{List, [], _∷_, _++_, append-nil, append-assoc}
 use mathlib.Core.Path.{_≡_, refl, sym, ap, _∙_}

@@ -7,7 +7,6 @@
 --     tried-again             a further code 16 changes nothing where codes 16, 9 and 10 came before
 --     admitted-state          what the call leaves is what a further code 16 leaves
 --     accepted-again          and one more changes nothing
--- Assumes nothing.
 use Prim.Native.Nat.{ℕ, suc}
 use mathlib.Core.Bool.{Bool, true, false, _||_, cond}
 use mathlib.Core.List.{List, [], _∷_}

@@ -3,7 +3,6 @@
 --     added-one           what puts a writer in is a call on one instance
 --     told-one, told-every    what a call on one instance answers, and a call on every
 --     told-accepts        the answer of an accepted call has number 0
--- Assumes nothing.
 use mathlib.Core.Bool.{Bool, true, false, cond}
 use mathlib.Core.List.{List}
 use mathlib.Core.Option.{Option, none, some}

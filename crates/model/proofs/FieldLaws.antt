@@ -1,7 +1,6 @@
 -- Fields at the front of a list of bytes: laid out and read back, both ways.
 --     reads-front     what was laid out is read back
 --     fields-reads    what was read is laid out as it was
--- Assumes nothing.
 use mathlib.Core.Path.{_≡_, sym, ap, _∙_}
 use mathlib.Core.List.{List, [], _∷_, _++_}
 use Prim.Native.Nat.{ℕ, _+_, _≤_}

@@ -5,7 +5,6 @@
 --     another-figure       another is refused as 3, whatever else is lent
 --     call-in              a call on a head with a figure is `callIn` for it
 --     in-kept, figure-kept      every call keeps it
--- Assumes nothing.
 use Prim.Native.Nat.{ℕ, _*_, _≤_}
 use mathlib.Core.Bool.{Bool, true, false, cond}
 use mathlib.Core.List.{List}

@@ -1,6 +1,5 @@
 -- A value fits its bytes: each number its field, each array its length. Values of the code's types do, and so does what is
 -- read from bytes.
--- Assumes nothing.
 use Prim.Native.Nat.{_^_, _<_}
 use mathlib.Core.Path.{_≡_}
 use lib.ListN.{length}

@@ -3,7 +3,6 @@
 --     flags-apart     what the flags of an instance say is the instance's
 --     flags-again     the flags of what was read are those that were read
 --     writer-apart, writer-again      the same of a writer
--- Assumes nothing.
 use Prim.Native.Nat.{ℕ, zero, suc, _+_, _*_, _/_, _%_, _<_}
 use mathlib.Core.Bool.{Bool, true, false}
 use mathlib.Core.Path.{_≡_, refl, ap, _∙_}

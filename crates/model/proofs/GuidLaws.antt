@@ -2,7 +2,6 @@
 --     guid-back, guid-forth       one
 --     guids-back, guids-forth     a list of them
 --     guids-all, guids-each       in the form that the laws of rows ask for
--- Assumes nothing.
 use Prim.Native.Nat.{ℕ, zero, suc, _+_, _*_, _≤_}
 use mathlib.Core.Path.{_≡_, refl, ap, _∙_}
 use mathlib.Core.List.{List, [], _∷_, _++_, append-nil}

@@ -1,7 +1,6 @@
 -- Handles in the front of Out.
 --     length-handles, handles-append       the bytes of handles
 --     list-start, list-more, length-list   a list in Out: of nothing; of one handle more; Out is as long as it was
--- Assumes nothing.
 use Prim.Native.Nat.{ℕ, _+_, _*_, _≤_}
 use mathlib.Core.List.{List, [], _∷_, _++_, append-assoc, append-nil}
 use mathlib.Core.Path.{_≡_, refl, sym, ap, _∙_}

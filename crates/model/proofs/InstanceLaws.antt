@@ -4,7 +4,6 @@
 --     instance-back       what was laid out is read back
 --     instance-forth      what was read is laid out as it was
 --     instance-fits       what was read fits
--- Assumes nothing.
 use Prim.Native.Nat.{ℕ, _^_, _<_}
 use mathlib.Core.Path.{_≡_, sym, ap, _∙_}
 use mathlib.Core.List.{List, [], _++_, append-nil}

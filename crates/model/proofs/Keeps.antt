@@ -12,7 +12,6 @@
 --                   codes 16 and 9 leave it as it is
 --     every-cases   the calls on every instance are five
 --     lasting       a call on one instance leaves it there
--- Assumes nothing.
 use Prim.Native.Nat.{ℕ, _-_, max}
 use mathlib.Core.Bool.{Bool, true, false, not, _&&_, _||_, cond}
 use mathlib.Core.Option.{Option, none, some}

@@ -8,7 +8,6 @@
 --     rows-read         what was read is laid out as it was, where each record is
 --     lay-read          so is the whole buffer, where the rest is zero
 --     lay-rest          behind what was laid out all is zero
--- Assumes nothing.
 use mathlib.Core.Bool.{true}
 use mathlib.Core.Path.{_≡_, refl, sym, ap, _∙_}
 use mathlib.Core.List.{List, [], _∷_, _++_, append-assoc}

@@ -1,7 +1,6 @@
 -- Laws of writer sets.
 --     members-of               the record of a list holds it
 --     insert-le, remove-le     lengths
--- Assumes nothing.
 use Prim.Native.Nat.{suc, _+_, _-_, _≤_}
 use mathlib.Core.Bool.{Bool, true, false, cond}
 use mathlib.Core.List.{List, [], _∷_}

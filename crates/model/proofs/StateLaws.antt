@@ -6,7 +6,6 @@
 --     fresh-laid, fresh-read, fresh-formed      the fresh state
 --     less-less        an amount less its change is taken off again
 --     writers-each, writers-all      the writers' records, both ways
--- Assumes nothing.
 use Prim.Native.Nat.{ℕ, zero, suc, _+_, _*_, _%_, _≤_, _<_}
 use mathlib.Core.Bool.{Bool, true, false, _&&_}
 use mathlib.Core.Path.{_≡_, refl, sym, ap, _∙_}

@@ -1,7 +1,6 @@
 -- Laws of the tables of model, for any records.
 --     length-sift     a turn leaves no more than there were
 --     all-put         what holds of every record holds with one put in
--- Assumes nothing.
 use mathlib.Core.Bool.{Bool, true, false, cond}
 use mathlib.Core.List.{List, [], _∷_}
 use mathlib.Core.Option.{Option, none, some}

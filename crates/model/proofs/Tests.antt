@@ -3,7 +3,6 @@
 --     split, clash                a claim by the two cases of a test; no test is both
 --     lt-or-le, eq-or-ne          of two numbers
 --     less-less                   a difference taken away again
--- Assumes nothing.
 use Prim.Native.Nat.{ℕ, _≤_, _<_}
 use mathlib.Core.Bool.{Bool, true, false, _&&_}
 use mathlib.Core.Logic.{_≢_, _⊎_, inl, inr}

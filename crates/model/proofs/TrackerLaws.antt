@@ -2,7 +2,6 @@
 --     tracker-accepts, tracker-unhanded     what it answers has number 0, and no handle
 --     late-number                           the number of a call is that of its late refusal
 --     stays, instances-stay                 what its turn leaves it leaves, and it leaves the instances
--- Assumes nothing.
 use Prim.Native.Nat.{ℕ}
 use mathlib.Core.Bool.{Bool, true, false, cond}
 use mathlib.Core.List.{List}

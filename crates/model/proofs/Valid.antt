@@ -1,7 +1,6 @@
 -- What a valid instance is.
 --     valid-parts       each of its parts is valid
 --     started-valid     a started instance is valid
--- Assumes nothing.
 use Prim.Native.Nat.{ℕ, _^_}
 use mathlib.Core.Bool.{true}
 use mathlib.Core.Path.{_≡_, refl}

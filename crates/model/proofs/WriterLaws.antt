@@ -3,7 +3,6 @@
 --     writer-back       what was laid out is read back
 --     writer-forth      what was read is laid out as it was
 --     writer-fits       what was read fits
--- Assumes nothing.
 use Prim.Native.Nat.{ℕ, _%_, _<_}
 use mathlib.Core.Path.{_≡_, ap, _∙_}
 use mathlib.Core.List.{List, [], append-nil}

@@ -25,7 +25,7 @@ use Rattle.model.specs.Reads.{firstWritten}
 use Rattle.model.specs.Sets.{has, insert, setOf}
 use Rattle.model.specs.State.{State, figureOk, smallPlaces, largePlaces, freshState}
 use Rattle.model.specs.Tables.{find, pick, any, put, sift}
-use Rattle.model.specs.Times.{billion, noTime, nanosOf, filterAdmits, orderAdmits, deadlineMissed, purgeDue}
+use Rattle.model.specs.Times.{billion, noTime, timeValue, filterAdmits, orderAdmits, deadlineMissed, purgeDue}
 use Rattle.model.specs.WriterRecord.{stateNumber}
 use Rattle.model.specs.Writers.{trackerCall, trackerTurn, trackerState, writersAfter, movers, lastAfter, nextDue, covers, renews, asserted, expires, expired}
 
@@ -422,5 +422,5 @@ benchRows =
     ++ (placesLines ++ (lookupLines ++ belowLines)))))))))))))))
 
 pub bench-rows : T (agree benchRows)
-unfolding num allocated instanceCall instanceTurn instancesAfter begun nextAfter lateRefusal handleBytes startedState started registered unregistered ensured revived revivedNew lifecycleObserved admittedObserved admittedNoted writerNoted ownershipTried takesOver outbids purged leftBy sampled firstOwned admitted admitWith has insert setOf find pick any put sift nanosOf filterAdmits orderAdmits deadlineMissed purgeDue trackerCall trackerTurn trackerState writersAfter movers lastAfter nextDue covers renews asserted expires expired
+unfolding num allocated instanceCall instanceTurn instancesAfter begun nextAfter lateRefusal handleBytes startedState started registered unregistered ensured revived revivedNew lifecycleObserved admittedObserved admittedNoted writerNoted ownershipTried takesOver outbids purged leftBy sampled firstOwned admitted admitWith has insert setOf find pick any put sift timeValue filterAdmits orderAdmits deadlineMissed purgeDue trackerCall trackerTurn trackerState writersAfter movers lastAfter nextDue covers renews asserted expires expired
 bench-rows = tt

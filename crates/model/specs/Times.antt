@@ -23,8 +23,8 @@ negative bits = leb (2 ^ 31) bits
 -- ---- the nanosecond value, and the tests on such values
 
 -- under filters, destination order, autopurge and the deadline: signed seconds × 10^9, and nanoseconds added below zero too
-unfoldable pub nanosOf : MaybeTime → ℤ
-nanosOf t = toZ w32 (t .sec) *ℤ pos billion +ℤ pos (t .nanosec)
+unfoldable pub timeValue : MaybeTime → ℤ
+timeValue t = toZ w32 (t .sec) *ℤ pos billion +ℤ pos (t .nanosec)
 
 -- from one value to another; below zero where the other is earlier
 abbrev pub gap : ℤ → ℤ → ℤ
@@ -51,20 +51,20 @@ elapsed (negsuc n) = 0
 
 -- filter: with no last time yes
 unfoldable pub filterAdmits : MaybeTime → MaybeTime → ℕ → Bool
-filterAdmits last candidate separation = not (last .present) || gapPasses (nanosOf last) (nanosOf candidate) separation
+filterAdmits last candidate separation = not (last .present) || gapPasses (timeValue last) (timeValue candidate) separation
 
 -- destination order: with no last time yes
 unfoldable pub orderAdmits : MaybeTime → MaybeTime → Bool
-orderAdmits last candidate = not (last .present) || isLater (nanosOf last) (nanosOf candidate)
+orderAdmits last candidate = not (last .present) || isLater (timeValue last) (timeValue candidate)
 
 -- the owner's deadline is missed: its last accepted sample is a deadline or more before now
 unfoldable pub deadlineMissed : MaybeTime → MaybeTime → ℕ → Bool
-deadlineMissed ownerAt now deadline = ownerAt .present && reaches (gap (nanosOf ownerAt) (nanosOf now)) deadline
+deadlineMissed ownerAt now deadline = ownerAt .present && reaches (gap (timeValue ownerAt) (timeValue now)) deadline
 
 -- autopurge: the delay has run out since a time that is there; the delay 2^64 - 1 never does
 unfoldable pub purgeDue : MaybeTime → MaybeTime → ℕ → Bool
 purgeDue since now delay =
-    since .present && (not (eqb delay (2 ^ 64 - 1)) && leb delay (elapsed (gap (nanosOf since) (nanosOf now))))
+    since .present && (not (eqb delay (2 ^ 64 - 1)) && leb delay (elapsed (gap (timeValue since) (timeValue now))))
 
 -- ---- optional times
 

@@ -141,7 +141,14 @@ pub struct Head {
     pub places: u16,
 }
 
-// The calls on instances, in the order of their codes 1 to 21.
+// The last code of each range of calls; the first ones are 1, 32 and 48.
+pub const LAST_INSTANCE: u8 = 21;
+
+pub const LAST_TRACKER: u8 = 40;
+
+pub const LAST_JOINED: u8 = 51;
+
+// The calls on instances, in the order of their codes.
 pub enum InstanceCall {
     Register,
     EnsureRegisteredLimited,
@@ -217,7 +224,7 @@ pub struct Rule {
     pub reports: Report,
 }
 
-// The calls on writers, in the order of their codes 32 to 40.
+// The calls on writers, in the order of their codes.
 pub enum TrackerCall {
     Matched,
     Unmatched,
@@ -270,7 +277,7 @@ pub struct TrackerRule {
     pub report: TrackerReport,
 }
 
-// The joined calls, in the order of their codes 48 to 51.
+// The joined calls, in the order of their codes.
 pub enum JoinedCall {
     Admit,
     Lapse,

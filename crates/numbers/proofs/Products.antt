@@ -1,4 +1,4 @@
--- A product from the halves of its factors. Assumes nothing.
+-- A product from the halves of its factors.
 use Prim.Native.Nat.{ℕ, _+_, _*_, _/_, _%_, _^_, _-_, _<_}
 use mathlib.Core.Path.{_≡_, _∙_}
 use native.Mathlib.Nat.{mul-add, add-mul, mul-assoc, mul-right-comm, mul-mul-mul-comm, mul-le-mul, div-add-mod'}

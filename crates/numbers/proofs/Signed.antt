@@ -1,5 +1,4 @@
 -- Signed operations, over plain variables: what they ask, and what is read back from the bits that they leave.
--- Assumes nothing.
 use Prim.Native.Nat.{ℕ, _^_, _<_}
 use mathlib.Core.Bool.{true, false}
 use mathlib.Core.Path.{_≡_, sym, ap, _∙_}

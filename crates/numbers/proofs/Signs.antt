@@ -1,4 +1,4 @@
--- Numbers with a sign, and their 32 bits. Assumes nothing.
+-- Numbers with a sign, and their 32 bits.
 --     raised-is         raised bits are the number plus 2^31
 --     raised-raised     raised twice, bits are as they were
 --     raised-order      the order of raised bits is the order of the signed numbers

@@ -1,7 +1,6 @@
 -- Laws of numbers that are read from bytes.
 --     be-lt                  numbers and fields that are read fit their widths
 --     put-be, puts-reads     writing what is there changes nothing
--- Assumes nothing.
 use mathlib.Core.Path.{_≡_, refl}
 use mathlib.Core.List.{List, [], _∷_}
 use Prim.Native.Nat.{ℕ, zero, suc, _+_, _*_, _/_, _%_, _^_, _<_}

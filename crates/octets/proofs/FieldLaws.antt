@@ -4,7 +4,6 @@
 --     reads-puts        what was written is read back, field by field
 --     reads-part        fields are the same in a part of the list that has them all
 --     reads-out         fields apart from what was written are as they were
--- Assumes nothing.
 use mathlib.Core.Path.{_≡_, refl, _∙_}
 use mathlib.Core.Logic.{_⊎_, inl, inr, ⊎-elim}
 use mathlib.Core.List.{List, [], _∷_}

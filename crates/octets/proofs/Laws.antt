@@ -9,7 +9,6 @@
 --     be-agree, be-same       a number is read from its own bytes alone
 --     be-take, be-drop, be-part     so it is the same in a part of the list
 --     be-put                  what was written is read back
--- Assumes nothing.
 use mathlib.Core.Path.{_≡_, refl, sym, ap, _∙_}
 use mathlib.Core.Logic.{_⊎_, inl, inr, ⊎-elim}
 use mathlib.Core.List.{List}

@@ -6,7 +6,6 @@
 --     lay-open              a gap opened and written over is an insert
 --     lay-close             a record's place closed, and the last one cleared, is the list without it
 --     lay-clear             places cleared at the end are a shorter list
--- Assumes nothing.
 use Prim.Native.Nat.{ℕ, zero, suc, _+_, _-_, _*_, _≤_, _<_}
 use mathlib.Core.Path.{_≡_, refl, sym, ap, _∙_}
 use mathlib.Core.List.{List, [], _∷_, _++_, append-assoc}

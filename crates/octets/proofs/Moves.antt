@@ -3,7 +3,6 @@
 --     move-down-turn        the next byte of the list itself, which is not written yet
 --     move-up-turn          the same from the other end
 --     clear-turn            one zero more
--- Assumes nothing.
 use mathlib.Core.Path.{_≡_, _∙_}
 use mathlib.Core.List.{List, [], _∷_, _++_, append-assoc}
 use Prim.Native.Nat.{ℕ, suc, _+_, _-_, _≤_, _<_}

@@ -5,7 +5,6 @@
 --     paste-up, paste-down                      parts moved up and down, and what they left written over
 --     length-digits, length-fields              as wide as they should be
 --     put-patch, puts-patch                     a write of a number, or of fields, is a patch
--- Assumes nothing.
 use Prim.Native.Nat.{ℕ, zero, suc, _+_, _/_, _%_, _≤_, _<_}
 use mathlib.Core.Path.{_≡_, refl, sym, ap, _∙_}
 use mathlib.Core.List.{List, [], _∷_, _++_, append-assoc}

@@ -1,5 +1,4 @@
 -- One turn and the end of the scan for bytes that are not 0, in the code's own form.
--- Assumes nothing.
 use mathlib.Core.Path.{_≡_, sym, _∙_}
 use mathlib.Core.Bool.{_&&_, and-assoc, and-true}
 use mathlib.Core.List.{List}

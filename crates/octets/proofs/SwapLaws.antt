@@ -3,7 +3,6 @@
 --     be-two                      two bytes as a number
 --     back-2, back-4, back-8      swapped twice, a number is as it was
 --     put-2, put-4, put-8         two halves written, the lower first, are a write of the number swapped
--- Assumes nothing.
 use mathlib.Core.Path.{_≡_, ap, _∙_}
 use mathlib.Core.List.{List}
 use Prim.Native.Nat.{ℕ, _+_, _*_, _/_, _%_, _<_}

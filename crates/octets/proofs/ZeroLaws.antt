@@ -2,7 +2,6 @@
 --     allZero-zeros         it holds of zeros
 --     zeros-allZero         what it holds of is zeros
 --     allZero-append        it holds of two parts where it holds of each
--- Assumes nothing.
 use mathlib.Core.Path.{_≡_, refl, sym, ap}
 use mathlib.Core.Bool.{true, _&&_, and-assoc}
 use mathlib.Core.List.{List, [], _∷_, _++_}

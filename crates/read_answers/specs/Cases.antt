@@ -2,7 +2,8 @@
 -- not answer them.
 use Prim.Native.Nat.{ℕ}
 use mathlib.Core.Bool.{Bool, true, false}
-use lib.IntN.{pos}
+use mir.Syntax.{w32}
+use mir.Val.{ofZ}
 use Rattle.model.specs.declared.Answer.{Answer}
 use Rattle.model.specs.declared.ChangesRead.{ChangesRead}
 use Rattle.model.specs.declared.ChangesRead.the-variants.{Is as changesIs, Refused as changesRefused}
@@ -17,43 +18,44 @@ use Rattle.model.specs.declared.Listing.the-variants.{Listed, Refused as listin
 use Rattle.model.specs.declared.StatusRead.{StatusRead}
 use Rattle.model.specs.declared.StatusRead.the-variants.{Is as statusIs, Refused as statusRefused}
 use Rattle.model.specs.Answers.{refusedWith, reporting}
+use Rattle.model.specs.InstanceRecord.{bit}
 use Rattle.read_answers.specs.declared.ReadAnswer.{ReadAnswer}
 
-abbrev pub readOf : ℕ → Bool → Bool → ℕ → ℕ → ReadAnswer
+abbrev pub readOf : ℕ → ℕ → Bool → ℕ → ℕ → ReadAnswer
 readOf number said present size value =
-    record { number = number; yes = said; present = present; stored = false; size = size; value = value; sec = pos 0; nanosec = 0 }
+    record { number = number; said = said; present = present; stored = false; size = size; value = value; sec = 0; nanosec = 0 }
 
 -- the number alone; number 0: nothing was found
 abbrev pub refusedAnswer : ℕ → ReadAnswer
-refusedAnswer n = readOf n false false 0 0
+refusedAnswer n = readOf n 0 false 0 0
 
 abbrev pub decisionAnswer : Decision → ReadAnswer
 decisionAnswer (decisionRefused n) = refusedAnswer n
-decisionAnswer (decisionIs said) = readOf 0 said false 0 0
+decisionAnswer (decisionIs b) = readOf 0 (bit b) false 0 0
 
 abbrev pub handleAnswer : FoundHandle → ReadAnswer
 handleAnswer (handleRefused n) = refusedAnswer n
 handleAnswer handleMissing = refusedAnswer 0
-handleAnswer (handleIs h) = readOf 0 false true 0 (h .0)
+handleAnswer (handleIs h) = readOf 0 0 true 0 (h .0)
 
 abbrev pub timeAnswer : FoundTime → ReadAnswer
 timeAnswer (timeRefused n) = refusedAnswer n
 timeAnswer timeMissing = refusedAnswer 0
 timeAnswer (timeIs t) =
-    record { number = 0; yes = false; present = true; stored = false; size = 0; value = 0; sec = t .sec; nanosec = t .nanosec }
+    record { number = 0; said = 0; present = true; stored = false; size = 0; value = 0; sec = ofZ w32 (t .sec); nanosec = t .nanosec }
 
 abbrev pub listingAnswer : Listing → ReadAnswer
 listingAnswer (listingRefused n) = refusedAnswer n
-listingAnswer (Listed n) = readOf 0 false false n 0
+listingAnswer (Listed n) = readOf 0 0 false n 0
 
 -- a holder by its place; where none is stored, all is 0
 abbrev pub holderAnswer : Bool → ℕ → ℕ → ReadAnswer
 holderAnswer stored offset len =
-    record { number = 0; yes = false; present = false; stored = stored; size = len; value = offset; sec = pos 0; nanosec = 0 }
+    record { number = 0; said = 0; present = false; stored = stored; size = len; value = offset; sec = 0; nanosec = 0 }
 
 abbrev pub changesAnswer : ChangesRead → ReadAnswer
 changesAnswer (changesRefused n) = refusedAnswer n
-changesAnswer (changesIs n) = readOf 0 false false 0 n
+changesAnswer (changesIs n) = readOf 0 0 false 0 n
 
 -- the status goes into the answer of a call
 abbrev pub statusAnswer : StatusRead → Answer

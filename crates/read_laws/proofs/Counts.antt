@@ -1,7 +1,6 @@
 -- What a well-formed state says of its head's counts.
 --     handles-few      distinct handles from 1 to below the next are fewer than the next
 --     classes-few      alive and not alive together are no more than all writers
--- Assumes nothing.
 use Prim.Native.Nat.{ℕ, zero, suc, _+_, _≤_, _<_}
 use mathlib.Core.Bool.{Bool, true, false, cond}
 use mathlib.Core.List.{List, [], _∷_}

@@ -3,36 +3,32 @@
 --     formed-head      of the head of a well-formed state it holds
 --     head-made        where it holds, buffers of their lengths are well formed with it
 --     head-3, only-head-3      so a head is refused as 3 exactly if its figure is another or no buffers do
--- Assumes nothing.
 use Prim.Native.Nat.{ℕ, _+_, _-_, _*_, _^_, _≤_, _<_}
 use mathlib.Core.Bool.{true, false, _&&_}
 use mathlib.Core.List.{List, []}
 use mathlib.Core.Path.{_≡_, sym, ap, _∙_}
-use native.Mathlib.Nat.{mul-le-mul-right}
 use native.Mathlib.Omega.{arith}
 use borrow.Author.Tests.{leb-true, ltb-true, le-leb, lt-ltb}
 use lib.Dec.{leb}
 use lib.IntN.{pos, _-ℤ_}
 use lib.ListN.{length, replicate, length-replicate}
-use Rattle.octets.proofs.LayLaws.{length-lay}
 use Rattle.model.specs.declared.Head.{Head}
 use Rattle.model.specs.declared.Instance.{Instance}
-use Rattle.model.specs.Guids.{nil, guidBytes}
-use Rattle.model.specs.InstanceRecord.{instanceOf, instanceBytes}
+use Rattle.model.specs.Guids.{nil}
+use Rattle.model.specs.InstanceRecord.{instanceOf}
 use Rattle.model.specs.Reads.{headAlone}
 use Rattle.model.specs.State.{Lent, State, figureOk, headOf, layOut, aliveCount, notAliveCount, instancesIn, writersIn}
 use Rattle.model.specs.WellFormed.{within, headOk, wellFormed, valid}
-use Rattle.model.specs.WriterRecord.{writerOf, writerBytes}
-use Rattle.model.proofs.Fits.{FitsGuid, FitsInstance, FitsWriter}
-use Rattle.model.proofs.GuidLaws.{length-guid}
-use Rattle.model.proofs.InstanceLaws.{length-instance}
+use Rattle.model.specs.WriterRecord.{writerOf}
 use Rattle.model.proofs.RowLaws.{length-read}
 use Rattle.model.proofs.Tests.{both, split, less-less}
 use Rattle.model.proofs.StateLaws.{Formed, formed-facts, Fitting, laid-valid}
-use Rattle.model.proofs.WriterLaws.{length-writer}
+use Rattle.accounts.proofs.Basics.{never}
+use Rattle.accounts.proofs.InStep.{laid-sizes}
+use Rattle.accounts.proofs.Sound.{nils-fit}
 use Rattle.read_laws.proofs.Counts.{handles-few, classes-few}
-use Rattle.read_laws.proofs.Makings.{nils-fit, instancesFrom, length-instances, instances-ok, instances-fit, writersFrom, length-writers, writers-ok, writers-fit, classes, length-classes, alive-are, not-alive-are}
-use Rattle.read_laws.proofs.Tables.{never, low, top, handles-of}
+use Rattle.read_laws.proofs.Makings.{instancesFrom, length-instances, instances-ok, instances-fit, writersFrom, length-writers, writers-ok, writers-fit, classes, length-classes, alive-are, not-alive-are}
+use Rattle.read_laws.proofs.Tables.{next-within, asked-of}
 
 -- ---- the head of a well-formed state
 
@@ -46,9 +42,9 @@ module _ (places : ℕ) (ok : figureOk places ≡ true) (l : Lent) (formed : wel
   few-handles : h .«instance_count» < h .«next_handle» .0
   few-handles =
       let xs : List Instance = instancesIn (h .«instance_count») (l .pens) in
-      let p = handles-of (h .«next_handle» .0) xs (facts .instances) in
+      let p = asked-of (h .«next_handle» .0) xs (facts .instances) in
       let n : length xs ≡ h .«instance_count» = length-read instanceOf 512 (h .«instance_count») (l .pens) in
-      let m : length xs < h .«next_handle» .0 = handles-few (h .«next_handle» .0) xs (low h (facts .head)) (p .distinct) (p .below) in
+      let m : length xs < h .«next_handle» .0 = handles-few (h .«next_handle» .0) xs (next-within h (facts .head) .0) (p .distinct) (p .below) in
       omega arith
 
   few-classes : h .alive + h .«not_alive» ≤ h .«writer_count»
@@ -160,7 +156,7 @@ module _ (h : Head) (f : Alone h) where
   unfolding state
   fits =
       record {
-        instances = instances-fit 1 (h .«instance_count») (omega (arith, f .handles, top h (f .head)));
+        instances = instances-fit 1 (h .«instance_count») (omega (arith, f .handles, next-within h (f .head) .1));
         fewInstances = omega (arith, length-instances 1 (h .«instance_count»), f .instances);
         writers = writers-fit 1 (classes (h .alive) (h .«not_alive») rest) (omega (arith, counted, f .writers));
         fewWriters = omega (arith, length-writers 1 (classes (h .alive) (h .«not_alive») rest), counted, f .writers);
@@ -191,17 +187,15 @@ module _ (h : Head) (f : Alone h) where
       )
 
   made : FormableHead h
-  unfolding layOut
   made =
+      let s = laid-sizes places state [] fits in
       record {
         figure = f .figure;
         lent = layOut places state [];
-        head = head-is;
-        pensLength = length-lay instanceBytes 512 FitsInstance length-instance (places * 512) (state .instances) (fits .instances)
-            (mul-le-mul-right 512 (fits .fewInstances));
-        writersLength = length-lay writerBytes 40 FitsWriter (λ w q. length-writer w) 5120 (state .writers) (fits .writers)
-            (omega (arith, fits .fewWriters));
-        lostLength = length-lay guidBytes 16 FitsGuid (λ g q. length-guid g) 4096 (state .lost) (fits .lost) (omega (arith, fits .fewLost));
+        head = unfold layOut in head-is;
+        pensLength = s .pens;
+        writersLength = s .writers;
+        lostLength = s .lost;
         formed = laid-valid places state [] fits ∙ is-valid;
       }
 

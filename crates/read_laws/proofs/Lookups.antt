@@ -6,7 +6,6 @@
 --     lookup-stays     so while these stay, the answer does
 --     lookup-same      over unchanged instances, whichever the number of places
 --     lookup-front     and while the first of them stays, whatever is behind it
--- Assumes nothing.
 use Prim.Native.Nat.{ℕ, zero, suc}
 use mathlib.Core.Bool.{Bool, true, false, not, or-true, or-false, and-false}
 use mathlib.Core.List.{List, [], _∷_}

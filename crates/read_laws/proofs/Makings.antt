@@ -2,7 +2,6 @@
 --     instancesFrom, instances-ok, instances-fit      started instances with the keys and handles from a number on
 --     writersFrom, writers-ok, writers-fit            writers with the GUIDs from a number on, each in a class
 --     alive-are, not-alive-are                        their classes
--- Assumes nothing.
 use Prim.Native.Nat.{ℕ, zero, suc, _+_, _^_, _≤_, _<_}
 use mathlib.Core.Bool.{Bool, true, false, cond}
 use mathlib.Core.List.{List, [], _∷_, _++_}
@@ -11,7 +10,6 @@ use native.Mathlib.Nat.{zero-add, add-zero}
 use native.Mathlib.Omega.{arith}
 use borrow.Author.Tests.{lt-ltb, le-leb, ne-eqb}
 use lib.ListN.{length, replicate, length-append, length-replicate}
-use Rattle.octets.specs.Bounds.{Bytes}
 use Rattle.octets.specs.Lay.{All}
 use Rattle.octets.specs.Zeros.{allZero}
 use Rattle.model.specs.declared.Guid.{Guid}
@@ -20,12 +18,14 @@ use Rattle.model.specs.declared.LivelinessKind.the-variants.{Automatic}
 use Rattle.model.specs.declared.Writer.{Writer}
 use Rattle.model.specs.declared.WriterState.{WriterState}
 use Rattle.model.specs.declared.WriterState.the-variants.{Unasserted, Alive, NotAlive}
-use Rattle.model.specs.Guids.{num, nil}
+use Rattle.model.specs.Guids.{num}
 use Rattle.model.specs.Instances.{started, startedState}
 use Rattle.model.specs.State.{Class, alive, notAlive, neither, isAliveClass, isNotAliveClass, countsAlive, countsNotAlive, aliveCount, notAliveCount, instanceKey, writerKey}
 use Rattle.model.specs.Tables.{pick, all, above, rising}
 use Rattle.model.specs.WellFormed.{timeOk, timesOk, ownerOk, holderOk, setOk, lifeOk, instanceStateOk, instanceOk, otherHandle, handlesDistinct, handleBelow, instancesOk, leaseOk, writerOk, writersOk}
-use Rattle.model.proofs.Fits.{FitsGuid, FitsTime, FitsState, FitsInstance, FitsWriter}
+use Rattle.accounts.proofs.EffectLaws.{started-sound}
+use Rattle.accounts.proofs.Sound.{fits-state}
+use Rattle.model.proofs.Fits.{FitsInstance, FitsWriter}
 
 -- ---- GUIDs by number
 
@@ -35,13 +35,6 @@ numbered n = record { hi = 0; lo = n }
 num-is : (n : ℕ) → num (numbered n) ≡ n
 unfolding num
 num-is n = zero-add n
-
-nil-fits : FitsGuid nil
-nil-fits = record { high = omega arith; low = omega arith }
-
-pub nils-fit : (n : ℕ) → All FitsGuid (replicate n nil)
-nils-fit zero = tt
-nils-fit (suc n) = (nil-fits, nils-fit n)
 
 -- ---- instances
 
@@ -102,28 +95,11 @@ pub instances-ok : (next i n : ℕ) → 1 ≤ i → i + n ≤ next → instances
 unfolding instancesOk
 instances-ok next i n l h = rw (rise-instances i n, each-ok i n, each-below next i n l h, distinct i n)
 
-zeros-bytes : (n : ℕ) → Bytes (replicate n 0)
-zeros-bytes zero i = omega arith
-zeros-bytes (suc n) zero = omega arith
-zeros-bytes (suc n) (suc i) = zeros-bytes n i
-
-started-fits : FitsState startedState
-unfolding startedState
-started-fits =
-    let t : FitsTime record { present = false; sec = 0; nanosec = 0 } = record { sec = omega arith; nanosec = omega arith } in
-    record {
-      life = record { disposed = omega arith; noWriters = omega arith; count = omega arith; samples = omega arith };
-      times = record { sample = t; delivered = t; filter = t; disposed = t; noWriters = t; owner = t };
-      owner = record { guid = nil-fits; strength = omega arith };
-      holder = record { len = omega arith; size = length-replicate {A = ℕ} 144 0; bytes = zeros-bytes 144 };
-      writers = record { few = omega arith; size = length-replicate 16 nil; items = nils-fit 16 };
-    }
-
 pub instances-fit : (i n : ℕ) → i + n ≤ 2 ^ 63 → All FitsInstance (instancesFrom i n)
 unfolding instancesFrom
 instances-fit i zero h = tt
 instances-fit i (suc n) h = (
-  unfold started in record { key = record { high = omega arith; low = omega arith }; handle = omega arith; state = started-fits },
+  unfold started in record { key = record { high = omega arith; low = omega arith }; handle = omega arith; state = fits-state startedState started-sound },
   instances-fit (suc i) n (omega arith),
 )
 
@@ -185,15 +161,10 @@ writers-fit i (c ∷ cs) h = (
 
 -- ---- classes
 
-alive-class : (c : Class) (i : ℕ) → countsAlive (writerFor i c) ≡ isAliveClass c
-alive-class alive i = refl
-alive-class notAlive i = refl
-alive-class neither i = refl
-
-not-alive-class : (c : Class) (i : ℕ) → countsNotAlive (writerFor i c) ≡ isNotAliveClass c
-not-alive-class alive i = refl
-not-alive-class notAlive i = refl
-not-alive-class neither i = refl
+class-tests : (c : Class) (i : ℕ) → (countsAlive (writerFor i c) ≡ isAliveClass c) × (countsNotAlive (writerFor i c) ≡ isNotAliveClass c)
+class-tests alive i = (refl, refl)
+class-tests notAlive i = (refl, refl)
+class-tests neither i = (refl, refl)
 
 -- the writers that pass a test are as many as the classes that do
 module _ (p : Writer → Bool) (q : Class → Bool) (same : (c : Class) (i : ℕ) → p (writerFor i c) ≡ q c) where
@@ -240,7 +211,7 @@ length-classes a b c =
 pub alive-are : (i a b c : ℕ) → aliveCount (writersFrom i (classes a b c)) ≡ a
 unfolding aliveCount
 alive-are i a b c =
-    picked countsAlive isAliveClass alive-class i (classes a b c)
+    picked countsAlive isAliveClass (λ d j. class-tests d j .0) i (classes a b c)
     ∙ picks isAliveClass alive a _ refl
     ∙ ap (λ (n : ℕ). a + n) (passes isAliveClass notAlive b _ refl ∙ passes isAliveClass neither c [] refl ∙ none-picked isAliveClass)
     ∙ add-zero a
@@ -248,7 +219,7 @@ alive-are i a b c =
 pub not-alive-are : (i a b c : ℕ) → notAliveCount (writersFrom i (classes a b c)) ≡ b
 unfolding notAliveCount
 not-alive-are i a b c =
-    picked countsNotAlive isNotAliveClass not-alive-class i (classes a b c)
+    picked countsNotAlive isNotAliveClass (λ d j. class-tests d j .1) i (classes a b c)
     ∙ passes isNotAliveClass alive a _ refl
     ∙ picks isNotAliveClass notAlive b _ refl
     ∙ ap (λ (n : ℕ). b + n) (passes isNotAliveClass neither c [] refl ∙ none-picked isNotAliveClass)

@@ -4,7 +4,6 @@
 --     table-3          3: no head and no buffers do
 --     table-0          0: some head and buffers of their lengths do
 --     only-table-3     so where none do, it is 3
--- Assumes nothing.
 use Prim.Native.Nat.{ℕ, zero, suc, _+_, _*_, _^_, _≤_}
 use mathlib.Core.Bool.{Bool, true, false, _&&_, cond}
 use mathlib.Core.List.{List, [], _∷_}
@@ -14,7 +13,7 @@ use native.Mathlib.Nat.{suc-mul}
 use native.Mathlib.Omega.{arith}
 use borrow.Author.Tests.{eqb-true, leb-true, ltb-true, le-leb, lt-ltb, eq-eqb, ne-eqb}
 use lib.Dec.{eqb, leb, ltb}
-use lib.IntN.{pos, _-ℤ_}
+use lib.IntN.{pos}
 use lib.ListN.{length, getD, take, drop, length-replicate}
 use lib.Seq.{getD-take, drop-drop}
 use Rattle.octets.proofs.Laws.{be-same}
@@ -32,12 +31,10 @@ use Rattle.model.specs.State.{Lent, fresh, instanceKey, instancesIn, writersIn}
 use Rattle.model.specs.Tables.{all, rising}
 use Rattle.model.specs.WellFormed.{instanceOk, handleBelow, handlesDistinct, instancesOk, instanceTableOk, writerTableOk, lostOk, countsOk, within, headOk, wellFormed}
 use Rattle.model.proofs.Tests.{both, split}
+use Rattle.accounts.proofs.Basics.{never}
 use Rattle.model.proofs.StateLaws.{formed-facts, fresh-formed}
 
 -- ---- small things
-
-pub never : {A : Type 0} → true ≡ false → A
-never e = let z : _≡_ {A = ℕ} 0 1 = cc in absurd (omega arith)
 
 -- a list of zeros has zeros in every place, and its numbers are 0
 get-zero : (s : List ℕ) (i : ℕ) → allZero s ≡ true → getD s i 0 ≡ 0
@@ -83,41 +80,32 @@ below-top next (x ∷ xs) h a =
     let q = both (leb 1 (x .handle .0)) (ltb (x .handle .0) next) (p .0) in
     rw (q .0, lt-ltb (x .handle .0) (2 ^ 63) (omega (arith, ltb-true (x .handle .0) next (q .1)))) (below-top next xs h (p .1))
 
-pub top : (h : Head) → headOk h ≡ true → h .«next_handle» .0 ≤ 2 ^ 63
+-- the next handle is from 1 to 2^63
+pub next-within : (h : Head) → headOk h ≡ true → (1 ≤ h .«next_handle» .0) × (h .«next_handle» .0 ≤ 2 ^ 63)
 unfolding headOk
-top h e =
+next-within h e =
     let n = h .«next_handle» .0 in
-    let p = both (leb 1 n && leb n (2 ^ 63)) (within (pos (h .alive) -ℤ h .«alive_change») && within (pos (h .«not_alive») -ℤ h .«not_alive_change»)) e in
-    leb-true n (2 ^ 63) (both (leb 1 n) (leb n (2 ^ 63)) (p .0) .1)
+    let p = both (leb 1 n) (leb n (2 ^ 63)) (both (leb 1 n && leb n (2 ^ 63)) _ e .0) in
+    (leb-true 1 n (p .0), leb-true n (2 ^ 63) (p .1))
 
--- the next handle is 1 at least
-pub low : (h : Head) → headOk h ≡ true → 1 ≤ h .«next_handle» .0
-unfolding headOk
-low h e =
-    let n = h .«next_handle» .0 in
-    let p = both (leb 1 n && leb n (2 ^ 63)) (within (pos (h .alive) -ℤ h .«alive_change») && within (pos (h .«not_alive») -ℤ h .«not_alive_change»)) e in
-    leb-true 1 n (both (leb 1 n) (leb n (2 ^ 63)) (p .0) .0)
-
-instances-top : (next : ℕ) (xs : List Instance) → next ≤ 2 ^ 63 → instancesOk next xs ≡ true → instancesOk (2 ^ 63) xs ≡ true
-unfolding instancesOk
-instances-top next xs h e =
-    let p = both (rising instanceKey xs) (all instanceOk xs && (all (handleBelow next) xs && handlesDistinct xs)) e in
-    let q = both (all instanceOk xs) (all (handleBelow next) xs && handlesDistinct xs) (p .1) in
-    let r = both (all (handleBelow next) xs) (handlesDistinct xs) (q .1) in
-    rw (p .0, q .0, below-top next xs h (r .0), r .1)
-
--- what is asked of the handles
-pub record Handles (next : ℕ) (xs : List Instance) : Type 0 where
+-- what is asked of the records
+pub record Asked (next : ℕ) (xs : List Instance) : Type 0 where
+  pub rises : rising instanceKey xs ≡ true
+  pub each : all instanceOk xs ≡ true
   pub below : all (handleBelow next) xs ≡ true
   pub distinct : handlesDistinct xs ≡ true
 
-pub handles-of : (next : ℕ) (xs : List Instance) → instancesOk next xs ≡ true → Handles next xs
+pub asked-of : (next : ℕ) (xs : List Instance) → instancesOk next xs ≡ true → Asked next xs
 unfolding instancesOk
-handles-of next xs e =
-    let p = both (rising instanceKey xs) (all instanceOk xs && (all (handleBelow next) xs && handlesDistinct xs)) e in
-    let q = both (all instanceOk xs) (all (handleBelow next) xs && handlesDistinct xs) (p .1) in
+asked-of next xs e =
+    let p = both (rising instanceKey xs) _ e in
+    let q = both (all instanceOk xs) _ (p .1) in
     let r = both (all (handleBelow next) xs) (handlesDistinct xs) (q .1) in
-    record { below = r .0; distinct = r .1 }
+    record { rises = p .0; each = q .0; below = r .0; distinct = r .1 }
+
+instances-top : (next : ℕ) (xs : List Instance) → next ≤ 2 ^ 63 → instancesOk next xs ≡ true → instancesOk (2 ^ 63) xs ≡ true
+unfolding instancesOk
+instances-top next xs h e = let p = asked-of next xs e in rw (p .rises, p .each, below-top next xs h (p .below), p .distinct)
 
 -- ---- the table of a well-formed state
 
@@ -126,7 +114,7 @@ formed-used places l e =
     let f = formed-facts places l e in
     let n = l .head .«instance_count» in
     let next = l .head .«next_handle» .0 in
-    used-are places n next (l .pens) (f .fewInstances) (f .restOfPens) (handles-of next (instancesIn n (l .pens)) (f .instances) .below)
+    used-are places n next (l .pens) (f .fewInstances) (f .restOfPens) (asked-of next (instancesIn n (l .pens)) (f .instances) .below)
 
 pub formed-table : (places : ℕ) (l : Lent) → wellFormed places l ≡ true → tableOk places (l .pens) ≡ true
 unfolding tableOk instanceTableOk
@@ -135,7 +123,7 @@ formed-table places l e =
     let n = l .head .«instance_count» in
     let next = l .head .«next_handle» .0 in
     rw (formed-used places l e, le-leb n places (f .fewInstances), f .restOfPens, f .kinds)
-    (instances-top next (instancesIn n (l .pens)) (top (l .head) (f .head)) (f .instances))
+    (instances-top next (instancesIn n (l .pens)) (next-within (l .head) (f .head) .1) (f .instances))
 
 -- ---- a head and buffers for a table
 

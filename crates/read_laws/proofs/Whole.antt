@@ -2,30 +2,24 @@
 --     formed-whole     the table of a well-formed state
 --     run-whole        the table of any list of calls from the fresh state: its accounts
 --     run-lookup       so the writer lookup after it names the first instance of those accounts that the writer writes
--- Assumes nothing.
 use Prim.Native.Nat.{ℕ, _*_}
 use mathlib.Core.Bool.{true}
 use mathlib.Core.List.{List}
 use mathlib.Core.Path.{_≡_, sym, ap, _∙_, subst}
-use native.Mathlib.Nat.{mul-le-mul-right}
 use borrow.Author.Tests.{eq-eqb}
 use lib.ListN.{length}
 use Rattle.octets.specs.Lay.{All}
-use Rattle.octets.proofs.LayLaws.{length-lay}
 use Rattle.model.specs.declared.Guid.{Guid}
 use Rattle.model.specs.declared.Instance.{Instance}
 use Rattle.model.specs.Call.{callIn, callOf}
 use Rattle.model.specs.Reads.{tableOf, tableRefusal, handleFound, firstWritten, lookupRead}
-use Rattle.model.specs.InstanceRecord.{instanceBytes}
 use Rattle.model.specs.State.{Lent, State, figureOk, placesIn, fresh, layOut, stateOf, instancesIn}
 use Rattle.model.specs.WellFormed.{wellFormed}
 use Rattle.model.proofs.Figures.{places-in}
-use Rattle.model.proofs.Fits.{FitsInstance}
-use Rattle.model.proofs.InstanceLaws.{length-instance}
 use Rattle.model.proofs.StateLaws.{read-back}
 use Rattle.accounts.specs.Accounts.{Accounts, accountsOf, Lending, final, history, SheetBytes, instancesIn as accounted}
 use Rattle.accounts.proofs.Demand3.{after-fresh, formed, instances-are}
-use Rattle.accounts.proofs.InStep.{InStep, held-fits}
+use Rattle.accounts.proofs.InStep.{InStep, held-fits, laid-sizes}
 use Rattle.accounts.proofs.Runs.{left-in, told-in}
 use Rattle.read_laws.proofs.Tables.{formed-used, formed-table}
 
@@ -51,18 +45,12 @@ module _ (places : ℕ) (ok : figureOk places ≡ true) (st : State) (out : List
   abbrev l : Lent
   l = layOut places st out
 
-  laid-size : length (l .pens) ≡ places * 512
-  unfolding layOut
-  laid-size =
-      let f = held-fits places st acc m in
-      length-lay instanceBytes 512 FitsInstance length-instance (places * 512) (st .instances) (f .instances) (mul-le-mul-right 512 (f .fewInstances))
-
   laid-read : instancesIn (l .head .«instance_count») (l .pens) ≡ st .instances
   laid-read = unfold stateOf in ap (λ (s : State). s .instances) (read-back places st out (held-fits places st acc m))
 
   laid-whole : ReadWhole (l .pens) (accounted acc)
   laid-whole =
-      subst (ReadWhole (l .pens)) (laid-read ∙ instances-are places st acc m) (formed-whole places ok l laid-size (formed places st out acc m))
+      subst (ReadWhole (l .pens)) (laid-read ∙ instances-are places st acc m) (formed-whole places ok l (laid-sizes places st out (held-fits places st acc m) .pens) (formed places st out acc m))
 
 pub run-whole : (places : ℕ) → figureOk places ≡ true → (is : List Lending) (out : List ℕ) → All SheetBytes is →
     ReadWhole (final callOf is (fresh places out) .pens) (accounted (accountsOf (history callOf is (fresh places out))))

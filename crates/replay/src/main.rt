@@ -1,4 +1,4 @@
-// Replays the recorded lists (docs/LISTS.md) from standard input against the entry: a line for each disagreement, then how
+// Replays the recorded lists (docs/evidence/LISTS.md) from standard input against the entry: a line for each disagreement, then how
 // many calls there were and how many disagreed. What it prints is compared with the file `stdout`.
 use libc::STDIN_FILENO;
 use libc::STDOUT_FILENO;

@@ -1,4 +1,4 @@
--- Differences of naturals in ℤ, `subℕ a b` of lib.IntN, and values with a sign as such differences. Assumes nothing.
+-- Differences of naturals in ℤ, `subℕ a b` of lib.IntN, and values with a sign as such differences.
 --     sub-same        two differences are equal where the sums across are
 --     sub-is          a difference of two numbers in ℤ
 --     sub-plus        a number added

@@ -1,4 +1,4 @@
--- The tests on times beside document 01's, which are the Rust's. Assumes nothing.
+-- The tests on times beside document 01's, which are the Rust's.
 --     value-same                              at seconds that are not negative the value is document 01's,
 --     later-same, gap-same                    so it orders and subtracts as before,
 --     filter-same, order-same, purge-same     and the three tests are document 01's
@@ -15,7 +15,7 @@ use lib.IntN.{pos, subℕ}
 use mir.Facts.{toZ-pos}
 use mir.Syntax.{w32}
 use Rattle.model.specs.declared.MaybeTime.{MaybeTime}
-use Rattle.model.specs.Times.{billion, nanosOf, gap, isLater, filterAdmits, orderAdmits, deadlineMissed, purgeDue}
+use Rattle.model.specs.Times.{billion, timeValue, gap, isLater, filterAdmits, orderAdmits, deadlineMissed, purgeDue}
 use Rattle.model.proofs.Tests.{leb-iff}
 use Rattle.sample_time.specs.Clamped.{clampedNanosOf, filterClamped, orderClamped, purgeClamped, raisedNanosOf, deadlineRaised, notBefore, shifted, Room, Near}
 use Rattle.sample_time.proofs.Differences.{sub-is, sub-same, sub-reaches, sub-elapsed}
@@ -23,15 +23,15 @@ use Rattle.sample_time.proofs.Values.{later-is, gap-is}
 
 -- ---- at the epoch and after it
 
-pub value-same : (t : MaybeTime) → notBefore t → nanosOf t ≡ pos (clampedNanosOf t)
-unfolding nanosOf
+pub value-same : (t : MaybeTime) → notBefore t → timeValue t ≡ pos (clampedNanosOf t)
+unfolding timeValue
 value-same t h = rw (toZ-pos w32 {n = t .sec} h, lt-leb (2 ^ 31) (t .sec) h) refl
 
 module _ (a b : MaybeTime) (p : notBefore a) (q : notBefore b) where
-  pub later-same : isLater (nanosOf a) (nanosOf b) ≡ ltb (clampedNanosOf a) (clampedNanosOf b)
+  pub later-same : isLater (timeValue a) (timeValue b) ≡ ltb (clampedNanosOf a) (clampedNanosOf b)
   later-same = rw (value-same a p, value-same b q) refl
 
-  pub gap-same : gap (nanosOf a) (nanosOf b) ≡ subℕ (clampedNanosOf b) (clampedNanosOf a)
+  pub gap-same : gap (timeValue a) (timeValue b) ≡ subℕ (clampedNanosOf b) (clampedNanosOf a)
   gap-same = rw (value-same a p, value-same b q) (sub-is (clampedNanosOf b) (clampedNanosOf a))
 
 module _ (a b : MaybeTime) (p : notBefore a) (q : notBefore b) where
@@ -66,7 +66,7 @@ bits-moved : (k : ℕ) (t : MaybeTime) → shifted k t .sec < 2 ^ 32
 bits-moved k t = omega arith
 
 module _ (k : ℕ) (a b : MaybeTime) (p : Room k a) (q : Room k b) where
-  pub later-moved : isLater (nanosOf (shifted k a)) (nanosOf (shifted k b)) ≡ isLater (nanosOf a) (nanosOf b)
+  pub later-moved : isLater (timeValue (shifted k a)) (timeValue (shifted k b)) ≡ isLater (timeValue a) (timeValue b)
   later-moved =
       let x = moved k a p in
       let y = moved k b q in
@@ -74,7 +74,7 @@ module _ (k : ℕ) (a b : MaybeTime) (p : Room k a) (q : Room k b) where
       ∙ leb-iff (suc (raisedNanosOf (shifted k a))) (raisedNanosOf (shifted k b)) (suc (raisedNanosOf a)) (raisedNanosOf b) (λ r. omega arith) (λ r. omega arith)
       ∙ sym (later-is a b (p .bits) (q .bits))
 
-  pub gap-moved : gap (nanosOf (shifted k a)) (nanosOf (shifted k b)) ≡ gap (nanosOf a) (nanosOf b)
+  pub gap-moved : gap (timeValue (shifted k a)) (timeValue (shifted k b)) ≡ gap (timeValue a) (timeValue b)
   gap-moved =
       let x = moved k a p in
       let y = moved k b q in

@@ -1,4 +1,4 @@
--- Gaps by their sign; y is x, as it is read. Assumes nothing.
+-- Gaps by their sign; y is x, as it is read.
 --     unreached, reached         whether so many nanoseconds are reached
 --     none-elapsed, elapsed-is   what autopurge counts
 --     cast-fits                  without its sign

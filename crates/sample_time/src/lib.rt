@@ -7,12 +7,12 @@
 ghost use mathlib.Core.Path.{_≡_};
 ghost use mir.Syntax.{w64};
 ghost use mir.Val.{SFits};
-ghost use Rattle.model.specs.Times.{nanosOf, gap, reaches, gapPasses, isLater, elapsed, filterAdmits, orderAdmits, deadlineMissed, purgeDue};
+ghost use Rattle.model.specs.Times.{timeValue, gap, reaches, gapPasses, isLater, elapsed, filterAdmits, orderAdmits, deadlineMissed, purgeDue};
 use model::MaybeTime;
 
 // Seconds and nanoseconds in one number, below zero before the epoch.
 pub fn nanos(t: MaybeTime) -> i64
-    ensures { λ r. ⌜ r ≡ nanosOf t ⌝ }
+    ensures { λ r. ⌜ r ≡ timeValue t ⌝ }
 {
     let sec = t.sec;
     let nanosec = t.nanosec;
@@ -56,7 +56,7 @@ pub fn is_later(last: i64, candidate: i64) -> bool
 }
 
 // A gap as autopurge counts it: a negative one as 0.
-fn elapsed(gap: i64) -> u64
+pub fn elapsed(gap: i64) -> u64
     ensures { λ r. ⌜ r ≡ elapsed gap ⌝ }
 {
     if gap < 0 { 0 } else { gap as u64 }

@@ -8,7 +8,6 @@
 --     place-le, place-before, place-at            what `placeOf` is
 --     place-unique, find-place, noplace           no other place is so; what is found is there
 --     only-insert, only-set, find-set             p holds of a record put in, or replaced, alone
--- Assumes nothing.
 use Prim.Native.Nat.{ℕ, zero, suc, _+_, _-_, _≤_, _<_}
 use mathlib.Core.Bool.{Bool, true, false, _&&_, cond, and-assoc}
 use mathlib.Core.List.{List, [], _∷_, _++_}

@@ -9,7 +9,6 @@
 --     found-missing                        Missing i says that it would go in at i
 --     toldPlace, told-lower                the place that is told either way is the lower bound
 --     number-le, insert-le                 of 128 keys at most: no record number above 127, no place to insert above 128
--- Assumes nothing.
 use mathlib.Core.Path.{_≡_, refl, sym, ap}
 use mathlib.Core.Logic.{⊎-elim}
 use mathlib.Core.Bool.{Bool, true, false, _&&_, cond}

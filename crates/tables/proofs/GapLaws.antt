@@ -2,7 +2,6 @@
 --     place-next, place-rest    where places lie
 --     opened-lay                a place opened and written over is an insert
 --     closed-lay                a place closed is the list without its record
--- Assumes nothing.
 use mathlib.Core.Path.{_≡_, sym, _∙_}
 use mathlib.Core.List.{List, _∷_, _++_}
 use Prim.Native.Nat.{ℕ, suc, _+_, _-_, _*_, _≤_, _<_}

@@ -1,7 +1,6 @@
 -- What a turn keeps of the instances.
 --     all-sift, all-put, all-weaken     a test that holds of every record still does
 --     distinct-sift, distinct-put       handles stay distinct
--- Assumes nothing.
 use Prim.Native.Nat.{ℕ}
 use mathlib.Core.Bool.{Bool, true, not}
 use mathlib.Core.List.{List, [], _∷_}

@@ -3,7 +3,6 @@
 --     rising-snoc                one key more
 --     rising-left                a first part of what rises rises
 --     rising-pairs               the test, and what it says of any two keys
--- Assumes nothing.
 use mathlib.Core.Path.{_≡_, refl, sym, _∙_}
 use mathlib.Core.Logic.{⊎-elim}
 use mathlib.Core.Bool.{true, _&&_, and-true, and-assoc}

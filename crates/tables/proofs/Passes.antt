@@ -5,17 +5,17 @@
 --     length-midway                                    as long as it was
 --     midway-get                                       record i is as it was
 --     midway-keep, midway-drop            a turn: what is left is written; nothing is left; nothing changes
--- Assumes nothing.
+--     survivors-all, midway-turned        every record is kept: the first i are turned
 use Prim.Native.Nat.{ℕ, suc, _+_, _-_, _≤_, _<_}
-use mathlib.Core.List.{List, [], _∷_, _++_, append-nil}
+use mathlib.Core.List.{List, [], _∷_, _++_, append-nil, map}
 use mathlib.Core.Option.{Option, none, some}
 use mathlib.Core.Path.{_≡_, refl, sym, ap, _∙_}
 use native.Mathlib.Numerals.{add-one}
 use native.Mathlib.Omega.{arith}
-use lib.ListN.{length, getD, take, drop, set, length-append, length-drop}
+use lib.ListN.{length, getD, take, drop, set, length-append, length-drop, length-map}
 use lib.Seq.{take-length, take-append-seam, drop-cons, length-take-le, getD-append-add, getD-drop, set-append-seam, append-snoc}
 use Rattle.model.specs.Tables.{sift}
-use Rattle.tables.proofs.Sifts.{sift-take}
+use Rattle.tables.proofs.Sifts.{sift-map, sift-take}
 use Rattle.model.proofs.TableLaws.{length-sift}
 
 module _ {A : Type 0} where
@@ -85,3 +85,13 @@ module _ {A : Type 0} (f : A → Option A) (xs : List A) where
           ap (λ (b : List A). set (s ++ b) k y) (drop-cons xs k d l) ∙ set-append-seam s (getD xs k d) (drop (suc k) xs) y in
           let q : length (s ++ y ∷ []) ≡ suc k = length-append s (y ∷ []) ∙ add-one k in
           p ∙ sym (rw (one-more, q) (append-snoc s y (drop (suc k) xs)))
+
+-- ---- every record is kept, turned by g
+
+module _ {A : Type 0} (g : A → A) (xs : List A) (i : ℕ) (h : i ≤ length xs) where
+  pub survivors-all : survivors (λ (x : A). some (g x)) xs i ≡ i
+  survivors-all = ap length (sift-map g (take i xs)) ∙ length-map (take i xs) g ∙ length-take-le i xs h
+
+  pub midway-turned : midway (λ (x : A). some (g x)) xs i ≡ map g (take i xs) ++ drop i xs
+  unfolding midway
+  midway-turned = ap (λ (n : ℕ). sift (λ (x : A). some (g x)) (take i xs) ++ drop n xs) survivors-all ∙ ap (λ (l : List A). l ++ drop i xs) (sift-map g (take i xs))

@@ -9,7 +9,6 @@
 --     rising-put, rising-sift         the keys go on rising
 --     distinct-ne, pairs-distinct     handles that are distinct, by places
 --     only-handle                     of instances with distinct handles at most one has a handle
--- Assumes nothing.
 use Prim.Native.Nat.{ℕ, zero, suc, _≤_, _<_}
 use mathlib.Core.Bool.{true, false, not}
 use mathlib.Core.List.{List, [], _∷_, _++_, map}

@@ -7,7 +7,6 @@
 --     at-lt, find-at, put-at            where a key was found: the place is one, the lookup gives its record, and a put
 --                                       replaces it
 --     missing-le, find-none, put-in     where it was missing: the lookup gives none, and a put goes in at the place
--- Assumes nothing.
 use mathlib.Core.Path.{_≡_, refl, sym, ap, _∙_}
 use mathlib.Core.Bool.{Bool, true, false, _&&_, and-false}
 use mathlib.Core.List.{List, [], _∷_, _++_, map}

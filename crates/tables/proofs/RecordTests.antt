@@ -4,7 +4,6 @@
 --     tests-start, tests-end        all of it, and none of it
 --     tests-stop, tests-turn        a turn of the code, which lends the record as the part from i * size up to i * size + size
 --     swap                          two tests of two parts each
--- Assumes nothing.
 use Prim.Native.Nat.{ℕ, zero, suc, _+_, _-_, _*_, _≤_, _<_}
 use mathlib.Core.Bool.{Bool, true, false, _&&_}
 use mathlib.Core.List.{List}

@@ -3,7 +3,6 @@
 --     find-at, find-other, find-end                                     what is found at the lower bound
 --     rise-turn, rise-stop                                              one key more, and the first that does not rise
 --     record-le                                                         a record's bytes are within the table
--- Assumes nothing.
 use mathlib.Core.Path.{_≡_, refl, sym, ap, _∙_}
 use mathlib.Core.Logic.{⊎-elim}
 use mathlib.Core.Bool.{Bool, true, false, _&&_, and-false}

@@ -1,13 +1,13 @@
 -- Each record taken through a function of its own.
 --     sift-append                 two parts
 --     sift-take                   the survivors, a record more
+--     sift-map                    each is kept, and turned
 --     sift-same, sift-nowhere     nothing changes
 --     sift-set, sift-only         one record changes: `set`
 --     sift-cut                    one record is taken out
--- Assumes nothing.
 use Prim.Native.Nat.{ℕ, zero, suc, _+_, _<_}
 use mathlib.Core.Bool.{Bool, false}
-use mathlib.Core.List.{List, [], _∷_, _++_}
+use mathlib.Core.List.{List, [], _∷_, _++_, map}
 use mathlib.Core.Logic.{_≢_}
 use mathlib.Core.Option.{Option, none, some}
 use mathlib.Core.Path.{_≡_, refl, ap}
@@ -23,6 +23,11 @@ module _ {A : Type 0} where
   kept-append : (o : Option A) (xs ys : List A) → kept o (xs ++ ys) ≡ kept o xs ++ ys
   kept-append none xs ys = refl
   kept-append (some x) xs ys = refl
+
+  pub sift-map : (g : A → A) (xs : List A) → sift (λ (x : A). some (g x)) xs ≡ map g xs
+  unfolding sift
+  sift-map g [] = refl
+  sift-map g (x ∷ xs) = ap (λ (l : List A). g x ∷ l) (sift-map g xs)
 
   module _ (f : A → Option A) where
     pub sift-append : (xs ys : List A) → sift f (xs ++ ys) ≡ sift f xs ++ sift f ys

@@ -1,4 +1,4 @@
--- The laws of wire time. Assumes nothing.
+-- The laws of wire time.
 --     worked            five conversions, worked out by hand
 --     rule              each of the table's 1,000 entries is floor(m × 2^32 / 1000) for its own m; that the printed table is
 --                       this one, the contract of `fractions` says

@@ -4,7 +4,6 @@
 --     takes-judged       code 38
 --     keeps-judged       a call by value, codes 39 and 40; status-same, acknowledge-same say that these leave the writers
 --     refuses-judged     a call that its sheet refuses
--- Assumes nothing.
 use Prim.Native.Nat.{ℕ}
 use mathlib.Core.Bool.{true}
 use mathlib.Core.List.{List, []}
@@ -26,10 +25,10 @@ use Rattle.model.specs.WellFormed.{countsOk}
 use Rattle.model.specs.Writers.{movers, writersAfter, lostAfter, trackerList, trackerState, trackerTurn, trackerCall}
 use Rattle.model.proofs.StateLaws.{Formed, formed-facts, lay-back}
 use Rattle.model.proofs.TrackerLaws.{stays, instances-stay}
-use Rattle.writer_turns.specs.WriterCalls.{heldBy, Turns}
+use Rattle.writer_counts.specs.WriterCalls.{heldBy, Turns}
 use Rattle.writer_status.specs.Status.{KeepsWriters}
 use Rattle.writer_expiry.specs.Losing.{Expires, Takes}
-use Rattle.writer_turns.proofs.Turning.{sift-same}
+use Rattle.writer_counts.proofs.Turning.{sift-same}
 use Rattle.writer_status.proofs.Idle.{take-after}
 use Rattle.call_laws.specs.Entered.{Entered, TrackerJudged}
 use Rattle.call_laws.specs.Heads.{called}

@@ -1,7 +1,6 @@
 -- What the sheet of a call on writers decides, over plain variables.
 --     tracker-5, tracker-7, tracker-8, tracker-none     the links of the chain that such a call has
 --     clocks-fine, acknowledges-fine                    what a sheet that meets no refusal has
--- Assumes nothing.
 use Prim.Native.Nat.{ℕ}
 use mathlib.Core.Bool.{Bool, true, false, not, cond}
 use mathlib.Core.Path.{_≡_, refl, sym, ap, _∙_}

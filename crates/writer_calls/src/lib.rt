@@ -17,7 +17,7 @@ ghost use Rattle.model.specs.Calls.{tracker};
 ghost use Rattle.model.specs.Refusals.{sheetRefusal};
 ghost use Rattle.model.specs.WellFormed.{headOk, lostOk};
 ghost use Rattle.model.specs.Writers.{acknowledgeableWith};
-ghost use Rattle.writer_turns.specs.WriterCalls.{WritersFormed, heldBy};
+ghost use Rattle.writer_counts.specs.WriterCalls.{WritersFormed, heldBy};
 ghost use Rattle.call_laws.specs.Entered.{TrackerJudged};
 
 // Whether both counts can take what is acknowledged of them, where a part is.
@@ -53,7 +53,7 @@ fn tracker_refusal(c: TrackerCall, s: Sheet, head: Head) -> u8
 }
 
 // A call on writers whose sheet meets no refusal.
-fn turn(
+fn turn_writers(
     c: TrackerCall,
     s: Sheet,
     head: Head,
@@ -98,5 +98,5 @@ pub fn tracker_turn(
     if number != 0 {
         return answers::refused(number, head);
     }
-    turn(c, s, head, writers, lost, out)
+    turn_writers(c, s, head, writers, lost, out)
 }

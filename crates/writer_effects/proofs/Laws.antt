@@ -1,7 +1,6 @@
 -- Classes by their numbers, and a match by the state that it finds, over plain variables.
 --     alive-number, not-alive-number                  what the numbers of classes say
 --     from-tracked, from-departed                     a match of a tracked writer and of a departed one
--- Assumes nothing.
 use Prim.Native.Nat.{ℕ}
 use mathlib.Core.Bool.{true, false}
 use mathlib.Core.Path.{_≡_, refl}

@@ -4,7 +4,6 @@
 --     lost-laid, lost-few                         a well-formed Lost is its GUIDs, laid out
 --     gone-alive, gone-room, gone-fits            no more expire than there are alive, and the counts hold them
 --     expire-leaves, expire-full                  what the call leaves is model's turn, and refusal 12
--- Assumes nothing.
 use Prim.Native.Nat.{ℕ, _+_, _-_, _*_, _≤_, _<_}
 use mathlib.Core.Bool.{Bool, true, false, not, cond}
 use mathlib.Core.Path.{_≡_, refl, sym, ap, _∙_}
@@ -40,11 +39,12 @@ use Rattle.writer_pass.specs.declared.Dues.{Dues}
 use Rattle.writer_pass.specs.declared.Tally.{Tally}
 use Rattle.writer_pass.specs.Passes.{differs, shiftsBy, duesOf}
 use Rattle.writer_pass.proofs.Picks.{count-cons, same-self}
-use Rattle.writer_turns.specs.Turns.{CountsFit, settledHead}
-use Rattle.writer_turns.specs.WriterCalls.{WritersFormed, heldBy}
-use Rattle.writer_turns.proofs.Calling.{both-few}
-use Rattle.writer_turns.proofs.Holding.{Good, good, head-same, few-alive}
-use Rattle.writer_turns.proofs.Turning.{moved-is, sift-map, turn-head}
+use Rattle.writer_counts.specs.Turns.{CountsFit, settledHead}
+use Rattle.writer_counts.specs.WriterCalls.{WritersFormed, heldBy}
+use Rattle.writer_counts.proofs.Calling.{both-few}
+use Rattle.writer_counts.proofs.Holding.{Good, good, head-same, few-alive}
+use Rattle.tables.proofs.Sifts.{sift-map}
+use Rattle.writer_counts.proofs.Turning.{moved-is, turn-head}
 use Rattle.writer_expiry.specs.Losing.{expiryTally, Expires}
 
 -- ---- those that expire change class, and no other

@@ -1,6 +1,5 @@
 -- Code 38, over plain variables.
 --     take-leaves       what the call leaves is model's turn
--- Assumes nothing.
 use Prim.Native.Nat.{ℕ, _+_, _*_, _^_, _<_, _≤_}
 use mathlib.Core.Bool.{true}
 use mathlib.Core.Path.{_≡_, refl, sym, ap, _∙_}

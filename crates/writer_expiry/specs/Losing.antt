@@ -14,7 +14,7 @@ use Rattle.model.specs.State.{lostOf, writersIn}
 use Rattle.model.specs.WellFormed.{countsOk}
 use Rattle.model.specs.Writers.{trackerCall}
 use Rattle.writer_pass.specs.declared.Tally.{Tally}
-use Rattle.writer_turns.specs.WriterCalls.{heldBy, Settles}
+use Rattle.writer_counts.specs.WriterCalls.{heldBy, Settles}
 use Rattle.writer_status.specs.Status.{Kept}
 
 -- so many alive writers are not alive now

@@ -18,7 +18,7 @@ ghost use lib.ListN.{length};
 ghost use Rattle.model.specs.State.{writersIn};
 ghost use Rattle.model.specs.WellFormed.{lostOk};
 ghost use Rattle.writer_pass.specs.Passes.{duesOf};
-ghost use Rattle.writer_turns.specs.WriterCalls.{WritersFormed};
+ghost use Rattle.writer_counts.specs.WriterCalls.{WritersFormed};
 ghost use Rattle.writer_expiry.specs.Losing.{expiryTally, Expires, Takes};
 
 // The tally of an expiry: so many alive writers are not alive now.
@@ -56,7 +56,7 @@ fn expire_within(
     let was = head.last_writer;
     let last = writer_pass::declare(writers, count, sheet.a, lost, n as usize, gone, was);
     let tally = tally_of(head, gone, last);
-    let h = writer_turns::settle(head, head.writer_count, n + gone, tally);
+    let h = writer_counts::settle_head(head, head.writer_count, n + gone, tally);
     let a = answers::saying_due(gone != 0, next);
     Called { answer: a, head: h }
 }

@@ -26,8 +26,8 @@ ghost use Rattle.tables.specs.declared.Found.the-variants.{At, Missing};
 ghost use Rattle.tables.specs.Found.{foundIn};
 ghost use Rattle.tables.specs.Gaps.{closed};
 ghost use Rattle.tables.specs.Keys.{keys};
-ghost use Rattle.writer_turns.specs.Turns.{CountsFit, calledBy, stillTally, goneTally, departsTally};
-ghost use Rattle.writer_turns.specs.WriterCalls.{WritersFormed, Turns, leaving, Passable, assertionOn, automatic, assertedTable, assertedTally};
+ghost use Rattle.writer_counts.specs.Turns.{CountsFit, calledBy, stillTally, goneTally, departsTally};
+ghost use Rattle.writer_counts.specs.WriterCalls.{WritersFormed, Turns, leaving, Passable, assertionOn, automatic, assertedTable, assertedTally};
 
 // An assertion on the first count writers.
 fn assert_on(head: Head, writers: &mut [u8], count: u32, a: Assertion) -> Called
@@ -41,7 +41,7 @@ fn assert_on(head: Head, writers: &mut [u8], count: u32, a: Assertion) -> Called
         not_alive: head.not_alive,
     };
     let tally = writer_pass::assert_writers(writers, count as usize, a, counts, last);
-    writer_turns::called(head, count, tally)
+    writer_counts::called(head, count, tally)
 }
 
 // Code 35: the writer asserted its own liveliness, which is a manual assertion of its participant too.
@@ -79,8 +79,8 @@ fn kept(head: Head) -> Called
     requires { ⌜ CountsFit head (stillTally head) ⌝ }
     ensures { λ r. ⌜ r ≡ calledBy head (head .«writer_count») (stillTally head) ⌝ }
 {
-    let tally = writer_turns::still(head);
-    writer_turns::called(head, head.writer_count, tally)
+    let tally = writer_counts::still(head);
+    writer_counts::called(head, head.writer_count, tally)
 }
 
 // The writer at place i is taken out.
@@ -92,8 +92,8 @@ fn removed(head: Head, writers: &mut [u8], i: usize) -> Called
     let w = writer_record::writer_at(writers, i);
     let count = head.writer_count;
     tables::close_gap(writers, 40, i, count as usize);
-    let tally = writer_turns::gone(head, w);
-    writer_turns::called(head, count - 1, tally)
+    let tally = writer_counts::gone(head, w);
+    writer_counts::called(head, count - 1, tally)
 }
 
 // Code 33 at the place of the writer's record: it is taken out unless it departed.
@@ -119,8 +119,8 @@ fn departed_at(head: Head, writers: &mut [u8], i: usize) -> Called
     let w = writer_record::writer_at(writers, i);
     let g = w.guid;
     writer_record::put_writer(writers, i, writer_effects::departed(g));
-    let tally = writer_turns::departs(head, w);
-    writer_turns::called(head, head.writer_count, tally)
+    let tally = writer_counts::departs(head, w);
+    writer_counts::called(head, head.writer_count, tally)
 }
 
 // Code 34 at the place of the writer's record: an unasserted one is taken out, any other departs.
@@ -179,8 +179,8 @@ fn match_asserts(sheet: Sheet, head: Head, writers: &mut [u8], count: u32) -> Ca
         };
         return assert_on(head, writers, count, a);
     }
-    let tally = writer_turns::still(head);
-    writer_turns::called(head, count, tally)
+    let tally = writer_counts::still(head);
+    writer_counts::called(head, count, tally)
 }
 
 // Code 32 at the place of the writer's record: a tracked one takes kind and lease, a departed one comes back.

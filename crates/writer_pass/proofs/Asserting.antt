@@ -5,7 +5,6 @@
 --     part-touched, part-kept        the assertion at one record, from what its callees ensure
 --     moves-not-alive                who moves to the alive ones was not among them
 --     tally-moved, tally-stays       the tally of one record, where its writer moves and where not
--- Assumes nothing.
 use Prim.Native.Nat.{ℕ, suc, _+_, _-_, _*_, _≤_, _<_, _^_}
 use mathlib.Core.Bool.{Bool, true, false, not, _&&_, cond}
 use mathlib.Core.Path.{_≡_, refl, sym, ap, _∙_}
@@ -36,7 +35,7 @@ use Rattle.writer_effects.specs.Acts.{assertionOf}
 use Rattle.writer_pass.specs.declared.Counts.{Counts}
 use Rattle.writer_pass.specs.declared.Tally.{Tally}
 use Rattle.writer_pass.specs.Passes.{writerIn, Sound, acts, differs, shiftsBy, countsOf, raised, tallyOf}
-use Rattle.writer_pass.proofs.Passing.{midway, mid-split, mid-next, mid-rest, mid-length, counts-small, Amid, amid-from, amid-read, amid-put, amid-kept, amid-rest}
+use Rattle.writer_pass.proofs.Passing.{partly, mid-split, mid-next, mid-from, mid-rest, mid-length, counts-small, Amid, amid-from, amid-read, amid-put, amid-kept, amid-rest}
 use Rattle.writer_pass.proofs.Picks.{same-self, take-more, pick-append, pick-le, count-snoc, count-middle, mapped-snoc, last-snoc}
 use Rattle.writer_pass.proofs.Prefixes.{Other, other-prefix, keys-are, lower-within, lower-others, behind-others}
 
@@ -146,7 +145,7 @@ module _ (a : Assertion) (w : Writer) (tally : Tally) where
 abbrev midTally : (Writer → Writer) → LastWriter → ℕ → List Writer → Tally
 midTally f last i ws =
     record {
-      counts = countsOf (midway f i ws);
+      counts = countsOf (partly f i ws);
       moved = length (pick (shiftsBy f) (take i ws));
       last = lastAfter (map guidIn (pick (shiftsBy f) (take i ws))) last;
     }
@@ -180,8 +179,8 @@ module _ (a : Assertion) (last : LastWriter) (t₀ : List ℕ) (count from : ℕ
   asserting : (i : ℕ) (t : List ℕ) (tally : Tally) → Starts (a .guid) ws from → Amid f t₀ count t i → tally ≡ midTally f last i ws → from ≤ i →
       Asserting a last t₀ count from t tally i
   asserting i t tally at d e h =
-      let k = counts-small (midway f i ws) in
-      let n : length (midway f i ws) ≡ length ws = mid-length f ws i (omega (arith, size, d .below)) in
+      let k = counts-small (partly f i ws) in
+      let n : length (partly f i ws) ≡ length ws = mid-length f ws i (omega (arith, size, d .below)) in
       let m = pick-le (shiftsBy f) (take i ws) in
       record {
         lower = at;
@@ -198,10 +197,10 @@ module _ (a : Assertion) (last : LastWriter) (t₀ : List ℕ) (count from : ℕ
   asserting-start at counts e =
       let o = left-others a (take from ws) (lower-others (a .guid) ws from r at) in
       let m = map-left f (take from ws) o in
-      let mid : midway f from ws ≡ ws = ap (λ (l : List Writer). l ++ drop from ws) m ∙ take-append-drop from ws in
+      let within : from ≤ length ws = lower-within (a .guid) ws from r at in
       asserting from t₀ record { counts = counts; moved = 0; last = last } at
-      (amid-from f t₀ count b s from (omega (arith, lower-within (a .guid) ws from r at, size)) m)
-      (rw (mid, pick-left f (take from ws) o, e)) (omega arith)
+      (amid-from f t₀ count b s from (omega (arith, within, size)) m)
+      (rw (mid-from f ws from within m, pick-left f (take from ws) o, e)) (omega arith)
 
   module _ (t : List ℕ) (tally : Tally) (i : ℕ) (d : Asserting a last t₀ count from t tally i) where
     module _ (h : i < count) (w : Writer) (e : w ≡ writerIn t i) where
@@ -211,10 +210,10 @@ module _ (a : Assertion) (last : LastWriter) (t₀ : List ℕ) (count from : ℕ
       read : w ≡ getD ws i w
       read = e ∙ amid-read f t₀ count b s t i (d .amid) h w
 
-      before : midway f i ws ≡ map f (take i ws) ++ w ∷ drop (suc i) ws
+      before : partly f i ws ≡ map f (take i ws) ++ w ∷ drop (suc i) ws
       before = mid-split f ws i w inside ∙ ap (λ (z : Writer). map f (take i ws) ++ z ∷ drop (suc i) ws) (sym read)
 
-      after : midway f (i + 1) ws ≡ map f (take i ws) ++ f w ∷ drop (suc i) ws
+      after : partly f (i + 1) ws ≡ map f (take i ws) ++ f w ∷ drop (suc i) ws
       after = mid-next f ws i w inside ∙ ap (λ (z : Writer). map f (take i ws) ++ f z ∷ drop (suc i) ws) (sym read)
 
       one : take (i + 1) ws ≡ take i ws ++ w ∷ []
@@ -266,7 +265,7 @@ module _ (a : Assertion) (last : LastWriter) (t₀ : List ℕ) (count from : ℕ
     unfolding tallyOf
     ended o =
         let m = map-left f (drop i ws) o in
-        (amid-rest f t₀ count b s t i (d .amid) m, d .told ∙ rw (mid-rest f ws i m, pick-rest f ws i o))
+        (amid-rest f t₀ count b s t i (d .amid) m, d .told ∙ rw (mid-rest f ws i (omega (arith, size, d .amid .below)) m, pick-rest f ws i o))
 
     -- at a writer of another prefix
     pub asserting-left : i < count → (w : Writer) → w ≡ writerIn t i → Other (a .guid) w → (t ≡ lay writerBytes 40 (length t₀) (map f ws)) × (tally ≡ tallyOf f last ws)

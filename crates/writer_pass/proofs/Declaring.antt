@@ -3,7 +3,6 @@
 --     Declaring                         table, Lost and last writer at the loop's head; declaring-start, declaring-room,
 --                                       declaring-alive, declared, passed and declared-end are its laws
 --     nobody                            where nobody expires, nothing changes
--- Assumes nothing.
 use Prim.Native.Nat.{ℕ, _+_, _-_, _*_, _≤_, _<_}
 use mathlib.Core.Bool.{Bool, true, false, cond}
 use mathlib.Core.Path.{_≡_, refl, sym, ap, _∙_}

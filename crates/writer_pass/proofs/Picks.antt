@@ -8,7 +8,6 @@
 --     read-at               record i of those that are read
 --     writers-fit           what was read of bytes fits
 --     bounded               clock and lease of a writer that is within its bounds
--- Assumes nothing.
 use Prim.Native.Nat.{ℕ, zero, suc, _+_, _*_, _≤_, _<_, _^_}
 use mathlib.Core.Bool.{Bool, true, false, not, _&&_, _||_, cond}
 use mathlib.Core.Path.{_≡_, refl, sym, ap, _∙_}

@@ -3,7 +3,6 @@
 --     other-prefix                     an assertion leaves a writer of another prefix as it is
 --     keys-are, get-map                the keys of the table are those of its writers
 --     lower-others, behind-others      before the lower bound of the prefix, and behind the first of another, all have another
--- Assumes nothing.
 use Prim.Native.Nat.{ℕ, zero, suc, _+_, _*_, _/_, _≤_, _<_, _^_}
 use mathlib.Core.Bool.{true, false, and-false}
 use mathlib.Core.Logic.{⊎-elim}

@@ -2,7 +2,6 @@
 --     reads                                   the record read at place i is writer i
 --     bounded-in                              its clock and lease are bounded
 --     dues-start, dues-turn, dues-room        the dues, one writer further to the front
--- Assumes nothing.
 use Prim.Native.Nat.{ℕ, suc, _+_, _*_, _≤_, _<_}
 use mathlib.Core.Bool.{Bool, true, false, cond}
 use mathlib.Core.Path.{_≡_, refl, sym, ap, _∙_}

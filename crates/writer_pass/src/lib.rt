@@ -229,7 +229,7 @@ fn declare_at(t: &mut [u8], i: usize, lost: &mut [u8], at: usize) -> LastWriter
 {
     let g = guid::guid_at(t, i * 40);
     writer_record::expire_at(t, i);
-    writer_record::put_guid(lost, at * 16, g);
+    guid::put_guid(lost, at * 16, g);
     LastWriter::Is(g)
 }
 

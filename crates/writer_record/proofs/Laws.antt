@@ -1,22 +1,19 @@
 -- One record: its numbers, and its bytes put one field after the other, over plain variables.
 --     kind-rest, state-rest     the last number of each
---     record-put, guid-put      fields put one after the other are the record's bytes
+--     record-put      fields put one after the other are the record's bytes
 --     whole                     a record written over all of its bytes
 --     part-size                 a record's part of its table
--- Assumes nothing.
 use Prim.Native.Nat.{ℕ, zero, suc, _+_, _-_, _≤_}
 use mathlib.Core.Path.{_≡_, refl}
-use mathlib.Core.List.{List, [], _∷_, append-nil}
+use mathlib.Core.List.{List, append-nil}
 use native.Mathlib.Omega.{arith}
 use lib.ListN.{length, drop-of-length-le}
 use Rattle.octets.specs.Octets.{put}
 use Rattle.octets.specs.Patch.{patch}
 use Rattle.octets.proofs.PatchLaws.{puts-patch}
-use Rattle.model.specs.declared.Guid.{Guid}
 use Rattle.model.specs.declared.LivelinessKind.the-variants.{ManualByTopic}
 use Rattle.model.specs.declared.Writer.{Writer}
 use Rattle.model.specs.declared.WriterState.the-variants.{Departed}
-use Rattle.model.specs.Guids.{guidBytes}
 use Rattle.model.specs.WriterRecord.{livelinessNumbered, stateNumbered, writerFlags, writerWidths, writerValues, writerBytes}
 
 pub kind-rest : (n : ℕ) → (n ≡ 0 → ⊥) → (n ≡ 1 → ⊥) → ManualByTopic ≡ livelinessNumbered n
@@ -38,13 +35,6 @@ unfolding writerBytes
 record-put w f s t1 t2 t3 t4 t5 t6 at h ef e1 e2 e3 e4 e5 e6 =
     let z : at + 0 ≡ at = omega arith in
     rw (e6, e5, e4, e3, e2, e1, ef) (rw z at (puts-patch writerWidths (writerValues w) s at 0 (omega arith) tt))
-
-pub guid-put : (g : Guid) (s t1 t2 : List ℕ) (at : ℕ) → at + 16 ≤ length s → t1 ≡ put 8 s at (g .hi) → t2 ≡ put 8 t1 (at + 8) (g .lo) →
-    t2 ≡ patch s at 16 (guidBytes g)
-unfolding guidBytes
-guid-put g s t1 t2 at h e1 e2 =
-    let z : at + 0 ≡ at = omega arith in
-    rw (e2, e1) (rw z at (puts-patch (8 ∷ 8 ∷ []) (g .hi ∷ g .lo ∷ []) s at 0 (omega arith) tt))
 
 pub whole : (s b : List ℕ) → length s ≡ 40 → patch s 0 40 b ≡ b
 whole s b e = rw (drop-of-length-le s {i = 40} (omega arith)) (append-nil b)

@@ -3,7 +3,6 @@
 --     nanos-part, last-part         lease and last assertion where they stand in the table
 --     alive-flags                   the state's number of an alive writer
 --     expired-part                  the byte of flags with the next state is the record of the writer that is not alive
--- Assumes nothing.
 use Prim.Native.Nat.{ℕ, zero, suc, _+_, _/_, _%_, _≤_}
 use mathlib.Core.Bool.{true, _&&_}
 use mathlib.Core.Path.{_≡_, refl, sym, ap, _∙_}

@@ -15,7 +15,6 @@ ghost use mathlib.Core.Path.{_≡_};
 ghost use Prim.Native.Nat.{_+_, _*_, _/_, _%_, _≤_, _<_, _^_};
 ghost use lib.ListN.{length, take, drop};
 ghost use Rattle.octets.specs.Patch.{patch};
-ghost use Rattle.model.specs.Guids.{guidBytes};
 ghost use Rattle.model.specs.InstanceRecord.{bit};
 ghost use Rattle.model.specs.WriterRecord.{livelinessNumber, livelinessNumbered, stateNumber, stateNumbered, writerOf, writerFlags, writerBytes};
 ghost use Rattle.model.specs.Writers.{isAliveState, leased, dueAt};
@@ -185,13 +184,4 @@ pub fn put_writer(t: &mut [u8], i: usize, w: Writer)
     ensures { λ _. ⌜ now (t .exit) ≡ patch (now (t .entry)) (i * 40) 40 (writerBytes w) ⌝ }
 {
     put_record(t, i * 40, w);
-}
-
-// The GUID g is written from index at, as Lost holds it.
-pub fn put_guid(t: &mut [u8], at: usize, g: Guid)
-    requires { ⌜ at + 16 ≤ length (now t) ⌝ }
-    ensures { λ _. ⌜ now (t .exit) ≡ patch (now (t .entry)) at 16 (guidBytes g) ⌝ }
-{
-    octets::put_u64(t, at, g.hi);
-    octets::put_u64(t, at + 8, g.lo);
 }

@@ -4,7 +4,6 @@
 --     acknowledge-kept      code 40
 --     take-after, take-who  the writers and the movers of code 38
 --     head-within, as-lent  the bounds of a head, and a change lent as its bits
--- Assumes nothing.
 use Prim.Native.Nat.{ℕ, _+_, _%_, _^_, _≤_, _<_}
 use mathlib.Core.Bool.{true, _&&_}
 use mathlib.Core.Path.{_≡_, refl, sym, ap, _∙_}
@@ -35,8 +34,8 @@ use Rattle.model.proofs.Tests.{both, less-less}
 use Rattle.model.proofs.RowLaws.{length-read}
 use Rattle.numbers.proofs.Signs.{sum-fits, change-fits}
 use Rattle.numbers.proofs.Signed.{back}
-use Rattle.writer_turns.specs.WriterCalls.{heldBy}
-use Rattle.writer_turns.proofs.Turning.{sift-same, pick-same}
+use Rattle.writer_counts.specs.WriterCalls.{heldBy}
+use Rattle.writer_counts.proofs.Turning.{sift-same, pick-same}
 use Rattle.writer_status.specs.Status.{changedHead, KeepsWriters}
 
 -- the head counts the writers

@@ -12,7 +12,7 @@ use Rattle.model.specs.InstanceCalls.{Turned}
 use Rattle.model.specs.State.{headOf, writersIn}
 use Rattle.model.specs.WellFormed.{countsOk}
 use Rattle.model.specs.Writers.{trackerCall}
-use Rattle.writer_turns.specs.WriterCalls.{heldBy}
+use Rattle.writer_counts.specs.WriterCalls.{heldBy}
 
 -- the head with both changes and the number of GUIDs in Lost anew
 abbrev pub changedHead : Head → ℕ → ℤ → ℤ → Head

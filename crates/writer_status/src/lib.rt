@@ -16,7 +16,7 @@ ghost use mir.Val.{toZ};
 ghost use Rattle.model.specs.declared.TrackerCall.the-variants.{TakeStatus, Acknowledge};
 ghost use Rattle.model.specs.WellFormed.{within, headOk};
 ghost use Rattle.model.specs.Writers.{acknowledgeable};
-ghost use Rattle.writer_turns.specs.WriterCalls.{heldBy};
+ghost use Rattle.writer_counts.specs.WriterCalls.{heldBy};
 ghost use Rattle.writer_status.specs.Status.{changedHead, KeepsWriters};
 
 // What is acknowledged of a count once a part more is.
@@ -81,7 +81,7 @@ pub fn with_changes(head: Head, lost_count: u32, alive_change: i32, not_alive_ch
 pub fn take_status(sheet: Sheet, head: Head) -> Called
     ensures { λ r. ⌜ KeepsWriters TakeStatus sheet head r ⌝ }
 {
-    let a = answers::reporting(writer_validity::head_status(head));
+    let a = answers::reporting(head_reads::head_status(head));
     let h = with_changes(head, head.lost_count, 0, 0);
     Called { answer: a, head: h }
 }

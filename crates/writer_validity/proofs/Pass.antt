@@ -2,7 +2,6 @@
 --     left                              the writers from record i on
 --     During                            the pass at record i: its laws are start, stop-key, stop-record, turn and end
 --     table-agrees                      the whole test of the table and of both counts, from its parts in the order of the code
--- Assumes nothing.
 use Prim.Native.Nat.{ℕ, zero, suc, _+_, _-_, _*_, _≤_, _<_}
 use mathlib.Core.Bool.{Bool, true, false, _&&_, _||_, cond, and-false, and-assoc}
 use mathlib.Core.Path.{_≡_, refl, sym, ap, ap₂, _∙_}

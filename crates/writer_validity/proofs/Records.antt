@@ -3,7 +3,6 @@
 --     records-first, records-none        the first record apart; of no record
 --     rise-read                          the keys in the bytes rise where the writers' do
 --     table-by                           the whole test, from its parts in the order of the code
--- Assumes nothing.
 use Prim.Native.Nat.{ℕ, zero, suc, _*_}
 use mathlib.Core.Bool.{Bool, true, false, _&&_}
 use mathlib.Core.List.{List}

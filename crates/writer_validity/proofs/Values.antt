@@ -3,7 +3,6 @@
 --     word-high, word-low             flags and spare bytes in one word
 --     spares-by, read-by              the spare bits and bytes, and the writer, from what is read
 --     alive-read, not-read            the classes, by the state's number
--- Assumes nothing.
 use Prim.Native.Nat.{ℕ, zero, suc, _+_, _*_, _/_, _%_, _<_}
 use mathlib.Core.Bool.{Bool, false, _&&_}
 use mathlib.Core.Path.{_≡_, refl, sym, ap, _∙_}

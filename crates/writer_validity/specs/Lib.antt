@@ -1,3 +1,2 @@
 -- What the contracts of writer_validity cite beside model's definitions.
-pub mod Sizes
 pub mod Agreed

@@ -5,7 +5,6 @@
 --     zeros-words                           32 bytes are zero where four words are
 --     tail-turn, tail-stop                  k bytes more
 --     tail-end, tail-short                  the last k bytes, which are seen first
--- Assumes nothing.
 use Prim.Native.Nat.{ℕ, zero, suc, _+_, _-_, _*_, _≤_, _<_}
 use mathlib.Core.Bool.{Bool, true, false, _&&_, and-true, and-false}
 use mathlib.Core.Path.{_≡_, refl, sym, ap, _∙_}

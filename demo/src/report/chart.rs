@@ -1,27 +1,33 @@
-//! The day as a picture: a row for each instance with what it was shown as, a row for each writer with its leases
+//! The day as pictures: a row for each instance with what it was shown as, a row for each writer with its leases
 //! and assertions.
 
 use super::text::{began, ended};
 use super::Report;
 use crate::cause::Cause;
-use crate::history::{Instance, Shown, Spell};
-use crate::rank::Verdict;
+use crate::history::{Guid, Instance, Shown, Spell};
+use crate::rank::{Counts, Verdict};
 use crate::table::shown as in_words;
 use crate::tell::counted;
 use crate::words::{moment_of_clock, show_guid, show_moment, spoken, Moment};
 use crate::writers::Writer;
-use dcps::InstanceStateKind;
+use dcps::{InstanceStateKind, KeyHash};
 use std::fmt::Write;
 
 const WIDTH: f64 = 1000.0;
 const LEFT: f64 = 140.0;
 const RIGHT: f64 = 978.0;
-const TOP: f64 = 44.0;
-const INSTANCE_ROW: f64 = 42.0;
-const WRITER_ROW: f64 = 30.0;
-const TITLE_ROW: f64 = 30.0;
-/// More rows are not drawn.
-const ROWS: usize = 128;
+const TOP: f64 = 30.0;
+
+/// Rows of one kind: how high each is, and how many make a picture. A printed page has room for four, and breaks between
+/// them.
+struct Rows {
+    height: f64,
+    most: usize,
+}
+
+const TROUBLE: Rows = Rows { height: 42.0, most: 6 };
+const QUIET: Rows = Rows { height: 26.0, most: 10 };
+const WRITERS: Rows = Rows { height: 30.0, most: 8 };
 
 /// Text between tags or in an attribute.
 pub fn escaped(text: &str) -> String {
@@ -55,54 +61,70 @@ impl Scale {
     }
 }
 
-pub fn write(report: &Report<'_>) -> String {
-    let (first, last) = report.history.ends().unwrap_or((0, 1));
-    let last = last.max(first.saturating_add(1));
-    let scale = Scale { first, last, clocks: !report.history.apart() };
-    let mut rows = String::new();
-    let mut y = TOP;
-    title(&mut rows, &mut y, "Instances (pens)");
-    for (key, instance) in shown_instances(report) {
-        instance_row(&mut rows, y, &scale, &key, instance);
-        y += INSTANCE_ROW;
+impl Scale {
+    fn of(report: &Report<'_>) -> Self {
+        let (first, last) = report.history.ends().unwrap_or((0, 1));
+        let last = last.max(first.saturating_add(1));
+        Scale { first, last, clocks: !report.history.apart() }
     }
-    y += 8.0;
-    title(&mut rows, &mut y, "Writers (carriages)");
-    for (guid, writer) in report.history.writers.iter().take(ROWS) {
-        writer_row(&mut rows, y, &scale, &show_guid(guid), writer);
-        y += WRITER_ROW;
+}
+
+/// Pictures of instances that were in trouble.
+pub fn in_trouble(report: &Report<'_>, keys: &[KeyHash]) -> String {
+    let scale = Scale::of(report);
+    pictures(&scale, &TROUBLE, "instances", keys, |svg, y, key| {
+        if let Some(instance) = report.history.instances.get(key) {
+            instance_row(svg, y, &scale, &report.names.show(key), instance);
+        }
+    })
+}
+
+/// Pictures of the other ones, whose rows need no labels.
+pub fn quiet(report: &Report<'_>, keys: &[KeyHash]) -> String {
+    let scale = Scale::of(report);
+    pictures(&scale, &QUIET, "instances", keys, |svg, y, key| {
+        if let Some(instance) = report.history.instances.get(key) {
+            instance_row(svg, y - 14.0, &scale, &report.names.show(key), instance);
+        }
+    })
+}
+
+/// Pictures of writers.
+pub fn writers(report: &Report<'_>, writers: &[(Guid, &Writer, Counts)]) -> String {
+    let scale = Scale::of(report);
+    pictures(&scale, &WRITERS, "writers", writers, |svg, y, (guid, writer, _)| {
+        writer_row(svg, y, &scale, &show_guid(guid), writer);
+    })
+}
+
+/// As many pictures as the rows take, each with its own hours.
+fn pictures<T>(
+    scale: &Scale,
+    rows: &Rows,
+    what: &str,
+    all: &[T],
+    mut draw: impl FnMut(&mut String, f64, &T),
+) -> String {
+    let mut pictures = String::new();
+    for part in all.chunks(rows.most) {
+        let bottom = TOP + rows.height * part.len() as f64;
+        let _ = writeln!(
+            pictures,
+            "<svg viewBox=\"0 0 {WIDTH} {:.0}\" role=\"img\" aria-label=\"The day of {what}\">",
+            bottom + 8.0
+        );
+        pictures.push_str(&axis(scale, bottom));
+        for (place, row) in part.iter().enumerate() {
+            draw(&mut pictures, TOP + rows.height * place as f64, row);
+        }
+        pictures.push_str("</svg>\n");
     }
-    let axis = axis(&scale, y);
-    format!(
-        "<svg viewBox=\"0 0 {WIDTH} {}\" role=\"img\" aria-label=\"What each instance was shown as over the day\">\n{PATTERNS}{axis}{rows}</svg>\n",
-        y + 10.0
-    )
+    pictures
 }
 
-/// How many rows are not drawn.
-pub fn left_out(report: &Report<'_>) -> usize {
-    let (instances, writers) = (report.history.instances.len(), report.history.writers.len());
-    instances.saturating_sub(ROWS) + writers.saturating_sub(ROWS)
-}
-
-/// Stripes, so that false abandonments are told apart on paper too.
-const PATTERNS: &str = "<defs><pattern id=\"stripes\" width=\"6\" height=\"6\" patternUnits=\"userSpaceOnUse\" patternTransform=\"rotate(45)\"><rect class=\"stripe-ground\" width=\"6\" height=\"6\"/><rect class=\"stripe\" width=\"2.4\" height=\"6\"/></pattern></defs>\n";
-
-/// Instances with most abandonments first come into the picture; they stand in the order of their keys.
-fn shown_instances<'a>(report: &'a Report<'_>) -> Vec<(String, &'a Instance)> {
-    let mut all: Vec<_> = report.instances().collect();
-    if all.len() > ROWS {
-        all.sort_by_key(|(_, instance)| std::cmp::Reverse(instance.spells.len()));
-        all.truncate(ROWS);
-        all.sort_by_key(|(key, _)| report.names.order(key));
-    }
-    all.into_iter().map(|(key, instance)| (report.names.show(key), instance)).collect()
-}
-
-fn title(svg: &mut String, y: &mut f64, title: &str) {
-    let _ = writeln!(svg, "<text class=\"section\" x=\"0\" y=\"{:.1}\">{title}</text>", *y + 16.0);
-    *y += TITLE_ROW;
-}
+/// Stripes, so that needless abandonments are told apart on paper too; in a picture of their own, as one that is folded away
+/// has none to lend.
+pub const PATTERNS: &str = "<svg class=\"patterns\" width=\"0\" height=\"0\" aria-hidden=\"true\"><defs><pattern id=\"stripes\" width=\"6\" height=\"6\" patternUnits=\"userSpaceOnUse\" patternTransform=\"rotate(45)\"><rect class=\"stripe-ground\" width=\"6\" height=\"6\"/><rect class=\"stripe\" width=\"2.4\" height=\"6\"/></pattern></defs></svg>\n";
 
 /// A long name without its middle: serial numbers differ at their ends.
 fn short(name: &str) -> String {
@@ -136,12 +158,16 @@ fn instance_row(svg: &mut String, y: f64, scale: &Scale, key: &str, instance: &I
     label(svg, y + 25.0, key);
     let bars = bars(scale, key, instance);
     labels(svg, y + 10.0, &bars);
-    for bar in &bars {
-        let (x, width) = (bar.x.0, (bar.x.1 - bar.x.0).max(1.0));
+    // What is not alive is drawn last, so that nothing covers a short time.
+    let (alive, other): (Vec<&Bar>, Vec<&Bar>) = bars.iter().partition(|b| b.class == "alive");
+    for bar in alive.into_iter().chain(other) {
+        let least = if bar.class == "alive" { 1.0 } else { 2.0 };
+        let (x, width) = (bar.x.0, (bar.x.1 - bar.x.0).max(least));
+        let narrow = if width < STRIPED && bar.class == "falsely" { " narrow" } else { "" };
         let more = if bar.more == 0 { String::new() } else { format!("\nand {} more", bar.more) };
         let _ = writeln!(
             svg,
-            "<rect class=\"{}\" x=\"{x:.1}\" y=\"{:.1}\" width=\"{width:.1}\" height=\"14\"><title>{}{more}</title></rect>",
+            "<rect class=\"{}{narrow}\" x=\"{x:.1}\" y=\"{:.1}\" width=\"{width:.1}\" height=\"14\"><title>{}{more}</title></rect>",
             bar.class,
             y + 14.0,
             escaped(&bar.title)
@@ -151,6 +177,9 @@ fn instance_row(svg: &mut String, y: f64, scale: &Scale, key: &str, instance: &I
     ticks(svg, scale, (y + 29.5, 8.0), "away", "sample turned away", instance.turned.all());
     let _ = writeln!(svg, "</g>");
 }
+
+/// On narrower bars stripes are not seen, and each costs a printer much.
+const STRIPED: f64 = 8.0;
 
 /// So many changes can be told apart in a row; of more, those side by side are drawn as one.
 const DENSE: usize = 300;
@@ -226,23 +255,56 @@ fn bar(
     Some(Bar { x: (scale.x(from), scale.x(to)), class, title, label, more: 0 })
 }
 
-/// The causes over the bars; where they would run into one another they stand as one.
-fn labels(svg: &mut String, y: f64, bars: &[Bar]) {
-    let mut runs: Vec<(f64, Vec<(&str, u64)>)> = Vec::new();
-    for (bar, cause) in bars.iter().filter_map(|bar| Some((bar, bar.label?))) {
-        match runs.last_mut() {
-            Some((x, causes)) if *x + width(&run_text(causes)) + 8.0 > bar.x.0 => {
-                match causes.iter_mut().find(|(name, _)| *name == cause) {
-                    Some((_, count)) => *count += 1 + bar.more,
-                    None => causes.push((cause, 1 + bar.more)),
-                }
+/// Labels that stand as one: where they start, and the causes with their numbers.
+struct Run {
+    x: f64,
+    causes: Vec<(&'static str, u64)>,
+}
+
+impl Run {
+    /// Where it stands: not beyond the right edge.
+    fn ends(&self) -> (f64, f64) {
+        let width = width(&run_text(&self.causes));
+        let x = self.x.min(RIGHT - width).max(LEFT);
+        (x, x + width)
+    }
+
+    fn take(&mut self, other: Run) {
+        for (cause, number) in other.causes {
+            match self.causes.iter_mut().find(|(name, _)| *name == cause) {
+                Some((_, count)) => *count += number,
+                None => self.causes.push((cause, number)),
             }
-            _ => runs.push((bar.x.0, vec![(cause, 1 + bar.more)])),
         }
     }
-    for (x, causes) in runs {
-        let text = run_text(&causes);
-        let x = x.min(RIGHT - width(&text)).max(LEFT);
+}
+
+/// More labels in a row stand as one.
+const LABELS: usize = 12;
+
+/// The causes over the bars; where they would run into one another they stand as one.
+fn runs(bars: &[Bar]) -> Vec<Run> {
+    let mut runs: Vec<Run> = Vec::new();
+    let labelled = || bars.iter().filter_map(|bar| Some((bar, bar.label?)));
+    let many = labelled().count() > LABELS;
+    for (bar, cause) in labelled() {
+        let mut run = Run { x: bar.x.0, causes: vec![(cause, 1 + bar.more)] };
+        while let Some(mut last) = runs.pop() {
+            if !many && last.ends().1 + 8.0 <= run.ends().0 {
+                runs.push(last);
+                break;
+            }
+            last.take(run);
+            run = last;
+        }
+        runs.push(run);
+    }
+    runs
+}
+
+fn labels(svg: &mut String, y: f64, bars: &[Bar]) {
+    for run in runs(bars) {
+        let (x, text) = (run.ends().0, run_text(&run.causes));
         let _ = writeln!(svg, "<text class=\"cause\" x=\"{x:.1}\" y=\"{y:.1}\">{text}</text>");
     }
 }
@@ -255,17 +317,20 @@ fn run_text(causes: &[(&str, u64)]) -> String {
     texts.collect::<Vec<_>>().join(", ")
 }
 
-/// About as wide as a label is.
+/// About as wide as a label is where it is printed, which is wider than on a screen.
 fn width(text: &str) -> f64 {
-    5.6 * text.chars().count() as f64
+    7.0 * text.chars().count() as f64
 }
 
 /// Marks in a row: each with its time, or where they are many all as one.
 fn ticks(svg: &mut String, scale: &Scale, at: (f64, f64), class: &str, what: &str, all: &[Moment]) {
     if all.len() > 80 {
-        let _ = write!(svg, "<path class=\"{class}\" d=\"");
+        let _ = write!(svg, "<path class=\"{class}\" d=\"M{LEFT} {:.1}", at.0);
+        let mut x = LEFT;
         for moment in all {
-            let _ = write!(svg, "M{:.1} {:.1}h1v{}h-1z", scale.x(*moment) - 0.5, at.0, at.1);
+            let next = (10.0 * scale.x(*moment)).round() / 10.0;
+            let _ = write!(svg, "m{:.1} 0v{}m0-{1}", next - x, at.1);
+            x = next;
         }
         let _ = writeln!(svg, "\"><title>{what}, many times</title></path>");
         return;
@@ -351,11 +416,11 @@ fn axis(scale: &Scale, bottom: f64) -> String {
     let mut at = scale.first.div_euclid(step) * step;
     while at <= scale.last {
         if at >= scale.first {
-            let x = scale.x(at);
+            let (x, hour) = (scale.x(at), hour(at, step));
+            let middle = x.min(WIDTH - width(&hour) / 2.0);
             let _ = writeln!(
                 svg,
-                "<line class=\"grid\" x1=\"{x:.1}\" x2=\"{x:.1}\" y1=\"26\" y2=\"{bottom:.1}\"/><text class=\"hour\" x=\"{x:.1}\" y=\"18\">{}</text>",
-                hour(at, step)
+                "<line class=\"grid\" x1=\"{x:.1}\" x2=\"{x:.1}\" y1=\"20\" y2=\"{bottom:.1}\"/><text class=\"hour\" x=\"{middle:.1}\" y=\"13\">{hour}</text>"
             );
         }
         at = match at.checked_add(step) {
@@ -376,5 +441,30 @@ fn hour(at: Moment, step: Moment) -> String {
     match time.rsplit_once(':') {
         Some((minutes, _)) if step >= 60 * SECOND => minutes.to_owned(),
         _ => time.to_owned(),
+    }
+}
+
+#[cfg(test)]
+mod tests {
+    use super::*;
+
+    fn bar(x: f64) -> Bar {
+        let (label, title) = (Some("lease ran out"), String::new());
+        Bar { x: (x, x + 1.0), class: "falsely", title, label, more: 0 }
+    }
+
+    /// Wherever the bars are, labels stand apart, within the picture, and count all bars.
+    #[test]
+    fn labels_do_not_overlap() {
+        let far = [140.0, 300.0, 880.0, 905.0, 977.0];
+        let near = (0..40).map(|n| RIGHT - 2.0 * f64::from(40 - n));
+        for bars in [Vec::from(far), near.collect(), vec![RIGHT], vec![LEFT, RIGHT]] {
+            let bars: Vec<Bar> = bars.into_iter().map(bar).collect();
+            let runs = runs(&bars);
+            assert!(runs.windows(2).all(|w| w[0].ends().1 + 8.0 <= w[1].ends().0));
+            assert!(runs.iter().all(|run| run.ends().0 >= LEFT && run.ends().1 <= RIGHT));
+            let labelled: u64 = runs.iter().flat_map(|run| &run.causes).map(|(_, n)| n).sum();
+            assert_eq!(labelled, bars.len() as u64);
+        }
     }
 }

@@ -1,6 +1,6 @@
 //! The answer as JSON (RFC 8259), two blanks to a level.
 
-use super::Report;
+use super::{answer, Report};
 use crate::history::{End, Instance, Spell};
 use crate::rank::{lasted, Counts, Group, Verdict};
 use crate::tell::Told;
@@ -109,7 +109,10 @@ fn whole(report: &Report<'_>) -> Json {
     let warnings = report.warnings.first.iter().map(|(line, what)| {
         Json::Object(vec![("line", number(*line)), ("warning", text(what.as_str()))])
     });
+    let said = format!("{} {}", answer::verdict(report), answer::reason(report));
     let mut fields = vec![
+        ("answer", text(said)),
+        ("order_lines_with_every_action", report.changed.map_or(Json::Null, number)),
         ("day", text(report.name)),
         ("from", moment(h.ends().map(|(first, _)| first))),
         ("to", moment(h.ends().map(|(_, last)| last))),
@@ -143,10 +146,13 @@ fn counts(counts: &Counts) -> Vec<(&'static str, Json)> {
 
 fn cause(report: &Report<'_>, group: &Group, told: &Told) -> Json {
     let instances = report.names.list(&group.keys);
+    let fewer = told.action.as_ref().and_then(|action| action.fewer);
     let mut fields = vec![
         ("title", text(told.title)),
         ("what", text(told.what.as_str())),
-        ("mend", text(told.mend.as_str())),
+        ("who", told.action.as_ref().map_or(Json::Null, |action| text(action.who.name()))),
+        ("action", text(told.advice())),
+        ("order_lines_fewer", fewer.map_or(Json::Null, number)),
         ("cause", text(group.cause.name())),
         ("code", number(group.cause.code())),
         ("verdict", text(group.verdict.name())),

@@ -1,18 +1,22 @@
 //! What `why` answers, gathered once for all its forms.
 
+mod answer;
 mod chart;
 mod csv;
 mod html;
 mod json;
+mod tables;
 mod text;
 
 use crate::cause::Cause;
 use crate::history::{Guid, History, Instance, Spell};
 use crate::names::Names;
+use crate::plan::Plan;
 use crate::rank::{groups, Counts, Group};
 use crate::tell::{tell, Told};
 use crate::warnings::Warnings;
 use crate::words::Moment;
+use crate::writers::Writer;
 use dcps::KeyHash;
 use std::collections::BTreeMap;
 
@@ -25,6 +29,9 @@ pub enum Form {
     Html,
 }
 
+/// So many actions are tried one by one: each plays the day once more.
+const TRIED: usize = 5;
+
 pub struct Report<'a> {
     pub name: &'a str,
     pub history: &'a History,
@@ -34,6 +41,8 @@ pub struct Report<'a> {
     /// Order lines without an abandonment.
     pub unwritten: u64,
     pub causes: Vec<(Group, Told)>,
+    /// The order lines with every action taken, where there is one.
+    pub changed: Option<u64>,
     pub by_cause: BTreeMap<Cause, Counts>,
     pub by_writer: BTreeMap<Guid, Counts>,
     pub by_instance: Vec<(KeyHash, Counts)>,
@@ -58,6 +67,7 @@ impl<'a> Report<'a> {
             total: Counts::default(),
             unwritten: history.instances.values().map(|i| i.unwritten).sum(),
             causes: causes.collect(),
+            changed: None,
             by_cause: BTreeMap::new(),
             by_writer: BTreeMap::new(),
             by_instance: Vec::new(),
@@ -69,6 +79,71 @@ impl<'a> Report<'a> {
         }
         report.by_instance.sort_by_key(|(key, _)| names.order(key));
         report
+    }
+
+    /// Counts what the first actions save one by one, and all actions together, on the day as it goes with their plans.
+    pub fn try_actions<E>(
+        &mut self,
+        mut replay: impl FnMut(&Plan) -> Result<History, E>,
+    ) -> Result<(), E> {
+        let (history, all) = (self.history, self.order_lines());
+        if all == 0 {
+            return Ok(());
+        }
+        let mut orders = |plan: &Plan| match plan.keeps_the_calls() {
+            true => Ok(plan.orders(history)),
+            false => replay(plan).map(|history| plan.orders(&history)),
+        };
+        let (mut every, mut number) = (Plan::default(), 0);
+        for (group, told) in &mut self.causes {
+            let Some(action) = told.action.as_mut().filter(|a| a.plan != Plan::default()) else {
+                continue;
+            };
+            every.add(&action.plan);
+            number += 1;
+            if number <= TRIED && group.counts.order_lines > 0 {
+                let with = orders(&action.plan)?;
+                action.fewer = Some(all.saturating_sub(with));
+                self.changed = Some(with);
+            }
+        }
+        if number > 1 {
+            self.changed = Some(orders(&every)?);
+        }
+        Ok(())
+    }
+
+    /// The instances that were shown abandoned or ordered, the most needless orders first.
+    pub fn in_trouble(&self) -> Vec<(KeyHash, Counts)> {
+        let mut rows: Vec<_> = self.with_unwritten().filter(|(_, c)| c.is_trouble()).collect();
+        rows.sort_by_key(|(_, c)| std::cmp::Reverse((c.false_lines, c.order_lines, c.abandoned)));
+        rows
+    }
+
+    /// The other ones, in the order of their keys.
+    pub fn quiet(&self) -> Vec<KeyHash> {
+        self.with_unwritten().filter(|(_, c)| !c.is_trouble()).map(|(key, _)| key).collect()
+    }
+
+    /// The counts of each instance, with its order lines that have no abandonment.
+    fn with_unwritten(&self) -> impl Iterator<Item = (KeyHash, Counts)> + '_ {
+        self.by_instance.iter().map(|(key, counts)| {
+            let unwritten = self.history.instances.get(key).map_or(0, |i| i.unwritten);
+            (*key, Counts { order_lines: counts.order_lines + unwritten, ..*counts })
+        })
+    }
+
+    /// The writers that left an instance or were turned away, the most needless orders first; then the other ones.
+    pub fn writers(&self) -> [Vec<(Guid, &Writer, Counts)>; 2] {
+        let all = self.history.writers.iter().map(|(guid, writer)| {
+            (*guid, writer, self.by_writer.get(guid).copied().unwrap_or_default())
+        });
+        let (mut trouble, quiet): (Vec<_>, Vec<_>) =
+            all.partition(|(_, writer, c)| c.is_trouble() || writer.turned_away > 0);
+        trouble.sort_by_key(|(_, writer, c)| {
+            std::cmp::Reverse((c.false_lines, c.order_lines, c.abandoned, writer.turned_away))
+        });
+        [trouble, quiet]
     }
 
     /// The instances, in the order of their keys.
@@ -95,6 +170,14 @@ impl<'a> Report<'a> {
         self.total.order_lines + self.unwritten
     }
 
+    /// How many of all orders, or of all abandonments where nothing was ordered.
+    pub fn share(&self, counts: &Counts) -> (u64, u64, &'static str) {
+        match self.order_lines() {
+            0 => (counts.abandoned, self.total.abandoned, "abandonment"),
+            all => (counts.order_lines, all, "order"),
+        }
+    }
+
     pub fn write(&self, form: Form) -> String {
         match form {
             Form::Text => text::write(self),
@@ -109,7 +192,7 @@ impl<'a> Report<'a> {
 mod tests {
     use super::*;
     use crate::names::{FITTING, LARGEST};
-    use crate::play::{play_text, Step, Watch};
+    use crate::play::{play_text, play_text_changed, Step, Watch};
     use crate::random::Days;
     use crate::table::{Log, Tables};
     use dcps::InstanceStateKind::Alive;
@@ -171,6 +254,34 @@ mod tests {
             }
         }
         assert!(lines > 200, "{lines}");
+    }
+
+    /// Whatever the day, a plan without changes counts what was counted, and only plans that change a call are played.
+    #[test]
+    fn any_day_is_tried() {
+        let mut days = Days::new(17);
+        let (mut tried, mut saved) = (0, 0);
+        for _ in 0..120 {
+            let (day, warnings) = (days.next_day(100), Warnings::default());
+            let (mut names, mut plans) = (Names::default(), Vec::new());
+            let mut play = |plan: &Plan| {
+                let mut history = History::default();
+                play_text_changed(&day, &mut names, plan, &mut [&mut history]);
+                plans.push(plan.clone());
+                Ok::<_, ()>(history)
+            };
+            let history = play(&Plan::default()).expect("a day");
+            let shown = Names::default();
+            let mut report = Report::new("day", &history, &shown, &warnings);
+            assert_eq!(Plan::default().orders(&history), report.order_lines());
+            report.try_actions(&mut play).expect("a day");
+            let fewer = report.causes.iter().filter_map(|(_, told)| told.action.as_ref()?.fewer);
+            saved += fewer.sum::<u64>();
+            tried += plans.len() - 1;
+            assert!(plans[1..].iter().all(|plan| !plan.keeps_the_calls()));
+            assert!(plans.len() <= TRIED + 2, "{day}");
+        }
+        assert!(tried > 40 && saved > 40, "{tried} {saved}");
     }
 
     /// All that a day shows, but explanations.

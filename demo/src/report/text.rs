@@ -1,20 +1,25 @@
 //! The answer as text.
 
-use super::Report;
+use super::html::pens;
+use super::{answer, Report};
 use crate::history::{End, Spell};
 use crate::rank::{lasted, Counts, Verdict};
 use crate::table::columns;
-use crate::tell::{counted, guids, how_often};
+use crate::tell::{counted, guids};
 use crate::words::{moment_of_clock, show_guid, show_moment, spoken};
+use crate::writers::Writer;
 use dcps::KeyHash;
 use std::fmt::Write;
 
+/// Of more, the other forms have the rest.
+const INSTANCES_SHOWN: usize = 20;
 const SPELLS_SHOWN: usize = 12;
 const CAUSES_SHOWN: usize = 10;
 const WIDTH: usize = 100;
 
 pub fn write(report: &Report<'_>) -> String {
-    let mut text = heads(report).join("\n") + "\n";
+    let mut text = String::new();
+    heads(&mut text, report);
     causes(&mut text, report);
     by_instance(&mut text, report);
     by_cause(&mut text, report);
@@ -23,52 +28,13 @@ pub fn write(report: &Report<'_>) -> String {
     text
 }
 
-/// The sentences at the top, for purchasing.
-pub fn heads(report: &Report<'_>) -> Vec<String> {
-    let (h, total) = (report.history, &report.total);
-    let span = h.ends().map_or(String::new(), |(first, last)| {
-        format!(", from {} to {}", show_moment(first), show_moment(last))
-    });
-    let mut heads = vec![
-        format!(
-            "{}: {}, {} refused, {} turned away{span}",
-            report.name,
-            counted(h.calls, "call"),
-            h.refused,
-            counted(h.turned_away, "sample")
-        ),
-        shown(total.abandoned, total.order_lines),
-    ];
-    if total.abandoned > 0 {
-        heads.push(format!(
-            "False were {} ({}): after {} the same writer (carriage) drew again, during {} another one was turned away.",
-            total.falsely(),
-            counted(total.false_lines, "order line"),
-            total.came_back,
-            total.turned_away
-        ));
+/// The answer in its first line, and what proves it.
+fn heads(text: &mut String, report: &Report<'_>) {
+    let _ = writeln!(text, "{} {}", answer::verdict(report), answer::reason(report));
+    for sentence in answer::changed(report).into_iter().chain(answer::notes(report)) {
+        wrapped(text, "", "", &sentence);
     }
-    if report.unwritten > 0 {
-        heads.push(format!(
-            "{} without an abandonment: a pen was registered, and nobody wrote it.",
-            counted(report.unwritten, "order line")
-        ));
-    }
-    if !h.taken && total.abandoned > total.order_lines {
-        heads.push("No call of this day takes samples (note_taken), so a pen with samples never becomes due for order.".to_owned());
-    }
-    heads
-}
-
-fn shown(abandoned: u64, order_lines: u64) -> String {
-    if abandoned == 0 {
-        return "No instance (pen) was shown abandoned.".to_owned();
-    }
-    format!(
-        "Instances (pens) were shown abandoned {}, which makes {}.",
-        how_often(abandoned),
-        counted(order_lines, "order line")
-    )
+    let _ = writeln!(text, "{}", answer::day(report));
 }
 
 /// A line of text in several, with blanks before all but the first.
@@ -94,12 +60,12 @@ fn causes(text: &mut String, report: &Report<'_>) {
     if report.causes.is_empty() {
         return;
     }
-    text.push_str("\nWhy, the most order lines first\n");
+    text.push_str("\nReasons, the most orders first\n");
     for (place, (group, told)) in (1..).zip(report.causes.iter().take(CAUSES_SHOWN)) {
         let head = share(report, &group.counts);
         let _ = writeln!(text, "\n  {place}. {head}: {}", told.title);
         wrapped(text, "     ", "     ", &told.what);
-        wrapped(text, "     To mend it: ", "     ", &told.mend);
+        wrapped(text, &format!("     {}: ", told.who()), "     ", &told.advice());
     }
     if report.causes.len() > CAUSES_SHOWN {
         let more = report.causes.len() - CAUSES_SHOWN;
@@ -107,37 +73,39 @@ fn causes(text: &mut String, report: &Report<'_>) {
     }
 }
 
-/// `10 of 13 order lines`, with the abandonments where there are other many.
-pub fn share(report: &Report<'_>, counts: &Counts) -> String {
-    let lines =
-        format!("{} of {}", counts.order_lines, counted(report.order_lines(), "order line"));
-    let kind = if counts.falsely() == counts.abandoned { ", false" } else { "" };
-    if counts.order_lines == counts.abandoned {
-        format!("{lines}{kind}")
+/// `10 of 13 orders`, with the abandonments where their number is another.
+fn share(report: &Report<'_>, counts: &Counts) -> String {
+    let (part, all, what) = report.share(counts);
+    let all = counted(all, what);
+    let kind = if counts.falsely() == counts.abandoned { ", needless" } else { "" };
+    if part == counts.abandoned {
+        format!("{part} of {all}{kind}")
     } else {
-        format!("{lines}{kind} ({})", counted(counts.abandoned, "abandonment"))
+        format!("{part} of {all}{kind} ({})", counted(counts.abandoned, "abandonment"))
     }
 }
 
-const COUNTS: [&str; 7] = [
+const COUNTS: [&str; 8] = [
+    "ORDERS",
+    "NEEDLESS",
     "ABANDONED",
     "CAME BACK",
     "TURNED AWAY",
     "TAKEN OVER",
     "NOT AGAIN",
-    "ORDER LINES",
     "TIME ABANDONED",
 ];
 
-fn cells(counts: &Counts) -> [String; 7] {
+fn cells(counts: &Counts) -> [String; 8] {
     let time = if counts.abandoned == 0 { "-".to_owned() } else { spoken(counts.time) };
     [
+        counts.order_lines.to_string(),
+        counts.false_lines.to_string(),
         counts.abandoned.to_string(),
         counts.came_back.to_string(),
         counts.turned_away.to_string(),
         counts.taken_over.to_string(),
         counts.not_again.to_string(),
-        counts.order_lines.to_string(),
         time,
     ]
 }
@@ -155,12 +123,13 @@ fn table(text: &mut String, title: &str, firsts: &[&str], rows: Vec<(Vec<String>
 }
 
 fn by_instance(text: &mut String, report: &Report<'_>) {
-    let rows = report.by_instance.iter().map(|(key, counts)| {
-        let unwritten = report.history.instances.get(key).map_or(0, |i| i.unwritten);
-        let counts = Counts { order_lines: counts.order_lines + unwritten, ..*counts };
-        (vec![report.names.show(key)], counts)
-    });
-    table(text, "By instance (pen)", &["KEY"], rows.collect());
+    let rows = report.in_trouble();
+    let rows = rows.into_iter().map(|(key, counts)| (vec![report.names.show(&key)], counts));
+    table(text, "By instance (pen), the most needless orders first", &["KEY"], rows.collect());
+    let quiet = report.quiet().len();
+    if quiet > 0 {
+        let _ = writeln!(text, "  Never shown abandoned: {}.", pens(quiet));
+    }
 }
 
 fn by_cause(text: &mut String, report: &Report<'_>) {
@@ -172,21 +141,10 @@ fn by_cause(text: &mut String, report: &Report<'_>) {
 }
 
 fn by_writer(text: &mut String, report: &Report<'_>) {
-    let rows = report.history.writers.iter().map(|(guid, writer)| {
-        let counts = report.by_writer.get(guid).copied().unwrap_or_default();
-        let lease = match writer.lease {
-            Some(lease) => spoken(moment_of_clock(lease)),
-            None if writer.matched => "endless".to_owned(),
-            None => "-".to_owned(),
-        };
-        let gaps = writer.samples.ends.map_or("-".to_owned(), |(_, most)| spoken(most));
-        let firsts = [
-            show_guid(guid),
-            lease,
-            gaps,
-            format!("{}, {} turned away", writer.samples.count, writer.turned_away),
-        ];
-        (firsts.to_vec(), counts)
+    let rows = report.writers().into_iter().flatten().map(|(guid, writer, counts)| {
+        let gap = writer.samples.ends.map_or("-".to_owned(), |(_, most)| spoken(most));
+        let samples = format!("{}, {} turned away", writer.samples.count, writer.turned_away);
+        (vec![show_guid(&guid), lease(writer, "-"), gap, samples], counts)
     });
     let titles = ["WRITER", "LEASE", "LONGEST GAP", "SAMPLES"];
     table(
@@ -197,15 +155,29 @@ fn by_writer(text: &mut String, report: &Report<'_>) {
     );
 }
 
+/// The lease of a writer in a cell.
+pub fn lease(writer: &Writer, none: &str) -> String {
+    match writer.lease {
+        Some(lease) => spoken(moment_of_clock(lease)),
+        None if writer.matched => "endless".to_owned(),
+        None => none.to_owned(),
+    }
+}
+
 fn abandonments(text: &mut String, report: &Report<'_>) {
     if report.total.abandoned > 0 {
         text.push_str("\nEach abandonment\n");
     }
-    for (key, instance) in report.instances() {
-        if instance.spells.is_empty() {
-            continue;
+    let abandoned: Vec<_> =
+        report.in_trouble().into_iter().filter(|(_, c)| c.abandoned > 0).collect();
+    for (key, _) in abandoned.iter().take(INSTANCES_SHOWN) {
+        if let Some(instance) = report.history.instances.get(key) {
+            self::abandoned(text, report, key, &instance.spells);
         }
-        abandoned(text, report, key, &instance.spells);
+    }
+    if abandoned.len() > INSTANCES_SHOWN {
+        let more = (abandoned.len() - INSTANCES_SHOWN) as u64;
+        let _ = writeln!(text, "  … and of {more} more instances (pens): --csv has them all");
     }
 }
 
@@ -250,12 +222,12 @@ pub fn ended(spell: &Spell) -> String {
         parts.push(format!("{} of {writers} turned away", counted(samples, "sample")));
     }
     if verdict.is_false() {
-        parts.push("false".to_owned());
+        parts.push("needless".to_owned());
     }
     parts.push(match spell.order_lines {
-        0 if spell.written => "no order line: a writer is in its set".to_owned(),
-        0 => format!("no order line: {} to take", counted(u64::from(spell.samples), "sample")),
-        lines => counted(lines, "order line"),
+        0 if spell.written => "no order: it has a writer".to_owned(),
+        0 => format!("no order: {} not yet taken", counted(u64::from(spell.samples), "sample")),
+        lines => counted(lines, "order"),
     });
     parts.join("; ")
 }

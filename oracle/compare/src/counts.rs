@@ -2,43 +2,78 @@
 
 use std::fmt;
 
+use crate::run::Parting;
+
 /// The least width of a column, and of that of the names.
 const WIDTH: usize = 9;
 const NAME_WIDTH: usize = 20;
 
+/// What can become of a case, by name.
+pub type Fates = &'static [&'static str];
+
+/// The place of a refusal among them, by its number.
+pub fn refused(fates: Fates, number: u8) -> Result<usize, Parting> {
+    let place = fates.iter().position(|fate| fate.parse() == Ok(number));
+    place.ok_or(Parting::Unrefused(number))
+}
+
 /// Cases of one sort, counted by fate.
-pub struct Row<C, const N: usize> {
+pub struct Row<C> {
     name: String,
     takes: Box<dyn Fn(&C) -> bool>,
-    fates: [u64; N],
+    fates: Vec<u64>,
 }
 
 /// Cases sorted by one thing: the first row that takes a case counts it.
-pub struct Table<C, const N: usize> {
+pub struct Table<C> {
     pub name: &'static str,
-    pub rows: Vec<Row<C, N>>,
+    pub rows: Vec<Row<C>>,
 }
 
 /// Tables of the same cases, with their fates as columns.
-pub struct Counts<C, const N: usize> {
+pub struct Counts<C> {
     pub cases: u64,
-    fates: [&'static str; N],
-    tables: Vec<Table<C, N>>,
+    fates: Fates,
+    tables: Vec<Table<C>>,
 }
 
-impl<C, const N: usize> Row<C, N> {
+impl<C> Row<C> {
     pub fn of(name: impl ToString, takes: impl Fn(&C) -> bool + 'static) -> Self {
-        Self { name: name.to_string(), takes: Box::new(takes), fates: [0; N] }
-    }
-
-    /// Behind others: what none of them takes.
-    pub fn other() -> Self {
-        Self::of("other", |_| true)
+        Self { name: name.to_string(), takes: Box::new(takes), fates: Vec::new() }
     }
 }
 
-impl<C, const N: usize> Counts<C, N> {
-    pub fn new(fates: [&'static str; N], tables: Vec<Table<C, N>>) -> Self {
+impl<C: 'static> Table<C> {
+    pub fn of(name: &'static str, rows: impl IntoIterator<Item = Row<C>>) -> Self {
+        Self { name, rows: rows.into_iter().collect() }
+    }
+
+    /// A row for each value.
+    pub fn by<V: ToString + PartialEq + 'static>(
+        name: &'static str,
+        values: impl IntoIterator<Item = V>,
+        of: impl Fn(&C) -> V + Copy + 'static,
+    ) -> Self {
+        let row = |value: V| Row::of(value.to_string(), move |case| of(case) == value);
+        Self::of(name, values.into_iter().map(row))
+    }
+
+    /// A last row, of what no other takes.
+    pub fn and(mut self, name: impl ToString) -> Self {
+        self.rows.push(Row::of(name, |_| true));
+        self
+    }
+
+    /// One row for all.
+    pub fn all() -> Self {
+        Self::of("", []).and("all")
+    }
+}
+
+impl<C> Counts<C> {
+    pub fn new(fates: Fates, mut tables: Vec<Table<C>>) -> Self {
+        let rows = tables.iter_mut().flat_map(|table| &mut table.rows);
+        rows.for_each(|row| row.fates = vec![0; fates.len()]);
         Self { cases: 0, fates, tables }
     }
 
@@ -54,12 +89,12 @@ impl<C, const N: usize> Counts<C, N> {
 
     /// The sorts, and the fates, that no case had.
     pub fn missing(&self) -> Vec<String> {
-        let rows = |table: &Table<C, N>| {
-            let empty = table.rows.iter().filter(|row| row.fates == [0; N]);
+        let rows = |table: &Table<C>| {
+            let empty = table.rows.iter().filter(|row| row.fates.iter().all(|n| *n == 0));
             empty.map(|row| format!("{} {}", table.name, row.name)).collect::<Vec<_>>()
         };
         let met = |n: usize| self.tables.iter().flat_map(|t| &t.rows).any(|row| row.fates[n] > 0);
-        let unmet = (0..N).filter(|n| !met(*n)).map(|n| self.fates[n].to_string());
+        let unmet = (0..self.fates.len()).filter(|n| !met(*n)).map(|n| self.fates[n].to_string());
         self.tables.iter().flat_map(rows).chain(unmet).collect()
     }
 
@@ -76,7 +111,7 @@ impl<C, const N: usize> Counts<C, N> {
     }
 }
 
-impl<C, const N: usize> fmt::Display for Counts<C, N> {
+impl<C> fmt::Display for Counts<C> {
     fn fmt(&self, f: &mut fmt::Formatter<'_>) -> fmt::Result {
         let width = self.fates.iter().map(|fate| fate.len() + 2).fold(WIDTH, usize::max);
         let rows = self.tables.iter().flat_map(|t| &t.rows).map(|row| row.name.len());

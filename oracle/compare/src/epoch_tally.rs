@@ -10,14 +10,14 @@ use lists::fill::times_taken;
 use reading::gaps::Rule;
 use reading::{Answer, Sheet};
 
-use crate::counts::{Counts, Row, Table};
+use crate::counts::{Counts, Fates, Table};
 
 /// So many calls are to meet every sort.
 pub const MANY: u64 = 100_000;
 
 /// How the Rust judged: as a call or read stands, given every time 2^30 seconds
 /// later, or not.
-const FATES: [&str; 3] = ["as it stands", "later", "not"];
+const FATES: Fates = &["as it stands", "later", "not"];
 
 /// What compares times.
 #[derive(Debug, Clone, Copy, PartialEq, Eq)]
@@ -28,8 +28,8 @@ pub enum Asked {
 }
 
 pub struct EpochTally {
-    asked: Counts<Asked, { FATES.len() }>,
-    compared: Counts<Comparison, { FATES.len() }>,
+    asked: Counts<Asked>,
+    compared: Counts<Comparison>,
     accepted: u64,
     judged: u64,
     /// That accepted calls take, and those before the epoch.
@@ -40,8 +40,7 @@ pub struct EpochTally {
 impl Default for EpochTally {
     fn default() -> Self {
         let asked = [Asked::Code(48), Asked::Code(21), Asked::Filter, Asked::Order];
-        let rows = asked.map(|asked| Row::of(asked, move |other| *other == asked));
-        let tables = vec![Table { name: "compares times", rows: rows.into() }];
+        let tables = vec![Table::by("compares times", asked, |asked: &Asked| *asked)];
         Self {
             asked: Counts::new(FATES, tables),
             compared: Counts::new(FATES, sorts()),
@@ -54,11 +53,10 @@ impl Default for EpochTally {
 }
 
 /// A table for each rule.
-fn sorts() -> Vec<Table<Comparison, { FATES.len() }>> {
+fn sorts() -> Vec<Table<Comparison>> {
     let table = |(rule, name)| {
         let sorts = Sort::all().into_iter().filter(move |sort| sort.rule == rule);
-        let row = |sort: Sort| Row::of(sort, move |c: &Comparison| c.sort() == sort);
-        Table { name, rows: sorts.map(row).collect() }
+        Table::by(name, sorts, Comparison::sort)
     };
     [(Rule::Order, "order"), (Rule::Filter, "filter"), (Rule::Purge, "autopurge")]
         .into_iter()

@@ -6,7 +6,7 @@ use reading::{Answer, Head, reads};
 use crate::case::{first_refusal, is_head};
 use crate::guarded::Guarded;
 use crate::library;
-use crate::read::{FILL, READ_BYTES, Told, laid_out, same_answer_or};
+use crate::read::{FILL, READ_BYTES, Told, laid_out, same_answer};
 use crate::run::Parting;
 
 #[derive(Debug, Clone, Copy, PartialEq, Eq)]
@@ -69,9 +69,11 @@ impl HeadRead {
     ) -> Result<u8, Parting> {
         let mut answer = Guarded::filled(FILL, answer_length);
         let number = library(self, head, answer.lent());
-        let told = self.told(head);
-        let otherwise = first_refusal(head).unwrap_or(1);
-        same_answer_or(otherwise, self.name(), &told, number, &answer)?;
-        Ok(if answer_length == self.stated() { told[0] } else { otherwise })
+        let mut told = self.told(head);
+        if answer_length != self.stated() {
+            told[0] = first_refusal(head).unwrap_or(1);
+        }
+        same_answer(self.name(), &told, number, &answer)?;
+        Ok(told[0])
     }
 }

@@ -1,131 +1,127 @@
-//! A key as the C boundary is lent it, and its KeyHash by the library, the
-//! reading and the Rust.
-
-use std::fmt;
+//! The KeyHash of a serialized key, by the library, the reading and the Rust.
 
 use judge::keys::judged_key;
 use lists::SerializedKey;
 use lists::keys::{LENGTHS, SIZES};
 use lists::rng::Rng;
-use reading::bytes::{Key, put};
-use reading::key_hash::key_hash;
+use reading::bytes::Key;
+use reading::key_hash::{PADDED_MOST, key_hash};
 
+use crate::added::{Added, Answered, Case, Library, Told};
 use crate::case::hex;
-use crate::guarded::Guarded;
-use crate::key_tally::{KeyTally, fate, key_tally};
-use crate::read::{FILL, READ_BYTES, same_answer};
-use crate::reads::answer_length;
+use crate::counts::{Fates, Row, Table};
+use crate::library;
 use crate::run::Parting;
-use crate::shrink::Shrink;
+
+pub type KeyCase = Case<SerializedKey>;
 
 /// Where an answer has the KeyHash.
 const KEY_HASH_AT: usize = 8;
 
-#[derive(Debug, Clone, PartialEq, Eq)]
-pub struct KeyCase {
-    pub key: SerializedKey,
-    pub answer_length: usize,
+/// A KeyHash or a refusal, as it is answered.
+pub fn as_told(key_hash: Result<Key, u8>) -> Told {
+    key_hash.map(|key| Answered::of(&[(KEY_HASH_AT, &key)]))
 }
 
-/// Compares the keys of seeds, counting them; one that parts comes back with
-/// its seed.
-pub fn compare_keys(
-    seeds: impl Iterator<Item = u64>,
-    mut library: impl FnMut(&[u8], u64, &mut [u8]) -> u32,
-) -> Result<KeyTally, (u64, KeyCase, Parting)> {
-    let mut tally = key_tally();
-    for seed in seeds {
-        let case = KeyCase::of_seed(seed);
-        match case.compared(&mut library) {
-            Ok(told) => tally.see(&case, fate(&case, &told)),
-            Err(parting) => return Err((seed, case, parting)),
-        }
-    }
-    Ok(tally)
-}
+impl Added for SerializedKey {
+    const NAME: &'static str = "keys";
+    const FATES: Fates = &["padded", "hashed", "14", "15", "1"];
+    const JUDGED: bool = true;
+    type Met = Self;
 
-/// The bytes of an answer.
-pub fn laid_out(told: &Result<Key, u8>) -> [u8; READ_BYTES] {
-    let mut bytes = [0; READ_BYTES];
-    match told {
-        Ok(key) => put(&mut bytes, KEY_HASH_AT, key),
-        Err(number) => bytes[0] = *number,
-    }
-    bytes
-}
-
-impl KeyCase {
-    pub fn of_seed(seed: u64) -> Self {
+    fn of_seed(seed: u64) -> (Vec<Self>, Rng) {
         let mut rng = Rng::new(seed);
-        let key = SerializedKey::any(&mut rng);
-        Self { key, answer_length: answer_length(&mut rng) }
+        (vec![Self::any(&mut rng)], rng)
     }
 
-    /// The reading's KeyHash or refusal.
-    fn told(&self) -> Result<Key, u8> {
-        let fits = self.answer_length == READ_BYTES;
-        if fits { key_hash(&self.key.bytes, self.key.largest) } else { Err(1) }
+    /// The bytes behind it are not zero, so that a library that reads on is
+    /// seen.
+    fn lent(&self) -> Vec<&[u8]> {
+        vec![&self.bytes]
     }
 
-    /// Asks all three; what they agree on. The bytes behind the key are not
-    /// zero, so that a library that reads on is seen.
-    pub fn compared(
-        &self,
-        library: impl FnOnce(&[u8], u64, &mut [u8]) -> u32,
-    ) -> Result<Result<Key, u8>, Parting> {
-        let serialized = Guarded::of(&self.key.bytes);
-        let mut answer = Guarded::filled(FILL, self.answer_length);
-        let number = library(serialized.bytes(), self.key.largest, answer.lent());
-        let told = self.told();
-        same_answer("KeyHash", &laid_out(&told), number, &answer)?;
-        judged_key(&self.key, &told).map_err(Parting::Differs)?;
-        Ok(told)
+    fn told(&self) -> Told {
+        as_told(key_hash(&self.bytes, self.largest))
     }
 
-    /// Shorter keys, of the same size or of one as much smaller.
-    fn shorter(&self) -> Vec<Self> {
-        let length = self.key.bytes.len();
-        let steps = [length / 2, length.saturating_sub(1)];
-        let lengths = LENGTHS.into_iter().chain(steps).filter(|shorter| *shorter < length);
-        let cut = |shorter: usize| {
-            let bytes = self.key.bytes[..shorter].to_vec();
-            let moved = self.key.largest.saturating_sub((length - shorter) as u64);
-            [self.key.largest, moved].map(|largest| Self {
-                key: SerializedKey { bytes: bytes.clone(), largest },
-                ..self.clone()
-            })
-        };
-        lengths.flat_map(cut).collect()
+    fn ask(&self, lent: &mut [&mut [u8]], answer: &mut [u8]) -> u32 {
+        library::key_hash(lent[0], self.largest, answer)
     }
 
-    fn zeroed(&self) -> Self {
-        let mut zeroed = self.clone();
-        zeroed.key.bytes.fill(0);
-        zeroed
+    /// The Rust has the same.
+    fn further(case: &KeyCase, told: &Told, _: &mut Library<'_, Self>) -> Result<(), Parting> {
+        let Ok(Answered { bytes, .. }) = told else { return Ok(()) };
+        let key_hash = bytes[KEY_HASH_AT..].try_into().expect("16 bytes are left of 24");
+        judged_key(&case.asked, &Ok(key_hash)).map_err(Parting::Differs)
     }
 
-    fn of_smaller_size(&self) -> Vec<Self> {
-        let SerializedKey { bytes, largest } = &self.key;
-        let steps = [bytes.len() as u64, largest / 2, largest.saturating_sub(1)];
-        let sizes = SIZES.into_iter().chain(steps).filter(|smaller| smaller < largest);
-        let sized = |largest| SerializedKey { bytes: bytes.clone(), largest };
-        sizes.map(|largest| Self { key: sized(largest), ..self.clone() }).collect()
+    fn fate(&self, _: &Answered) -> usize {
+        usize::from(self.largest > PADDED_MOST)
     }
-}
 
-impl Shrink for KeyCase {
-    /// Smaller ones: by the answer, then the key's length, bytes and size.
+    fn met(&self, _: &Told) -> Self {
+        self.clone()
+    }
+
+    fn sorts() -> Vec<Table<KeyCase>> {
+        vec![
+            Table::by("stated size", SIZES, |case: &KeyCase| case.asked.largest).and("other"),
+            Table::by("length", LENGTHS, |case: &KeyCase| case.asked.bytes.len()).and("other"),
+            Table::of("against size", excesses()).and("far more"),
+            Table::of("contents", contents()).and("other"),
+        ]
+    }
+
+    /// By the length, the bytes and the size.
     fn smaller(&self) -> impl Iterator<Item = Self> {
-        let plain = Self { answer_length: READ_BYTES, ..self.clone() };
-        let all = [plain].into_iter().chain(self.shorter()).chain([self.zeroed()]);
-        all.chain(self.of_smaller_size()).filter(move |case| case != self)
+        let zeroed = Self { bytes: vec![0; self.bytes.len()], ..*self };
+        let all = shorter(self).into_iter().chain([zeroed]).chain(of_smaller_size(self));
+        all.filter(move |key| key != self)
+    }
+
+    fn shown(&self) -> String {
+        let Self { bytes, largest } = self;
+        format!("stated size {largest}, key of {} bytes {}", bytes.len(), hex(bytes))
     }
 }
 
-impl fmt::Display for KeyCase {
-    fn fmt(&self, f: &mut fmt::Formatter<'_>) -> fmt::Result {
-        let SerializedKey { bytes, largest } = &self.key;
-        write!(f, "stated size {largest}, key of {} bytes {}", bytes.len(), hex(bytes))?;
-        write!(f, ", answer of {} bytes", self.answer_length)
-    }
+/// Of the same size or of one as much smaller.
+fn shorter(key: &SerializedKey) -> Vec<SerializedKey> {
+    let length = key.bytes.len();
+    let steps = [length / 2, length.saturating_sub(1)];
+    let lengths = LENGTHS.into_iter().chain(steps).filter(|shorter| *shorter < length);
+    let cut = |shorter: usize| {
+        let moved = key.largest.saturating_sub((length - shorter) as u64);
+        let sized = |largest| SerializedKey { bytes: key.bytes[..shorter].to_vec(), largest };
+        [key.largest, moved].map(sized)
+    };
+    lengths.flat_map(cut).collect()
+}
+
+fn of_smaller_size(SerializedKey { bytes, largest }: &SerializedKey) -> Vec<SerializedKey> {
+    let steps = [bytes.len() as u64, largest / 2, largest.saturating_sub(1)];
+    let sizes = SIZES.into_iter().chain(steps).filter(|smaller| smaller < largest);
+    sizes.map(|largest| SerializedKey { bytes: bytes.clone(), largest }).collect()
+}
+
+/// The length beside the stated size.
+fn excesses() -> [Row<KeyCase>; 3] {
+    [
+        Row::of("less", |case: &KeyCase| case.asked.excess() < 0),
+        Row::of("equal", |case: &KeyCase| case.asked.excess() == 0),
+        Row::of("one more", |case: &KeyCase| case.asked.excess() == 1),
+    ]
+}
+
+fn contents() -> [Row<KeyCase>; 5] {
+    let row = |name: &str, takes: fn(&[u8]) -> bool| {
+        Row::of(name, move |case: &KeyCase| takes(&case.asked.bytes))
+    };
+    [
+        row("none", |bytes| bytes.is_empty()),
+        row("zeros", |bytes| bytes.iter().all(|byte| *byte == 0)),
+        row("0xff", |bytes| bytes.iter().all(|byte| *byte == 0xff)),
+        row("0x80 ends", |bytes| bytes.ends_with(&[0x80])),
+        row("0x80, zeros", |bytes| bytes.iter().rfind(|byte| **byte != 0) == Some(&0x80)),
+    ]
 }

@@ -4,6 +4,7 @@
 //! a head or pens, through the library and the reading. Every answer and every
 //! byte is compared.
 
+pub mod added;
 pub mod case;
 pub mod counts;
 pub mod epoch_tally;
@@ -11,7 +12,6 @@ pub mod figures;
 pub mod fresh;
 pub mod guarded;
 pub mod head_read;
-pub mod key_tally;
 pub mod keys;
 pub mod library;
 pub mod list;
@@ -22,16 +22,9 @@ pub mod reads;
 pub mod run;
 pub mod shrink;
 pub mod tally;
-pub mod time_tally;
 pub mod times;
 
 pub use case::{Case, Fault};
-pub use key_tally::KeyTally;
-pub use keys::KeyCase;
 pub use list::List;
-pub use lookup_tally::LookupTally;
-pub use lookups::LookupCase;
 pub use run::{Parting, Run};
 pub use tally::Tally;
-pub use time_tally::TimeTally;
-pub use times::TimeCase;

@@ -4,27 +4,17 @@
 use reading::bytes::Guid;
 use reading::layout::{INSTANCE_BYTES, Instance, Kind, LARGE, SET_PLACES, SMALL, places_of};
 
-use crate::counts::{Counts, Row, Table};
-use crate::lookups::LookupCase;
-use crate::read::READ_BYTES;
-use crate::reads::ODD_ANSWERS;
-
-/// What becomes of a lookup: an instance, none, or a refusal.
-const FATES: [&str; 4] = ["found", "none", "1", "3"];
-
-pub type LookupTally = Counts<Met, { FATES.len() }>;
-type Sort = Row<Met, { FATES.len() }>;
+use crate::added::{self, Case};
+use crate::counts::{Row, Table};
+use crate::lookups::Lookup;
 
 /// The name of a sort in a table that counts the lookup.
 type Name = Option<&'static str>;
 
 /// A lookup by its sorts.
 pub struct Met {
-    /// The place in `FATES`.
-    pub fate: usize,
-    answer_length: usize,
-    places: Name,
-    asked: Name,
+    places: &'static str,
+    asked: &'static str,
     damage: Name,
     told: Told,
 }
@@ -57,11 +47,9 @@ const PLACE: [&[&str]; 2] =
 /// What the GUID is beside those of alive instances before the answer.
 const ALIKE: [&str; 5] = ["zero", "one byte off", "first 8 alike", "last 8 alike", "other"];
 
-pub fn lookup_tally() -> LookupTally {
-    let answers = [READ_BYTES].into_iter().chain(ODD_ANSWERS);
-    let answers = answers.map(|length| Sort::of(length, move |met| met.answer_length == length));
-    let tables = vec![
-        table("places", &["32", "128", "another length"], |met| met.places),
+pub fn lookup_sorts() -> Vec<Table<Case<Met>>> {
+    vec![
+        Table::by("places", ["32", "128", "another length"], |case: &Case<Met>| case.asked.places),
         by_size("instances", [&INSTANCES; 2], |met| met.told.instances),
         by_size("alive with the GUID", [&["none", "1", "2", "more"]; 2], |met| met.told.fitting),
         by_size("in the set of", [&IN_SET_OF; 2], |met| met.told.in_set_of),
@@ -72,23 +60,8 @@ pub fn lookup_tally() -> LookupTally {
         by_size("place in the table", PLACE, |met| met.told.place),
         by_size("GUID asked for", [&ALIKE; 2], |met| met.told.guid),
         by_size("in spite of damage", [&["one would fit", "none would"]; 2], |met| met.damage),
-        table("asked", &["once", "twice"], |met| met.asked),
-        Table { name: "answer", rows: answers.collect() },
-        Table { name: "", rows: vec![Sort::of("all", |_| true)] },
-    ];
-    Counts::new(FATES, tables)
-}
-
-fn table(
-    name: &'static str,
-    rows: &[&'static str],
-    of: fn(&Met) -> Name,
-) -> Table<Met, { FATES.len() }> {
-    let row = |name: &&'static str| {
-        let name = *name;
-        Sort::of(name, move |met| of(met) == Some(name))
-    };
-    Table { name, rows: rows.iter().map(row).collect() }
+        Table::by("asked", ["once", "twice"], |case: &Case<Met>| case.asked.asked),
+    ]
 }
 
 /// Rows of their own for each size, so that a sort that one of them never has
@@ -97,37 +70,29 @@ fn by_size(
     name: &'static str,
     rows: [&'static [&'static str]; 2],
     of: fn(&Met) -> Name,
-) -> Table<Met, { FATES.len() }> {
+) -> Table<Case<Met>> {
     let row = |(size, sort)| {
-        let takes = move |met: &Met| met.places == Some(size) && of(met) == Some(sort);
-        Sort::of(format!("{size}: {sort}"), takes)
+        let takes = move |met: &Met| met.places == size && of(met) == Some(sort);
+        Row::of(format!("{size}: {sort}"), move |case: &Case<Met>| takes(&case.asked))
     };
     let of_size = |(size, sorts): (_, &'static [_])| sorts.iter().map(move |sort| (size, *sort));
-    Table { name, rows: SIZES.into_iter().zip(rows).flat_map(of_size).map(row).collect() }
+    Table::of(name, SIZES.into_iter().zip(rows).flat_map(of_size).map(row))
 }
 
 impl Met {
-    pub fn of(case: &LookupCase, number: u8) -> Self {
-        let told = match &case.pens.instances {
-            Ok(instances) if number == 0 => Told::of(case, instances),
-            _ => Told::default(),
-        };
-        let fate = match number {
-            0 => usize::from(told.place.is_none()),
-            1 => 2,
-            _ => 3,
-        };
+    pub fn of(lookup: &Lookup, told: &added::Told) -> Self {
         Self {
-            fate,
-            answer_length: case.answer_length,
-            places: Some(match places_of(case.pens.bytes.len()) {
+            places: match places_of(lookup.pens.bytes.len()) {
                 Some(SMALL) => "32",
                 Some(LARGE) => "128",
                 _ => "another length",
-            }),
-            asked: Some(if case.again { "twice" } else { "once" }),
-            damage: (number == 3).then(|| damage(case)),
-            told,
+            },
+            asked: if lookup.again { "twice" } else { "once" },
+            damage: (*told == Err(3)).then(|| damage(lookup)),
+            told: match &lookup.pens.instances {
+                Ok(instances) if told.is_ok() => Told::of(lookup, instances),
+                _ => Told::default(),
+            },
         }
     }
 }
@@ -137,16 +102,16 @@ fn has(i: &Instance, guid: &Guid, alive: bool) -> bool {
 }
 
 /// Whether one fits for who takes each record by itself, up to a damaged one.
-fn damage(case: &LookupCase) -> &'static str {
-    let records = case.pens.bytes.chunks(INSTANCE_BYTES);
+fn damage(lookup: &Lookup) -> &'static str {
+    let records = lookup.pens.bytes.chunks(INSTANCE_BYTES);
     let mut whole = records.map_while(Instance::of_record);
-    if whole.any(|i| has(&i, &case.guid, true)) { "one would fit" } else { "none would" }
+    if whole.any(|i| has(&i, &lookup.guid, true)) { "one would fit" } else { "none would" }
 }
 
 impl Told {
-    fn of(case: &LookupCase, instances: &[Instance]) -> Self {
+    fn of(lookup: &Lookup, instances: &[Instance]) -> Self {
         let places = |alive| {
-            let with_guid = move |(_, i): &(usize, &Instance)| has(i, &case.guid, alive);
+            let with_guid = move |(_, i): &(usize, &Instance)| has(i, &lookup.guid, alive);
             instances.iter().enumerate().filter(with_guid).map(|(place, _)| place)
         };
         let alive: Vec<usize> = places(true).collect();
@@ -154,18 +119,18 @@ impl Told {
         let answer = place.map(|place| &instances[place]);
         // Where none is named all are before the answer.
         let before = &instances[..place.unwrap_or(instances.len())];
-        let full = places_of(case.pens.bytes.len()) == Some(instances.len() as u16);
+        let full = places_of(lookup.pens.bytes.len()) == Some(instances.len() as u16);
         let handles: Vec<u64> = alive.iter().map(|place| instances[*place].handle).collect();
         Self {
             instances: Some(how_many(instances.len(), full)),
             fitting: Some(["none", "1", "2", "more"][alive.len().min(3)]),
             in_set_of: Some(in_set_of(place, places(false).next())),
             writers: answer.map(writers),
-            owned: Some(if owned(before, &case.guid) { "yes" } else { "no" }),
+            owned: Some(if owned(before, &lookup.guid) { "yes" } else { "no" }),
             revived: answer.map(revived),
             handle: handle_of_several(&handles),
             place: place.map(|place| place_in_table(place, full && place + 1 == instances.len())),
-            guid: Some(alike(before, &case.guid)),
+            guid: Some(alike(before, &lookup.guid)),
         }
     }
 }

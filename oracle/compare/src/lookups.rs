@@ -1,22 +1,20 @@
-//! A writer's instance looked up as the C boundary is asked for it, by the
-//! library and the reading.
+//! A writer's instance looked up, by the library and the reading.
 
 use std::fmt;
 use std::rc::Rc;
 
 use lists::LookupTable;
 use lists::rng::Rng;
-use reading::bytes::{Guid, all_zero, put};
+use reading::bytes::{Guid, all_zero, put, u64_at};
 use reading::layout::{INSTANCE_BYTES, Instance, SMALL, pens_bytes};
 use reading::reads;
 
+use crate::added::{Added, Answered, Case, Library, Told};
 use crate::case::{Field, hex, write_fields};
-use crate::guarded::Guarded;
-use crate::lookup_tally::{LookupTally, Met, lookup_tally};
-use crate::read::{READ_BYTES, Read};
-use crate::reads::answer_length;
+use crate::counts::{Fates, Table};
+use crate::library;
+use crate::lookup_tally::{Met, lookup_sorts};
 use crate::run::Parting;
-use crate::shrink::Shrink;
 
 /// Pens as lent, and the instances that the reading finds there, or its
 /// refusal.
@@ -26,44 +24,86 @@ pub struct LentPens {
 }
 
 #[derive(Clone)]
-pub struct LookupCase {
+pub struct Lookup {
     /// Shared by the lookups of one table.
     pub pens: Rc<LentPens>,
     pub guid: Guid,
     /// Asked twice in a row.
     pub again: bool,
-    pub answer_length: usize,
 }
 
-/// That many lookups, of the tables of seeds, each with its table's seed.
-pub fn cases(first: u64, count: u64) -> impl Iterator<Item = (u64, LookupCase)> {
-    let seeds = (0..).map(move |n| first.wrapping_add(n));
-    let of_table = |seed| LookupCase::of_seed(seed).into_iter().map(move |case| (seed, case));
-    seeds.flat_map(of_table).take(count as usize)
+pub type LookupCase = Case<Lookup>;
+
+/// Where an answer tells whether there is an instance, and its handle.
+const PRESENT_AT: usize = 2;
+const HANDLE_AT: usize = 8;
+
+/// A handle, or none, as it is answered.
+pub fn as_told(found: Result<Option<u64>, u8>) -> Told {
+    found.map(|found| {
+        let handle = found.unwrap_or(0).to_be_bytes();
+        Answered::of(&[(PRESENT_AT, &[found.is_some().into()]), (HANDLE_AT, &handle)])
+    })
 }
 
-/// Compares lookups, counting them; the first that parts comes back with its
-/// seed.
-pub fn compare_lookups(
-    lookups: impl Iterator<Item = (u64, LookupCase)>,
-    mut library: impl FnMut(&Guid, &mut [u8], &mut [u8]) -> u32,
-) -> Result<LookupTally, (u64, LookupCase, Parting)> {
-    let mut tally = lookup_tally();
-    for (seed, case) in lookups {
-        match case.compared(&mut library) {
-            Ok(number) => {
-                let met = Met::of(&case, number);
-                tally.see(&met, met.fate);
-            }
-            Err(parting) => return Err((seed, case, parting)),
-        }
+impl Added for Lookup {
+    const NAME: &'static str = "lookups";
+    const FATES: Fates = &["found", "none", "1", "3"];
+    type Met = Met;
+
+    /// Of the GUIDs that a table is asked for, one is asked for again.
+    fn of_seed(seed: u64) -> (Vec<Self>, Rng) {
+        let LookupTable { pens, asked } = LookupTable::of_seed(seed);
+        let (pens, mut rng) = (Rc::new(LentPens::of(pens)), Rng::new(!seed));
+        let again = rng.below(asked.len());
+        let lookup = |(n, guid)| Self { pens: Rc::clone(&pens), guid, again: n == again };
+        (asked.into_iter().enumerate().map(lookup).collect(), rng)
     }
-    Ok(tally)
-}
 
-/// By the static library.
-pub fn linked(guid: &Guid, pens: &mut [u8], answer: &mut [u8]) -> u32 {
-    Read::Lookup { guid: *guid }.ask(pens, &mut [], answer)
+    fn lent(&self) -> Vec<&[u8]> {
+        vec![&self.pens.bytes]
+    }
+
+    fn told(&self) -> Told {
+        as_told(reads::instance_of_writer(&self.pens.bytes, &self.guid))
+    }
+
+    fn ask(&self, lent: &mut [&mut [u8]], answer: &mut [u8]) -> u32 {
+        library::writer_lookup(lent[0], u64_at(&self.guid, 0), u64_at(&self.guid, 8), answer)
+    }
+
+    fn further(
+        case: &LookupCase,
+        told: &Told,
+        library: &mut Library<'_, Self>,
+    ) -> Result<(), Parting> {
+        if case.asked.again { case.same(told, library) } else { Ok(()) }
+    }
+
+    fn fate(&self, told: &Answered) -> usize {
+        usize::from(told.bytes[PRESENT_AT] == 0)
+    }
+
+    fn met(&self, told: &Told) -> Met {
+        Met::of(self, told)
+    }
+
+    fn sorts() -> Vec<Table<Case<Met>>> {
+        lookup_sorts()
+    }
+
+    /// Asked once, then by the table.
+    fn smaller(&self) -> impl Iterator<Item = Self> {
+        let once = self.again.then(|| Self { again: false, ..self.clone() });
+        let tables = self.pens.smaller();
+        let tables = tables.map(|pens| Self { pens: Rc::new(pens), ..self.clone() });
+        once.into_iter().chain(tables)
+    }
+
+    fn shown(&self) -> String {
+        let times = if self.again { "twice" } else { "once" };
+        format!("{}asked {times} for {}", self.pens, hex(&self.guid))
+    }
 }
 
 impl LentPens {
@@ -145,59 +185,6 @@ fn plainer(record: &[u8]) -> Vec<Instance> {
     all.filter(|plainer| *plainer != instance).collect()
 }
 
-impl LookupCase {
-    /// Of the GUIDs that a table is asked for, one is asked for again.
-    fn of_seed(seed: u64) -> Vec<Self> {
-        let LookupTable { pens, asked } = LookupTable::of_seed(seed);
-        let (pens, mut rng) = (Rc::new(LentPens::of(pens)), Rng::new(!seed));
-        let again = rng.below(asked.len());
-        let case = |(n, guid)| Self {
-            pens: Rc::clone(&pens),
-            guid,
-            again: n == again,
-            answer_length: answer_length(&mut rng),
-        };
-        asked.into_iter().enumerate().map(case).collect()
-    }
-
-    /// Asks both, once or twice; the number that they agree on.
-    pub fn compared(
-        &self,
-        mut library: impl FnMut(&Guid, &mut [u8], &mut [u8]) -> u32,
-    ) -> Result<u8, Parting> {
-        let mut pens = Guarded::of(&self.pens.bytes);
-        let number = self.same(&mut pens, &mut library)?;
-        if self.again { self.same(&mut pens, library) } else { Ok(number) }
-    }
-
-    /// Asks both; the pens are to stay, and so are the bytes behind them.
-    fn same(
-        &self,
-        pens: &mut Guarded,
-        mut library: impl FnMut(&Guid, &mut [u8], &mut [u8]) -> u32,
-    ) -> Result<u8, Parting> {
-        let ask = |_: &Read, _: &[u8], _: &mut [u8], answer: &mut [u8]| {
-            library(&self.guid, pens.lent(), answer)
-        };
-        let read = Read::Lookup { guid: self.guid };
-        let number = read.same(&self.pens.bytes, self.answer_length, ask)?;
-        pens.same("pens of a lookup", &self.pens.bytes)?;
-        Ok(number)
-    }
-}
-
-impl Shrink for LookupCase {
-    /// Smaller ones: asked once, by the answer, by the table.
-    fn smaller(&self) -> impl Iterator<Item = Self> {
-        let once = self.again.then(|| Self { again: false, ..self.clone() });
-        let odd = self.answer_length != READ_BYTES;
-        let plain = odd.then(|| Self { answer_length: READ_BYTES, ..self.clone() });
-        let tables = self.pens.smaller();
-        let tables = tables.map(|pens| Self { pens: Rc::new(pens), ..self.clone() });
-        once.into_iter().chain(plain).chain(tables)
-    }
-}
-
 /// The fields of a record between its handle and its set.
 const FIELDS: [Field; 14] = [
     ("flags", 24, 26),
@@ -216,23 +203,19 @@ const FIELDS: [Field; 14] = [
     ("holder", 112, 256),
 ];
 
-impl fmt::Display for LookupCase {
+impl fmt::Display for LentPens {
     fn fmt(&self, f: &mut fmt::Formatter<'_>) -> fmt::Result {
-        writeln!(f, "pens of {} bytes", self.pens.bytes.len())?;
-        for record in self.pens.records() {
-            match Instance::of_record(record) {
-                Some(i) => {
-                    let writers: Vec<String> = i.writers.iter().map(|guid| hex(guid)).collect();
-                    let Instance { key, handle, kind, .. } = i;
-                    write!(f, "key {}, handle {handle}, {kind:?}", hex(&key))?;
-                    write_fields(f, &FIELDS, record)?;
-                    writeln!(f, ", writers {}", writers.join(" "))?;
-                }
-                None => writeln!(f, "record {}", hex(record))?,
-            }
+        writeln!(f, "pens of {} bytes", self.bytes.len())?;
+        for record in self.records() {
+            let Some(i) = Instance::of_record(record) else {
+                writeln!(f, "record {}", hex(record))?;
+                continue;
+            };
+            let writers: Vec<String> = i.writers.iter().map(|guid| hex(guid)).collect();
+            write!(f, "key {}, handle {}, {:?}", hex(&i.key), i.handle, i.kind)?;
+            write_fields(f, &FIELDS, record)?;
+            writeln!(f, ", writers {}", writers.join(" "))?;
         }
-        let times = if self.again { "twice" } else { "once" };
-        write!(f, "asked {times} for {}", hex(&self.guid))?;
-        write!(f, ", answer of {} bytes", self.answer_length)
+        Ok(())
     }
 }

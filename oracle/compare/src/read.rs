@@ -73,7 +73,7 @@ impl Told {
         Self { yes, ..Self::default() }
     }
 
-    pub fn handle(handle: Option<u64>) -> Self {
+    fn handle(handle: Option<u64>) -> Self {
         Self { present: handle.is_some(), handle: handle.unwrap_or(0), ..Self::default() }
     }
 
@@ -220,29 +220,17 @@ fn stored_holder(pens: &[u8], key: &Key) -> Told {
     }
 }
 
-/// An answer of the stated length as expected; one of another length is
-/// refused as 1 and left alone.
+/// The expected number, and an answer of the stated length as expected; one of
+/// another length is left alone.
 pub fn same_answer(
     what: &str,
     expected: &[u8],
     number: u32,
     answer: &Guarded,
 ) -> Result<(), Parting> {
-    same_answer_or(1, what, expected, number, answer)
-}
-
-/// The same where an answer of another length is refused as that number.
-pub fn same_answer_or(
-    otherwise: u8,
-    what: &str,
-    expected: &[u8],
-    number: u32,
-    answer: &Guarded,
-) -> Result<(), Parting> {
+    let whole = u32::from(expected[0]).to_be_bytes();
+    same_bytes(&format!("number of {what}"), &whole, &number.to_be_bytes())?;
     let length = answer.bytes().len();
     let fits = length == expected.len();
-    let expected_number = if fits { expected[0] } else { otherwise };
-    let whole = u32::from(expected_number).to_be_bytes();
-    same_bytes(&format!("number of {what}"), &whole, &number.to_be_bytes())?;
     if fits { answer.same(what, expected) } else { answer.same(what, &vec![FILL; length]) }
 }

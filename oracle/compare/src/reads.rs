@@ -23,10 +23,6 @@ use crate::tally::Tally;
 
 /// Damage, and odd lengths, one in so many times.
 const SPOILT_ONE_IN: usize = 6;
-/// Lengths of an answer other than the stated one, lent one in so many times
-/// to a function that is compared by itself.
-pub const ODD_ANSWERS: [usize; 6] = [0, 1, 8, 23, 25, 72];
-const ODD_ONE_IN: usize = 16;
 
 /// Lets the library make the fresh state, of either number of places, out of
 /// noise.
@@ -186,9 +182,4 @@ fn odd_answer(rng: &mut Rng, stated: usize) -> usize {
     let odd = rng.one_in(8 * SPOILT_ONE_IN);
     let lengths = [0, 1, stated - 1, stated + 1, 2 * stated];
     if odd { rng.pick(&lengths) } else { stated }
-}
-
-/// Mostly the stated one.
-pub fn answer_length(rng: &mut Rng) -> usize {
-    if rng.one_in(ODD_ONE_IN) { rng.pick(&ODD_ANSWERS) } else { READ_BYTES }
 }

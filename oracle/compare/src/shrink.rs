@@ -1,5 +1,4 @@
-//! A failing case made small; and a failing list: fewer calls, an emptier start,
-//! plainer sheets.
+//! A failing list made small: fewer calls, an emptier start, plainer sheets.
 
 use lists::image::Lengths;
 use lists::start::count_records;
@@ -8,21 +7,6 @@ use reading::bytes::u64_at;
 
 use crate::case::{Case, FIELDS};
 use crate::list::List;
-
-/// A case by itself, not of a list.
-pub trait Shrink: Clone {
-    /// Smaller ones, tried in that order.
-    fn smaller(&self) -> impl Iterator<Item = Self>;
-
-    /// A small case, by steps that each still fail.
-    fn shrunk(&self, mut fails: impl FnMut(&Self) -> bool) -> Self {
-        let mut small = self.clone();
-        loop {
-            let Some(smaller) = small.smaller().find(|case| fails(case)) else { return small };
-            small = smaller;
-        }
-    }
-}
 
 /// The smallest list, by steps that each still fail.
 pub fn shrink(list: &List, mut fails: impl FnMut(&List) -> bool) -> List {

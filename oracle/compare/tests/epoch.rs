@@ -1,5 +1,6 @@
 //! Many calls compare times in every sort, and the Rust judges in every way.
 
+#[path = "over_bytes/calls.rs"]
 mod over_bytes;
 
 use compare::epoch_tally::MANY;
@@ -12,6 +13,8 @@ use over_bytes::over_bytes;
 #[test]
 fn many_calls_meet_every_sort() {
     if !original::PRESENT {
+        let ci = std::env::var("CI").is_ok_and(|ci| ci == "true");
+        assert!(!ci, "no sources of ZeroDDS (set ZERO_DDS_SRC)");
         return;
     }
     let call = |lent: Lent<'_>| over_bytes(lent, None);

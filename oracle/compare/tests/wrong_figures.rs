@@ -1,6 +1,7 @@
 //! Wrong rules for the number of places, in place of the library's, are caught
 //! by the comparison of every number with every length.
 
+#[path = "over_bytes/calls.rs"]
 mod over_bytes;
 
 use compare::case::PLACES_AT;

@@ -1,6 +1,7 @@
 //! Wrong implementations in place of the library are caught, and the lists that
 //! catch them come out small.
 
+#[path = "over_bytes/calls.rs"]
 mod over_bytes;
 
 use compare::library::Lent;

@@ -1,97 +1,40 @@
 //! Wrong lookups in place of the library's are caught, and the tables that
 //! catch them come out small.
 
-use compare::LookupCase;
-use compare::lookups::{cases, compare_lookups};
-use compare::read::{READ_BYTES, Read, Told, laid_out};
-use compare::shrink::Shrink;
+mod over_bytes;
+
+use compare::added::{Added, Case, Told, cases, compare_added};
+use compare::lookups::{LentPens, Lookup, as_told};
+use over_bytes::{COUNT, changed, over_bytes, right, shared, wrong};
 use reading::bytes::{Guid, u32_at, u64_at};
 use reading::layout::{
     INSTANCE_BYTES, Instance, Kind, LARGE, NANOSECONDS, SET_PLACES, SMALL, pens_bytes,
 };
 use reading::reads;
 
-/// Lookups of every sort are among so many.
-const LOOKUPS: u64 = 4_000;
-/// Each wrong library is caught within so many.
-const WITHIN: u64 = 1_000;
-
-/// What is told, over the boundary's bytes.
-fn over_bytes(told: Result<Told, u8>, answer: &mut [u8]) -> u32 {
-    if answer.len() != READ_BYTES {
-        return 1;
-    }
-    answer.copy_from_slice(&laid_out(&told));
-    u32::from(told.err().unwrap_or(0))
-}
-
-/// The reading.
-fn right(guid: &Guid, pens: &mut [u8], answer: &mut [u8]) -> u32 {
-    over_bytes(Read::Lookup { guid: *guid }.told(pens, &mut []), answer)
-}
-
-/// The smallest case found that a library differs in.
-fn smallest(library: impl Fn(&Guid, &mut [u8], &mut [u8]) -> u32) -> LookupCase {
-    let parted = compare_lookups(cases(1, WITHIN), &library).err();
-    let (_, case, _) = parted.expect("a wrong library is caught");
-    case.shrunk(|case| case.compared(&library).is_err())
-}
-
-/// The smallest where every answer of the stated length is changed, with what
-/// it was before.
-fn smallest_changed(change: impl Fn(&mut [u8], &[u8])) -> LookupCase {
-    smallest(|guid, pens, answer| {
-        let before = answer.to_vec();
-        let number = right(guid, pens, answer);
-        if answer.len() == READ_BYTES {
-            change(answer, &before);
-        }
-        number
-    })
-}
-
-/// The same where it is no refusal.
-fn smallest_unrefused(change: impl Fn(&mut [u8], &[u8])) -> LookupCase {
-    smallest_changed(|answer, before| {
-        if answer[0] == 0 {
-            change(answer, before);
-        }
-    })
-}
+shared!(Lookup, [1, 3], lent);
 
 /// How many instances a well-formed table has.
-fn instances(case: &LookupCase) -> usize {
-    case.pens.instances.as_ref().map(Vec::len).unwrap_or_else(|n| panic!("refused as {n}: {case}"))
-}
-
-#[test]
-fn the_reading_agrees_with_itself_on_lookups_of_every_sort() {
-    let compared = compare_lookups(cases(1, LOOKUPS), right);
-    let tally =
-        compared.unwrap_or_else(|(seed, case, parting)| panic!("{seed}: {case}: {parting:?}"));
-    assert_eq!(tally.cases, LOOKUPS);
-    assert_eq!(tally.missing(), Vec::<String>::new());
-}
-
-#[test]
-fn a_comparison_of_too_few_says_what_is_missing() {
-    let compared = compare_lookups(cases(1, 8), right);
-    let missing = compared.unwrap_or_else(|(_, case, _)| panic!("{case}")).missing();
-    assert!(missing.contains(&"places 32".into()) && missing.contains(&"3".into()), "{missing:?}");
+fn instances(case: &Case<Lookup>) -> usize {
+    case.asked
+        .pens
+        .instances
+        .as_ref()
+        .map(Vec::len)
+        .unwrap_or_else(|n| panic!("refused as {n}: {case}"))
 }
 
 /// Full tables of the other size do not make up for it.
 #[test]
 fn a_sort_that_one_size_lacks_is_missing() {
     for places in [SMALL, LARGE] {
-        let full = |case: &LookupCase| {
+        let full = |pens: &LentPens| {
             let all_taken = |all: &Vec<Instance>| all.len() == usize::from(places);
-            let of_size = case.pens.bytes.len() == pens_bytes(places);
-            of_size && case.pens.instances.as_ref().is_ok_and(all_taken)
+            pens.bytes.len() == pens_bytes(places) && pens.instances.as_ref().is_ok_and(all_taken)
         };
-        let lookups = cases(1, LOOKUPS).filter(|(_, case)| !full(case));
-        let compared = compare_lookups(lookups, right);
-        let missing = compared.unwrap_or_else(|(_, case, _)| panic!("{case}")).missing();
+        let lookups = cases::<Lookup>(1, COUNT).filter(|(_, case)| !full(&case.asked.pens));
+        let counts = compare_added(lookups, &mut right);
+        let missing = counts.unwrap_or_else(|parted| panic!("{}", parted.case)).missing();
         let instances = format!("instances {places}: all places");
         assert_eq!(missing, [instances, format!("place in the table {places}: last of all")]);
     }
@@ -236,180 +179,129 @@ const WRONG: [(&str, Rule, usize); 29] = [
     ("sets in signed order", |all, guid| by_set(all, |set| signed_search(set, guid)), 1),
 ];
 
-fn by_rule(rule: Rule, guid: &Guid, pens: &[u8], answer: &mut [u8]) -> u32 {
-    let told = reads::table(pens).map(|all| Told::handle(rule(&all, guid).map(|i| i.handle)));
-    over_bytes(told, answer)
+/// What is told where the instances are not refused.
+fn handle(lookup: &Lookup, of: impl Fn(&[Instance]) -> Option<u64>) -> Told {
+    as_told(reads::table(&lookup.pens.bytes).map(|all| of(&all)))
+}
+
+fn by_rule(rule: Rule, lookup: &Lookup) -> Told {
+    handle(lookup, |all| rule(all, &lookup.guid).map(|i| i.handle))
 }
 
 #[test]
 fn each_wrong_rule_is_caught_by_a_small_table() {
-    for (what, rule, needed) in WRONG {
-        let small = smallest(|guid, pens, answer| by_rule(rule, guid, pens, answer));
-        assert_eq!(instances(&small), needed, "{what}: {small}");
-        assert!(!small.again && small.answer_length == READ_BYTES, "{what}: {small}");
-    }
+    let rules = WRONG.map(|(what, rule, needed)| {
+        (what, move |lookup: &Lookup| by_rule(rule, lookup), (needed, false))
+    });
+    wrong(rules, |small| (instances(small), small.asked.again));
 }
 
 /// Another that fits where the same is asked for once more.
 #[test]
 fn a_choice_that_does_not_stay_is_caught() {
-    let alternating = || {
+    let parts = |case: &Case<Lookup>| {
         let mut before = None;
-        move |guid: &Guid, pens: &mut [u8], answer: &mut [u8]| {
-            let again = before.replace(*guid) == Some(*guid);
+        let alternating = &mut |lookup: &Lookup, lent: &mut [&mut [u8]], answer: &mut [u8]| {
+            let again = before.replace(lookup.guid) == Some(lookup.guid);
             let rule: Rule = |all, guid| fitting(all, guid).pop();
-            if again { by_rule(rule, guid, pens, answer) } else { right(guid, pens, answer) }
-        }
+            let told = if again { by_rule(rule, lookup) } else { lookup.told() };
+            over_bytes(lookup, &told, lent, answer)
+        };
+        case.compared(alternating).is_err()
     };
-    let parts = |case: &LookupCase| case.compared(alternating()).is_err();
-    let caught = cases(1, WITHIN).map(|(_, case)| case).find(parts).expect("it is caught");
+    let caught = cases(1, COUNT).map(|(_, case)| case).find(parts).expect("it is caught");
     let small = caught.shrunk(parts);
-    assert!(small.again && instances(&small) == 2, "{small}");
+    assert!(small.asked.again && instances(&small) == 2, "{small}");
 }
 
-/// Handle 0 for none, the place in the table for the handle, and its high bytes
-/// lost.
+/// The place in the table for the handle.
+fn place(lookup: &Lookup) -> Told {
+    let fits = |i: &Instance| alive(i) && has(i, &lookup.guid);
+    handle(lookup, |all| all.iter().position(fits).map(|place| place as u64))
+}
+
+type WholeRule = fn(&Lookup) -> Told;
+
+/// Other numbers for the handle, each with the number of instances that catches
+/// it.
+const NUMBERS: [(&str, WholeRule, usize); 3] = [
+    ("handle 0 for none", |lookup| changed(lookup, |bytes| bytes[2] = 1), 0),
+    ("its place", place, 1),
+    ("its low bytes", |lookup| changed(lookup, |bytes| bytes[8..12].fill(0)), 1),
+];
+
 #[test]
 fn another_number_for_the_handle_is_caught() {
-    let found = smallest_unrefused(|answer, _| answer[2] = 1);
-    assert_eq!(instances(&found), 0, "{found}");
-    let place = smallest(|guid, pens, answer| {
-        let fits = |i: &Instance| alive(i) && has(i, guid);
-        let place = |all: Vec<Instance>| all.iter().position(fits).map(|place| place as u64);
-        over_bytes(reads::table(pens).map(|all| Told::handle(place(all))), answer)
-    });
-    assert_eq!(instances(&place), 1, "{place}");
-    let low = smallest_unrefused(|answer, _| answer[8..12].fill(0));
-    assert_eq!(instances(&low), 1, "{low}");
+    wrong(NUMBERS, instances);
 }
 
-/// Bytes that are left as they were, or that are not zero where none is named.
-#[test]
-fn every_byte_is_looked_at() {
-    for at in 0..READ_BYTES {
-        let left = smallest_unrefused(|answer, before| answer[at] = before[at]);
-        let other = smallest_unrefused(|answer, _| answer[at] ^= 1);
-        assert_eq!([instances(&left), instances(&other)], [0; 2], "{at}");
+/// What is told of other pens.
+fn of_pens(lookup: &Lookup, pens: &[u8]) -> Told {
+    as_told(reads::instance_of_writer(pens, &lookup.guid))
+}
+
+/// The first that fits, up to a damaged record.
+fn in_front(lookup: &Lookup) -> Option<u64> {
+    let records = lookup.pens.bytes.chunks_exact(INSTANCE_BYTES);
+    let mut whole = records.map_while(Instance::of_record);
+    whole.find(|i| alive(i) && has(i, &lookup.guid)).map(|i| i.handle)
+}
+
+fn damage_behind_it_taken(lookup: &Lookup) -> Told {
+    let stated = [SMALL, LARGE].map(pens_bytes).contains(&lookup.pens.bytes.len());
+    match in_front(lookup).filter(|_| stated) {
+        Some(handle) => as_told(Ok(Some(handle))),
+        None => lookup.told(),
     }
 }
 
-/// A refusal that leaves a handle, the answer as it was, or a number in one
-/// place only.
-#[test]
-fn a_refusal_in_part_is_caught() {
-    for number in [1, 3] {
-        let refused = |answer: &[u8]| answer[0] == number;
-        let handle = smallest_changed(|answer, _| answer[15] |= u8::from(refused(answer)));
-        let unwritten = smallest_changed(|answer, before| {
-            if refused(answer) {
-                answer[1..].copy_from_slice(&before[1..]);
+fn nanoseconds_taken(lookup: &Lookup) -> Told {
+    let mut pens = lookup.pens.bytes.clone();
+    for record in pens.chunks_exact_mut(INSTANCE_BYTES) {
+        for time in record[44..92].chunks_exact_mut(8) {
+            if u32_at(time, 4) >= NANOSECONDS {
+                time[4..].fill(0);
             }
-        });
-        let number_unwritten = smallest_changed(|answer, _| {
-            if refused(answer) {
-                answer[0] = 0;
-            }
-        });
-        let unreturned = smallest(|guid, pens, answer| {
-            let told = right(guid, pens, answer);
-            if answer.len() == READ_BYTES && refused(answer) { 0 } else { told }
-        });
-        for case in [handle, unwritten, number_unwritten, unreturned] {
-            assert_eq!(case.pens.instances, Err(number), "{case}");
         }
     }
+    of_pens(lookup, &pens)
 }
 
-/// An answer of another length that is written to, or taken.
-#[test]
-fn another_length_of_answer_is_seen_to() {
-    let written = smallest(|guid, pens, answer| {
-        let number = right(guid, pens, answer);
-        answer.iter_mut().take(1).for_each(|byte| *byte = number as u8);
-        number
-    });
-    assert!(!matches!(written.answer_length, 0 | READ_BYTES), "{written}");
-    let taken = smallest(|guid, pens, answer| match answer.len() {
-        READ_BYTES.. => right(guid, pens, &mut answer[..READ_BYTES]),
-        _ => 1,
-    });
-    assert!(taken.answer_length > READ_BYTES, "{taken}");
+fn front_of_longer_taken(lookup: &Lookup) -> Told {
+    let pens = &lookup.pens.bytes;
+    let stated = if pens.len() < pens_bytes(LARGE) { SMALL } else { LARGE };
+    of_pens(lookup, &pens[..pens.len().min(pens_bytes(stated))])
 }
 
-/// Pens that are written to, whether the lookup is refused or not.
-#[test]
-fn pens_written_to_are_caught() {
-    for wanted in [0, 1, 3] {
-        let case = smallest(|guid, pens, answer| {
-            let number = right(guid, pens, answer);
-            if let Some(last) = pens.last_mut().filter(|_| number == wanted) {
-                *last ^= 1;
-            }
-            number
-        });
-        let number = case.compared(right).unwrap_or_else(|parting| panic!("{case}: {parting:?}"));
-        assert_eq!(u32::from(number), wanted, "{case}");
-    }
+/// Another answer in the place of one refusal.
+fn where_refused(lookup: &Lookup, number: u8, other: Told) -> Told {
+    if lookup.told() == Err(number) { other } else { lookup.told() }
 }
 
-/// What is not well formed behind an instance that fits, or anywhere.
+/// Refusals that are left out or confused, each with the number that is right.
+const REFUSALS: [(&str, WholeRule, u8); 5] = [
+    ("damage behind it taken", damage_behind_it_taken, 3),
+    ("damage taken", |lookup| where_refused(lookup, 3, as_told(Ok(in_front(lookup)))), 3),
+    ("nanoseconds taken", nanoseconds_taken, 3),
+    ("a longer table's front taken", front_of_longer_taken, 1),
+    ("a length refused as 3", |lookup| where_refused(lookup, 1, Err(3)), 1),
+];
+
 #[test]
-fn damage_that_is_not_seen_is_caught() {
-    let in_front = |guid: &Guid, pens: &[u8]| {
-        let records = pens.chunks_exact(INSTANCE_BYTES).map_while(Instance::of_record);
-        records.into_iter().find(|i| alive(i) && has(i, guid)).map(|i| i.handle)
+fn each_wrong_refusal_is_caught() {
+    wrong(REFUSALS, |small| small.told().expect_err("it is refused"));
+}
+
+#[test]
+fn one_number_of_places_alone_is_caught() {
+    let alone = |places| {
+        move |lookup: &Lookup| {
+            let taken = lookup.pens.bytes.len() == pens_bytes(places);
+            of_pens(lookup, if taken { &lookup.pens.bytes } else { &[] })
+        }
     };
-    let behind = smallest(|guid, pens, answer| {
-        let stated = [SMALL, LARGE].map(pens_bytes).contains(&pens.len());
-        match in_front(guid, pens).filter(|_| stated) {
-            Some(handle) => over_bytes(Ok(Told::handle(Some(handle))), answer),
-            None => right(guid, pens, answer),
-        }
+    let rules = [("32 alone", alone(SMALL), LARGE), ("128 alone", alone(LARGE), SMALL)];
+    wrong(rules.map(|(what, rule, other)| (what, rule, pens_bytes(other))), |small| {
+        small.asked.pens.bytes.len()
     });
-    assert_eq!(behind.pens.instances, Err(3), "{behind}");
-    let anywhere = smallest(|guid, pens, answer| match reads::table(pens) {
-        Err(3) => over_bytes(Ok(Told::handle(in_front(guid, pens))), answer),
-        _ => right(guid, pens, answer),
-    });
-    assert_eq!(anywhere.pens.instances, Err(3), "{anywhere}");
-}
-
-/// Nanoseconds of a whole second and more that are taken.
-#[test]
-fn nanoseconds_are_seen_to() {
-    let case = smallest(|guid, pens, answer| {
-        let mut pens = pens.to_vec();
-        for record in pens.chunks_exact_mut(INSTANCE_BYTES) {
-            for time in record[44..92].chunks_exact_mut(8) {
-                if u32_at(time, 4) >= NANOSECONDS {
-                    time[4..].fill(0);
-                }
-            }
-        }
-        right(guid, &mut pens, answer)
-    });
-    assert_eq!(case.pens.instances, Err(3), "{case}");
-}
-
-/// One number of places alone, a longer table's front, and 3 for the length.
-#[test]
-fn lengths_of_pens_are_seen_to() {
-    for (places, other) in [(SMALL, LARGE), (LARGE, SMALL)] {
-        let case = smallest(|guid, pens, answer| {
-            let taken = pens.len() == pens_bytes(places);
-            right(guid, if taken { pens } else { &mut [] }, answer)
-        });
-        assert_eq!(case.pens.bytes.len(), pens_bytes(other), "{case}");
-    }
-    let longer = smallest(|guid, pens, answer| {
-        let stated = if pens.len() < pens_bytes(LARGE) { SMALL } else { LARGE };
-        let length = pens.len().min(pens_bytes(stated));
-        right(guid, &mut pens[..length], answer)
-    });
-    assert!(longer.pens.bytes.len() > pens_bytes(SMALL), "{longer}");
-    let as_3 = smallest(|guid, pens, answer| match reads::table(pens) {
-        Err(1) => over_bytes(Err(3), answer),
-        _ => right(guid, pens, answer),
-    });
-    assert_eq!(as_3.pens.instances, Err(1), "{as_3}");
 }

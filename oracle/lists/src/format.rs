@@ -1,4 +1,4 @@
-//! Recorded lists as bytes; docs/LISTS.md describes the format.
+//! Recorded lists as bytes; docs/evidence/LISTS.md describes the format.
 //!
 //! Every record is 8 bytes of type and length and then that many bytes, all
 //! fields of fixed size, most significant byte first, so that a reader needs

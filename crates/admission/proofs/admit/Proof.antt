@@ -1,4 +1,4 @@
--- Where the key stands, or where its instance would go in. Assumes nothing.
+-- Where the key stands, or where its instance would go in.
 use mathlib.Core.Path.{sym, _∙_}
 use Rattle.model.specs.Guids.{num}
 use Rattle.model.specs.State.{instanceKey}
@@ -12,9 +12,6 @@ use Rattle.admission.proofs.admit.Tie as tie
 find-key-requires : tie.Need-find-key-requires
 find-key-requires c κs = let a = c .before .before .before in (ready-most (a .pre), ready-room-all (a .pre), ready-rises (a .pre))
 
-enum-known-f : tie.Need-enum-known-f
-enum-known-f c = search needs
-
 admit-known-requires : tie.Need-admit-known-requires
 admit-known-requires c κs =
     let a = c .before .before .before .before .before .before .before .before in (
@@ -23,36 +20,13 @@ admit-known-requires c κs =
           (sym (c .before .before .before .before .find-key .ensures) ∙ c .before .before .f .given .1),
     )
 
-enum-known-f-2 : tie.Need-enum-known-f-2
-enum-known-f-2 c = search needs
-
 admit-new-requires : tie.Need-admit-new-requires
 admit-new-requires c κs =
     let a = c .before .before .before .before .before .before .before .before in
     (a .pre, sym (c .before .before .before .before .find-key .ensures) ∙ c .before .before .f2 .given .1)
 
-same-length : tie.Need-same-length
-same-length c = search needs
-
-returns : tie.Need-returns
-returns c = search needs
-
-same-length-2 : tie.Need-same-length-2
-same-length-2 c = search needs
-
-returns-2 : tie.Need-returns-2
-returns-2 c = search needs
-
 pub admit-spec : {M : Type 1} → statement M
 admit-spec =
     tie.close
-    (tie.spec
-    find-key-requires
-    enum-known-f
-    admit-known-requires
-    enum-known-f-2
-    admit-new-requires
-    same-length
-    returns
-    same-length-2
-    returns-2)
+    (tie.spec find-key-requires (λ c. search needs) admit-known-requires (λ c. search needs) admit-new-requires
+    (λ c. search needs) (λ c. search needs) (λ c. search needs) (λ c. search needs))

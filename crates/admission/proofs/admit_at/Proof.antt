@@ -1,4 +1,4 @@
--- The instance is replaced. Assumes nothing.
+-- The instance is replaced.
 use mathlib.Core.Path.{refl}
 use native.Mathlib.Omega.{arith}
 use Rattle.admission.proofs.Leaves.{known-place, known-usable, known-room, admitted-left}
@@ -18,12 +18,6 @@ replace-requires c κs =
     let a = c .before .before .before in
     (known-place (a .pre .0) (a .args .s) (a .args .i) (a .pre .1 .only), c .before .sampled .ensures .few)
 
-admitted-answer-requires : tie.Need-admitted-answer-requires
-admitted-answer-requires c κs = search needs
-
-same-length : tie.Need-same-length
-same-length c = search needs
-
 returns : tie.Need-returns
 returns c =
     let k = c .before .before .before in
@@ -35,4 +29,4 @@ returns c =
     (l .sampled .ensures) (c .admitted-answer .ensures) (k .replace .ensures)
 
 pub admit-at-spec : {M : Type 1} → statement M
-admit-at-spec = tie.close (tie.spec sampled-requires replace-requires admitted-answer-requires same-length returns)
+admit-at-spec = tie.close (tie.spec sampled-requires replace-requires (λ c κs. search needs) (λ c. search needs) returns)

@@ -1,4 +1,4 @@
--- The instance is put in. Assumes nothing.
+-- The instance is put in.
 use mathlib.Core.Path.{refl, ap, _∙_}
 use native.Mathlib.Omega.{arith}
 use Rattle.model.specs.declared.Allocated.{Allocated}
@@ -9,12 +9,6 @@ use Rattle.admission.proofs.Leaves.{new-within, first-left}
 use borrow.Author.Needs.{needs}
 use Rattle.admission.proofs.admit_first.Statement.{statement}
 use Rattle.admission.proofs.admit_first.Tie as tie
-
-allocate-step-requires : tie.Need-allocate-step-requires
-allocate-step-requires c κs = search needs
-
-started-requires : tie.Need-started-requires
-started-requires c κs = search needs
 
 sampled-requires : tie.Need-sampled-requires
 sampled-requires c κs =
@@ -29,16 +23,10 @@ insert-requires c κs =
       c .before .sampled .ensures .few,
     )
 
-admitted-answer-requires : tie.Need-admitted-answer-requires
-admitted-answer-requires c κs = search needs
-
 add-t17 : tie.Need-add-t17
 add-t17 c =
     let a = c .before .before .before .before .before .before .before .before .before .before .before in
     omega (arith, a .pre .0 .few, a .pre .3)
-
-same-length : tie.Need-same-length
-same-length c = search needs
 
 returns : tie.Need-returns
 returns c =
@@ -56,12 +44,5 @@ returns c =
 pub admit-first-spec : {M : Type 1} → statement M
 admit-first-spec =
     tie.close
-    (tie.spec
-    allocate-step-requires
-    started-requires
-    sampled-requires
-    insert-requires
-    admitted-answer-requires
-    add-t17
-    same-length
-    returns)
+    (tie.spec (λ c κs. search needs) (λ c κs. search needs) sampled-requires insert-requires (λ c κs. search needs)
+    add-t17 (λ c. search needs) returns)

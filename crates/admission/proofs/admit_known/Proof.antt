@@ -1,4 +1,4 @@
--- Outcome 1, then outcome 2. Assumes nothing.
+-- Outcome 1, then outcome 2.
 use mathlib.Core.Path.{refl, sym, _∙_}
 use native.Mathlib.Omega.{arith}
 use borrow.Author.Tests.{not-true, not-false}
@@ -10,18 +10,6 @@ use Rattle.admission.proofs.admit_known.Tie as tie
 instance-at-requires : tie.Need-instance-at-requires
 instance-at-requires c κs = let a = c .before .before in known-place (a .pre .0) (a .args .s) (a .args .i) (a .pre .1)
 
-in-order-requires : tie.Need-in-order-requires
-in-order-requires c κs = search needs
-
-passes-filter-requires : tie.Need-passes-filter-requires
-passes-filter-requires c κs = search needs
-
-stopped-requires : tie.Need-stopped-requires
-stopped-requires c κs = search needs
-
-same-length : tie.Need-same-length
-same-length c = search needs
-
 returns : tie.Need-returns
 returns c =
     let k = c .before .before .before .before in
@@ -30,12 +18,6 @@ returns c =
     order-left (a .pre .0) (a .args .s) (λ n. omega (arith, l .slice-known .given n)) (a .args .i) (k .instance-at .result)
     (known-read (a .pre .0) (a .args .s) (a .args .i) (k .instance-at .result) (a .pre .1) (k .instance-at .ensures)) (c .stopped .result)
     (a .args .next) refl (sym (c .before .before .before .in-order .ensures) ∙ not-true _ (c .before .if1 .taken)) (c .stopped .ensures .1 refl)
-
-stopped-requires-2 : tie.Need-stopped-requires-2
-stopped-requires-2 c κs = search needs
-
-same-length-2 : tie.Need-same-length-2
-same-length-2 c = search needs
 
 returns-2 : tie.Need-returns-2
 returns-2 c =
@@ -56,25 +38,9 @@ admit-timely-requires c κs =
       record { order = sym (c .before .before .before .before .in-order .ensures) ∙ not-false _ (c .before .before .if1 .left); filter = sym (c .before .before .before .passes-filter .ensures) ∙ not-false _ (c .before .if2 .left) },
     )
 
-same-length-3 : tie.Need-same-length-3
-same-length-3 c = search needs
-
-returns-3 : tie.Need-returns-3
-returns-3 c = search needs
-
 pub admit-known-spec : {M : Type 1} → statement M
 admit-known-spec =
     tie.close
-    (tie.spec
-    instance-at-requires
-    in-order-requires
-    passes-filter-requires
-    stopped-requires
-    same-length
-    returns
-    stopped-requires-2
-    same-length-2
-    returns-2
-    admit-timely-requires
-    same-length-3
-    returns-3)
+    (tie.spec instance-at-requires (λ c κs. search needs) (λ c κs. search needs) (λ c κs. search needs)
+    (λ c. search needs) returns (λ c κs. search needs) (λ c. search needs) returns-2 admit-timely-requires
+    (λ c. search needs) (λ c. search needs))

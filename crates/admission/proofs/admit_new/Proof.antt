@@ -1,4 +1,4 @@
--- Outcome 3, then refusals 9 and 13. Assumes nothing.
+-- Outcome 3, then refusals 9 and 13.
 use mathlib.Core.Path.{refl, sym, _∙_}
 use native.Mathlib.Omega.{arith}
 use Rattle.instance_reach.proofs.Table.{start-free}
@@ -7,23 +7,11 @@ use borrow.Author.Needs.{needs}
 use Rattle.admission.proofs.admit_new.Statement.{statement}
 use Rattle.admission.proofs.admit_new.Tie as tie
 
-at-limit-requires : tie.Need-at-limit-requires
-at-limit-requires c κs = search needs
-
-stopped-requires : tie.Need-stopped-requires
-stopped-requires c κs = search needs
-
 returns : tie.Need-returns
 returns c =
     let a = c .before .before .before .before in
     limited-left (a .pre .0) (a .args .s) (λ n. omega (arith, c .before .before .before .slice-known .given n)) (a .args .i) (a .pre .1)
     (c .stopped .result) (a .args .next) (sym (c .before .before .at-limit .ensures) ∙ c .before .if1 .taken) (c .stopped .ensures .1 refl) refl
-
-start-refusal-requires : tie.Need-start-refusal-requires
-start-refusal-requires c κs = search needs
-
-stopped-requires-2 : tie.Need-stopped-requires-2
-stopped-requires-2 c κs = search needs
 
 returns-2 : tie.Need-returns-2
 returns-2 c =
@@ -42,22 +30,8 @@ admit-first-requires c κs =
     let free = start-free (a .args .places) (a .args .count) (a .args .next .0) (n .start-refusal .result) (n .start-refusal .ensures) (omega (arith, c .before .if2 .left)) in
     (a .pre .0, a .pre .1, sym (k .at-limit .ensures) ∙ n .before .if1 .left, free .0, free .1)
 
-same-length : tie.Need-same-length
-same-length c = search needs
-
-returns-3 : tie.Need-returns-3
-returns-3 c = search needs
-
 pub admit-new-spec : {M : Type 1} → statement M
 admit-new-spec =
     tie.close
-    (tie.spec
-    at-limit-requires
-    stopped-requires
-    returns
-    start-refusal-requires
-    stopped-requires-2
-    returns-2
-    admit-first-requires
-    same-length
-    returns-3)
+    (tie.spec (λ c κs. search needs) (λ c κs. search needs) returns (λ c κs. search needs) (λ c κs. search needs)
+    returns-2 admit-first-requires (λ c. search needs) (λ c. search needs))

@@ -1,4 +1,4 @@
--- Refusal 10, then outcome 4. Assumes nothing.
+-- Refusal 10, then outcome 4.
 use mathlib.Core.Path.{refl, sym, _∙_}
 use native.Mathlib.Omega.{arith}
 use borrow.Author.Tests.{not-true, not-false}
@@ -10,21 +10,12 @@ use Rattle.admission.proofs.admit_timely.Tie as tie
 crowds-requires : tie.Need-crowds-requires
 crowds-requires c κs = let a = c .before .before in known-usable (a .pre .0) (a .args .s) (a .args .i) (a .args .x) (a .pre .1)
 
-takes-over-requires : tie.Need-takes-over-requires
-takes-over-requires c κs = search needs
-
-stopped-requires : tie.Need-stopped-requires
-stopped-requires c κs = search needs
-
 returns : tie.Need-returns
 returns c =
     let k = c .before .before .before .before .before in
     let a = k .before in
     crowded-left (a .pre .0) (a .args .s) (λ n. omega (arith, k .slice-known .given n)) (a .args .i) (a .args .x) (a .pre .1) (c .stopped .result)
     (a .args .next) refl (a .pre .2) (sym (c .before .before .before .crowds .ensures) ∙ c .before .if1 .taken) (c .stopped .ensures .0 refl)
-
-stopped-requires-2 : tie.Need-stopped-requires-2
-stopped-requires-2 c κs = search needs
 
 returns-2 : tie.Need-returns-2
 returns-2 c =
@@ -44,22 +35,8 @@ admit-at-requires c κs =
       sym (c .before .before .before .takes-over .ensures) ∙ not-false _ (c .before .if2 .left),
     )
 
-same-length : tie.Need-same-length
-same-length c = search needs
-
-returns-3 : tie.Need-returns-3
-returns-3 c = search needs
-
 pub admit-timely-spec : {M : Type 1} → statement M
 admit-timely-spec =
     tie.close
-    (tie.spec
-    crowds-requires
-    takes-over-requires
-    stopped-requires
-    returns
-    stopped-requires-2
-    returns-2
-    admit-at-requires
-    same-length
-    returns-3)
+    (tie.spec crowds-requires (λ c κs. search needs) (λ c κs. search needs) returns (λ c κs. search needs) returns-2
+    admit-at-requires (λ c. search needs) (λ c. search needs))

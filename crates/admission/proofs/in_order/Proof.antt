@@ -1,16 +1,8 @@
--- Destination order. Assumes nothing.
+-- Destination order.
 use borrow.Author.Needs.{needs}
 use Rattle.admission.proofs.in_order.Statement.{statement}
 use Rattle.admission.proofs.in_order.Tie as tie
 
-order-admits-requires : tie.Need-order-admits-requires
-order-admits-requires c κs = search needs
-
-returns : tie.Need-returns
-returns c = rw (c .before .if1 .taken) (c .order-admits .ensures)
-
-returns-2 : tie.Need-returns-2
-returns-2 c = rw (c .if1 .left)
-
 pub in-order-spec : {M : Type 1} → statement M
-in-order-spec = tie.close (tie.spec order-admits-requires returns returns-2)
+in-order-spec = tie.close (tie.spec (λ c κs. search needs) (λ c. rw (c .before .if1 .taken) (c .order-admits .ensures))
+    (λ c. rw (c .if1 .left)))

@@ -1,13 +1,7 @@
--- The time-based filter. Assumes nothing.
+-- The time-based filter.
 use borrow.Author.Needs.{needs}
 use Rattle.admission.proofs.passes_filter.Statement.{statement}
 use Rattle.admission.proofs.passes_filter.Tie as tie
 
-filter-admits-requires : tie.Need-filter-admits-requires
-filter-admits-requires c κs = search needs
-
-returns : tie.Need-returns
-returns c = c .filter-admits .ensures
-
 pub passes-filter-spec : {M : Type 1} → statement M
-passes-filter-spec = tie.close (tie.spec filter-admits-requires returns)
+passes-filter-spec = tie.close (tie.spec (λ c κs. search needs) (λ c. c .filter-admits .ensures))

@@ -1,19 +1,13 @@
--- What an admitted sample leaves of an instance. Assumes nothing.
+-- What an admitted sample leaves of an instance.
 use Rattle.admission.proofs.Effects.{observed-asked, sampled-of}
 use borrow.Author.Needs.{needs}
 use Rattle.admission.proofs.sampled.Statement.{statement}
 use Rattle.admission.proofs.sampled.Tie as tie
 
-admitted-observed-requires : tie.Need-admitted-observed-requires
-admitted-observed-requires c κs = search needs
-
 admitted-noted-requires : tie.Need-admitted-noted-requires
 admitted-noted-requires c κs =
     let a = c .before .before .before .before in
     observed-asked (a .args .s) (a .args .x .state) (c .admitted-observed .result) (c .admitted-observed .ensures) (a .pre .0) (a .pre .1)
-
-owned-from-requires : tie.Need-owned-from-requires
-owned-from-requires c κs = search needs
 
 returns : tie.Need-returns
 returns c =
@@ -25,4 +19,4 @@ returns c =
     (observed-asked (a .args .s) (a .args .x .state) (o .admitted-observed .result) (o .admitted-observed .ensures) (a .pre .0) (a .pre .1) .1)
 
 pub sampled-spec : {M : Type 1} → statement M
-sampled-spec = tie.close (tie.spec admitted-observed-requires admitted-noted-requires owned-from-requires returns)
+sampled-spec = tie.close (tie.spec (λ c κs. search needs) admitted-noted-requires (λ c κs. search needs) returns)

@@ -1,13 +1,7 @@
--- What a SampleInfo takes. Assumes nothing.
+-- What a SampleInfo takes.
 use borrow.Author.Needs.{needs}
 use Rattle.answers.proofs.informed.Statement.{statement}
 use Rattle.answers.proofs.informed.Tie as tie
 
-silent-requires : tie.Need-silent-requires
-silent-requires c κs = search needs
-
-returns : tie.Need-returns
-returns c = rw (c .silent .ensures)
-
 pub informed-spec : {M : Type 1} → statement M
-informed-spec = tie.close (tie.spec silent-requires returns)
+informed-spec = tie.close (tie.spec (λ c κs. search needs) (λ c. rw (c .silent .ensures)))

@@ -1,13 +1,7 @@
--- Yes or no. Assumes nothing.
+-- Yes or no.
 use borrow.Author.Needs.{needs}
 use Rattle.answers.proofs.saying.Statement.{statement}
 use Rattle.answers.proofs.saying.Tie as tie
 
-silent-requires : tie.Need-silent-requires
-silent-requires c κs = search needs
-
-returns : tie.Need-returns
-returns c = rw (c .silent .ensures)
-
 pub saying-spec : {M : Type 1} → statement M
-saying-spec = tie.close (tie.spec silent-requires returns)
+saying-spec = tie.close (tie.spec (λ c κs. search needs) (λ c. rw (c .silent .ensures)))

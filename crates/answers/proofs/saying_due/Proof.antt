@@ -1,13 +1,7 @@
--- Yes or no, and the next lease due. Assumes nothing.
+-- Yes or no, and the next lease due.
 use borrow.Author.Needs.{needs}
 use Rattle.answers.proofs.saying_due.Statement.{statement}
 use Rattle.answers.proofs.saying_due.Tie as tie
 
-saying-requires : tie.Need-saying-requires
-saying-requires c κs = search needs
-
-returns : tie.Need-returns
-returns c = rw (c .saying .ensures)
-
 pub saying-due-spec : {M : Type 1} → statement M
-saying-due-spec = tie.close (tie.spec saying-requires returns)
+saying-due-spec = tie.close (tie.spec (λ c κs. search needs) (λ c. rw (c .saying .ensures)))

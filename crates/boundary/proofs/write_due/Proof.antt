@@ -1,16 +1,7 @@
--- `boundary::write_due` meets its contract. Assumes nothing.
+-- `boundary::write_due` meets its contract.
 use borrow.Author.Needs.{needs}
 use Rattle.boundary.proofs.write_due.Statement.{statement}
 use Rattle.boundary.proofs.write_due.Tie as tie
-
-put-u64-requires : tie.Need-put-u64-requires
-put-u64-requires c κs = search needs
-
-put-u64-requires-2 : tie.Need-put-u64-requires-2
-put-u64-requires-2 c κs = search needs
-
-same-length : tie.Need-same-length
-same-length c = search needs
 
 returns : tie.Need-returns
 returns c =
@@ -20,4 +11,4 @@ returns c =
     )
 
 pub write-due-spec : {M : Type 1} → statement M
-write-due-spec = tie.close (tie.spec put-u64-requires put-u64-requires-2 same-length returns)
+write-due-spec = tie.close (tie.spec (λ c κs. search needs) (λ c κs. search needs) (λ c. search needs) returns)

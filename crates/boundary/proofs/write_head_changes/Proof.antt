@@ -1,34 +1,10 @@
--- `boundary::write_head_changes` meets its contract. Assumes nothing.
+-- `boundary::write_head_changes` meets its contract.
 use mir.Syntax.{w32}
 use mir.Val.{SFits}
 use borrow.Author.Needs.{needs}
 use Rattle.boundary.proofs.Read.{bits-back}
 use Rattle.boundary.proofs.write_head_changes.Statement.{statement}
 use Rattle.boundary.proofs.write_head_changes.Tie as tie
-
-bits-of-requires : tie.Need-bits-of-requires
-bits-of-requires c κs = search needs
-
-put-u32-requires : tie.Need-put-u32-requires
-put-u32-requires c κs = search needs
-
-bits-of-requires-2 : tie.Need-bits-of-requires-2
-bits-of-requires-2 c κs = search needs
-
-put-u32-requires-2 : tie.Need-put-u32-requires-2
-put-u32-requires-2 c κs = search needs
-
-last-present-requires : tie.Need-last-present-requires
-last-present-requires c κs = search needs
-
-put-u16-requires : tie.Need-put-u16-requires
-put-u16-requires c κs = search needs
-
-put-u16-requires-2 : tie.Need-put-u16-requires-2
-put-u16-requires-2 c κs = search needs
-
-same-length : tie.Need-same-length
-same-length c = search needs
 
 returns : tie.Need-returns
 returns c =
@@ -48,13 +24,5 @@ returns c =
 pub write-head-changes-spec : {M : Type 1} → statement M
 write-head-changes-spec =
     tie.close
-    (tie.spec
-    bits-of-requires
-    put-u32-requires
-    bits-of-requires-2
-    put-u32-requires-2
-    last-present-requires
-    put-u16-requires
-    put-u16-requires-2
-    same-length
-    returns)
+    (tie.spec (λ c κs. search needs) (λ c κs. search needs) (λ c κs. search needs) (λ c κs. search needs)
+    (λ c κs. search needs) (λ c κs. search needs) (λ c κs. search needs) (λ c. search needs) returns)

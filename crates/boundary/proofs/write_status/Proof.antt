@@ -1,34 +1,10 @@
--- `boundary::write_status` meets its contract. Assumes nothing.
+-- `boundary::write_status` meets its contract.
 use mir.Syntax.{w32}
 use mir.Val.{SFits}
 use borrow.Author.Needs.{needs}
 use Rattle.boundary.proofs.Read.{bits-back}
 use Rattle.boundary.proofs.write_status.Statement.{statement}
 use Rattle.boundary.proofs.write_status.Tie as tie
-
-put-u32-requires : tie.Need-put-u32-requires
-put-u32-requires c κs = search needs
-
-put-u32-requires-2 : tie.Need-put-u32-requires-2
-put-u32-requires-2 c κs = search needs
-
-bits-of-requires : tie.Need-bits-of-requires
-bits-of-requires c κs = search needs
-
-put-u32-requires-3 : tie.Need-put-u32-requires-3
-put-u32-requires-3 c κs = search needs
-
-bits-of-requires-2 : tie.Need-bits-of-requires-2
-bits-of-requires-2 c κs = search needs
-
-put-u32-requires-4 : tie.Need-put-u32-requires-4
-put-u32-requires-4 c κs = search needs
-
-put-u32-requires-5 : tie.Need-put-u32-requires-5
-put-u32-requires-5 c κs = search needs
-
-same-length : tie.Need-same-length
-same-length c = search needs
 
 returns : tie.Need-returns
 returns c =
@@ -48,13 +24,5 @@ returns c =
 pub write-status-spec : {M : Type 1} → statement M
 write-status-spec =
     tie.close
-    (tie.spec
-    put-u32-requires
-    put-u32-requires-2
-    bits-of-requires
-    put-u32-requires-3
-    bits-of-requires-2
-    put-u32-requires-4
-    put-u32-requires-5
-    same-length
-    returns)
+    (tie.spec (λ c κs. search needs) (λ c κs. search needs) (λ c κs. search needs) (λ c κs. search needs)
+    (λ c κs. search needs) (λ c κs. search needs) (λ c κs. search needs) (λ c. search needs) returns)

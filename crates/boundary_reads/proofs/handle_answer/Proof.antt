@@ -1,22 +1,7 @@
--- `boundary_reads::handle_answer` meets its contract. Assumes nothing.
+-- `boundary_reads::handle_answer` meets its contract.
 use borrow.Author.Needs.{needs}
 use Rattle.boundary_reads.proofs.handle_answer.Statement.{statement}
 use Rattle.boundary_reads.proofs.handle_answer.Tie as tie
-
-enum-known-f : tie.Need-enum-known-f
-enum-known-f c = search needs
-
-refused-answer-requires : tie.Need-refused-answer-requires
-refused-answer-requires c κs = search needs
-
-enum-told : tie.Need-enum-told
-enum-told c = search needs
-
-refused-answer-requires-2 : tie.Need-refused-answer-requires-2
-refused-answer-requires-2 c κs = search needs
-
-enum-known-f-2 : tie.Need-enum-known-f-2
-enum-known-f-2 c = search needs
 
 returns : tie.Need-returns
 returns c = rw (c .refused-answer .ensures, c .before .before .f .given .1)
@@ -24,18 +9,9 @@ returns c = rw (c .refused-answer .ensures, c .before .before .f .given .1)
 returns-2 : tie.Need-returns-2
 returns-2 c = rw (c .refused-answer2 .ensures, c .before .enum-told .given .1)
 
-returns-3 : tie.Need-returns-3
-returns-3 c = rw (c .before .f2 .given .1)
-
 pub handle-answer-spec : {M : Type 1} → statement M
 handle-answer-spec =
     tie.close
-    (tie.spec
-    enum-known-f
-    refused-answer-requires
-    enum-told
-    refused-answer-requires-2
-    enum-known-f-2
-    returns
-    returns-2
-    returns-3)
+    (tie.spec (λ c. search needs) (λ c κs. search needs) (λ c. search needs) (λ c κs. search needs)
+    (λ c. search needs) (λ c κs. search needs) returns returns-2
+    (λ c. rw (c .read-of .ensures, c .before .before .f2 .given .1)))

@@ -1,4 +1,4 @@
--- `boundary_reads::tell` meets its contract. Assumes nothing.
+-- `boundary_reads::tell` meets its contract.
 use borrow.Author.Needs.{needs}
 use Rattle.boundary_reads.proofs.Telling.{told-short, told-whole}
 use Rattle.boundary_reads.proofs.tell.Statement.{statement}
@@ -6,18 +6,6 @@ use Rattle.boundary_reads.proofs.tell.Tie as tie
 
 returns : tie.Need-returns
 returns c = told-short (c .before .before .args .a) (c .before .before .args .answer .now) (c .if1 .taken)
-
-write-bits-requires : tie.Need-write-bits-requires
-write-bits-requires c κs = search needs
-
-write-values-requires : tie.Need-write-values-requires
-write-values-requires c κs = search needs
-
-cast-result : tie.Need-cast-result
-cast-result c = search needs
-
-same-length : tie.Need-same-length
-same-length c = search needs
 
 returns-2 : tie.Need-returns-2
 returns-2 c =
@@ -30,4 +18,4 @@ returns-2 c =
 pub tell-spec : {M : Type 1} → statement M
 tell-spec =
     tie.close
-    (tie.spec returns write-bits-requires write-values-requires cast-result same-length returns-2)
+    (tie.spec returns (λ c κs. search needs) (λ c κs. search needs) (λ c. search needs) (λ c. search needs) returns-2)

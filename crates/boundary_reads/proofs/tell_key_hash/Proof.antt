@@ -1,4 +1,4 @@
--- `boundary_reads::tell_key_hash` meets its contract. Assumes nothing.
+-- `boundary_reads::tell_key_hash` meets its contract.
 use Rattle.boundary_reads.proofs.Telling.{hash-short, hash-whole}
 use borrow.Author.Needs.{needs}
 use Rattle.boundary_reads.proofs.tell_key_hash.Statement.{statement}
@@ -6,15 +6,6 @@ use Rattle.boundary_reads.proofs.tell_key_hash.Tie as tie
 
 returns : tie.Need-returns
 returns c = hash-short (c .before .before .args .k) (c .before .before .args .answer .now) (c .if1 .taken)
-
-write-key-hash-requires : tie.Need-write-key-hash-requires
-write-key-hash-requires c κs = search needs
-
-cast-result : tie.Need-cast-result
-cast-result c = search needs
-
-same-length : tie.Need-same-length
-same-length c = search needs
 
 returns-2 : tie.Need-returns-2
 returns-2 c =
@@ -24,4 +15,4 @@ returns-2 c =
 
 pub tell-key-hash-spec : {M : Type 1} → statement M
 tell-key-hash-spec =
-    tie.close (tie.spec returns write-key-hash-requires cast-result same-length returns-2)
+    tie.close (tie.spec returns (λ c κs. search needs) (λ c. search needs) (λ c. search needs) returns-2)

@@ -1,25 +1,10 @@
--- `boundary_reads::time_answer` meets its contract. Assumes nothing.
-use mir.Facts.{toZ-ofZ}
+-- `boundary_reads::time_answer` meets its contract.
 use mir.Syntax.{w32}
 use mir.Val.{SFits}
+use Rattle.boundary.proofs.Read.{bits-back}
 use borrow.Author.Needs.{needs}
 use Rattle.boundary_reads.proofs.time_answer.Statement.{statement}
 use Rattle.boundary_reads.proofs.time_answer.Tie as tie
-
-enum-known-f : tie.Need-enum-known-f
-enum-known-f c = search needs
-
-refused-answer-requires : tie.Need-refused-answer-requires
-refused-answer-requires c κs = search needs
-
-enum-told : tie.Need-enum-told
-enum-told c = search needs
-
-refused-answer-requires-2 : tie.Need-refused-answer-requires-2
-refused-answer-requires-2 c κs = search needs
-
-enum-known-f-2 : tie.Need-enum-known-f-2
-enum-known-f-2 c = search needs
 
 returns : tie.Need-returns
 returns c = rw (c .refused-answer .ensures, c .before .before .f .given .1)
@@ -29,19 +14,12 @@ returns-2 c = rw (c .refused-answer2 .ensures, c .before .enum-told .given .1)
 
 returns-3 : tie.Need-returns-3
 returns-3 c =
-    let e = c .before .before .f2 .given in
+    let e = c .before .before .before .f2 .given in
     let fits : SFits w32 (e .0 .0 .sec) = search needs in
-    rw (e .1, toZ-ofZ fits)
+    rw (e .1, bits-back fits (c .bits-of .ensures))
 
 pub time-answer-spec : {M : Type 1} → statement M
 time-answer-spec =
     tie.close
-    (tie.spec
-    enum-known-f
-    refused-answer-requires
-    enum-told
-    refused-answer-requires-2
-    enum-known-f-2
-    returns
-    returns-2
-    returns-3)
+    (tie.spec (λ c. search needs) (λ c κs. search needs) (λ c. search needs) (λ c κs. search needs)
+    (λ c. search needs) (λ c κs. search needs) returns returns-2 returns-3)

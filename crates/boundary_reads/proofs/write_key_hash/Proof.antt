@@ -1,4 +1,4 @@
--- `boundary_reads::write_key_hash` meets its contract. Assumes nothing.
+-- `boundary_reads::write_key_hash` meets its contract.
 use mathlib.Core.Path.{_≡_, _∙_}
 use native.Mathlib.Omega.{arith}
 use lib.ListN.{length}
@@ -7,15 +7,6 @@ use borrow.Author.Needs.{needs}
 use Rattle.boundary_reads.proofs.write_key_hash.Statement.{statement}
 use Rattle.boundary_reads.proofs.write_key_hash.Tie as tie
 
-put-u8-requires : tie.Need-put-u8-requires
-put-u8-requires c κs = search needs
-
-store-requires : tie.Need-store-requires
-store-requires c κs = search needs
-
-slice-aggregate-copy : tie.Need-slice-aggregate-copy
-slice-aggregate-copy c = search needs
-
 many : (c : tie.After-copy-arg) → length (c .before .before .before .before .before .before .before .before .before .before .before .before .args .k .hash) ≡ 16
 many c = search needs
 
@@ -23,9 +14,6 @@ copy-requires : tie.Need-copy-requires
 copy-requires c κs =
     let n = many c in
     (omega arith, omega arith)
-
-same-length : tie.Need-same-length
-same-length c = search needs
 
 returns : tie.Need-returns
 returns c =
@@ -38,10 +26,5 @@ returns c =
 pub write-key-hash-spec : {M : Type 1} → statement M
 write-key-hash-spec =
     tie.close
-    (tie.spec
-    put-u8-requires
-    store-requires
-    slice-aggregate-copy
-    copy-requires
-    same-length
+    (tie.spec (λ c κs. search needs) (λ c κs. search needs) (λ c. search needs) copy-requires (λ c. search needs)
     returns)

@@ -1,4 +1,4 @@
--- `call_codes::admit_refusal` meets its contract: one law a link of the chain. Assumes nothing.
+-- `call_codes::admit_refusal` meets its contract: one law a link of the chain.
 use mathlib.Core.Path.{refl, sym, _∙_}
 use borrow.Author.Tests.{not-true, not-false, le-leb, lt-leb}
 use Rattle.model.specs.declared.JoinedCall.the-variants.{Admit}
@@ -8,9 +8,6 @@ use Rattle.call_codes.proofs.SheetChain.{sheet-4, sheet-6, sheet-none}
 use borrow.Author.Needs.{needs}
 use Rattle.call_codes.proofs.admit_refusal.Statement.{statement}
 use Rattle.call_codes.proofs.admit_refusal.Tie as tie
-
-both-ok-requires : tie.Need-both-ok-requires
-both-ok-requires c κs = search needs
 
 returns : tie.Need-returns
 returns c = λ st. sheet-4 (joined Admit) (c .before .before .before .before .args .s) st (sym (c .before .both-ok .ensures) ∙ not-true _ (c .if1 .taken))
@@ -32,4 +29,4 @@ returns-3 c =
     (le-leb _ 144 (c .if2 .left)) refl refl
 
 pub admit-refusal-spec : {M : Type 1} → statement M
-admit-refusal-spec = tie.close (tie.spec both-ok-requires returns returns-2 returns-3)
+admit-refusal-spec = tie.close (tie.spec (λ c κs. search needs) returns returns-2 returns-3)

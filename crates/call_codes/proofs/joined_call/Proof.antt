@@ -1,4 +1,4 @@
--- `call_codes::joined_call` meets its contract: each arm gives the call of its code. Assumes nothing.
+-- `call_codes::joined_call` meets its contract: each arm gives the call of its code.
 use Prim.Native.Nat.{ℕ, _≤_}
 use mathlib.Core.Path.{_≡_}
 use native.Mathlib.Omega.{arith}

@@ -1,4 +1,4 @@
--- `call_codes::lapse_refusal` meets its contract: one law a link of the chain. Assumes nothing.
+-- `call_codes::lapse_refusal` meets its contract: one law a link of the chain.
 use mathlib.Core.Path.{refl, sym, _∙_}
 use borrow.Author.Tests.{not-true, not-false}
 use Rattle.model.specs.declared.JoinedCall.the-variants.{Lapse}
@@ -8,14 +8,8 @@ use borrow.Author.Needs.{needs}
 use Rattle.call_codes.proofs.lapse_refusal.Statement.{statement}
 use Rattle.call_codes.proofs.lapse_refusal.Tie as tie
 
-optional-ok-requires : tie.Need-optional-ok-requires
-optional-ok-requires c κs = search needs
-
 returns : tie.Need-returns
 returns c = λ st. sheet-4 (joined Lapse) (c .before .before .before .args .s) st (sym (c .before .optional-ok .ensures) ∙ not-true _ (c .if1 .taken))
-
-clock-ok-requires : tie.Need-clock-ok-requires
-clock-ok-requires c κs = search needs
 
 returns-2 : tie.Need-returns-2
 returns-2 c =
@@ -32,4 +26,4 @@ returns-3 c =
 
 pub lapse-refusal-spec : {M : Type 1} → statement M
 lapse-refusal-spec =
-    tie.close (tie.spec optional-ok-requires returns clock-ok-requires returns-2 returns-3)
+    tie.close (tie.spec (λ c κs. search needs) returns (λ c κs. search needs) returns-2 returns-3)

@@ -1,4 +1,4 @@
--- `call_codes::leave_refusal` meets its contract: one law a link of the chain. Assumes nothing.
+-- `call_codes::leave_refusal` meets its contract: one law a link of the chain.
 use mathlib.Core.Path.{refl, sym, _∙_}
 use borrow.Author.Tests.{not-true, not-false}
 use Rattle.model.specs.declared.JoinedCall.the-variants.{Part, Depart}
@@ -8,9 +8,6 @@ use Rattle.call_codes.proofs.SheetChain.{sheet-4, sheet-none}
 use borrow.Author.Needs.{needs}
 use Rattle.call_codes.proofs.leave_refusal.Statement.{statement}
 use Rattle.call_codes.proofs.leave_refusal.Tie as tie
-
-optional-ok-requires : tie.Need-optional-ok-requires
-optional-ok-requires c κs = search needs
 
 returns : tie.Need-returns
 returns c =
@@ -26,4 +23,4 @@ returns-2 c =
     (sheet-none (joined Part) (a .args .s) st (sym (c .before .optional-ok .ensures) ∙ not-false _ (c .if1 .left)) refl refl refl refl, sheet-none (joined Depart) (a .args .s) st (sym (c .before .optional-ok .ensures) ∙ not-false _ (c .if1 .left)) refl refl refl refl)
 
 pub leave-refusal-spec : {M : Type 1} → statement M
-leave-refusal-spec = tie.close (tie.spec optional-ok-requires returns returns-2)
+leave-refusal-spec = tie.close (tie.spec (λ c κs. search needs) returns returns-2)

@@ -1,4 +1,4 @@
--- `call_codes::tracker_call` meets its contract: each arm gives the call of its code. Assumes nothing.
+-- `call_codes::tracker_call` meets its contract: each arm gives the call of its code.
 use Prim.Native.Nat.{ℕ, _≤_}
 use mathlib.Core.Path.{_≡_}
 use native.Mathlib.Omega.{arith}
@@ -52,13 +52,4 @@ returns-9 c =
 pub tracker-call-spec : {M : Type 1} → statement M
 tracker-call-spec =
     tie.close
-    (tie.spec
-    returns
-    returns-2
-    returns-3
-    returns-4
-    returns-5
-    returns-6
-    returns-7
-    returns-8
-    returns-9)
+    (tie.spec returns returns-2 returns-3 returns-4 returns-5 returns-6 returns-7 returns-8 returns-9)

@@ -1,4 +1,4 @@
--- `instances` meets its contract: refused as 3, else the call on the instances. Assumes nothing.
+-- `instances` meets its contract: refused as 3, else the call on the instances.
 use borrow.Author.Needs.{needs}
 use Rattle.model.specs.Calls.{instances}
 use Rattle.call_ranges.proofs.Ranges.{formed-parts, entered, refused-3, by-code}
@@ -10,12 +10,6 @@ instance-call-requires c κs = let a = c .before .before .before .before in (a .
 
 state-ok-requires : tie.Need-state-ok-requires
 state-ok-requires c κs = let a = c .before .before .before .before .before .before in (a .pre .0, a .pre .1, a .pre .2, a .pre .6)
-
-refused-requires : tie.Need-refused-requires
-refused-requires c κs = search needs
-
-same-length : tie.Need-same-length
-same-length c = search needs
 
 returns : tie.Need-returns
 returns c =
@@ -35,12 +29,6 @@ instance-turn-requires c κs =
     let g = a .args in
     (a .pre .7, a .pre .0, a .pre .3, formed-parts (g .places) (g .head) (g .pens .now) (g .writers .now) (g .lost .now) (g .out .now) (g .s) (s .state-ok .result) (s .state-ok .ensures (g .out .now)) (f .if1 .left) .pens)
 
-same-length-2 : tie.Need-same-length-2
-same-length-2 c = search needs
-
-same-length-3 : tie.Need-same-length-3
-same-length-3 c = search needs
-
 returns-2 : tie.Need-returns-2
 returns-2 c =
     let t = c .before .before .before .before in
@@ -59,13 +47,5 @@ returns-2 c =
 pub instances-spec : {M : Type 1} → statement M
 instances-spec =
     tie.close
-    (tie.spec
-    instance-call-requires
-    state-ok-requires
-    refused-requires
-    same-length
-    returns
-    instance-turn-requires
-    same-length-2
-    same-length-3
-    returns-2)
+    (tie.spec instance-call-requires state-ok-requires (λ c κs. search needs) (λ c. search needs) returns
+    instance-turn-requires (λ c. search needs) (λ c. search needs) returns-2)

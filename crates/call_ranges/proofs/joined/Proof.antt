@@ -1,4 +1,4 @@
--- `joined` meets its contract: refused as 3, else the joined call. Assumes nothing.
+-- `joined` meets its contract: refused as 3, else the joined call.
 use borrow.Author.Needs.{needs}
 use Rattle.model.specs.Calls.{joined}
 use Rattle.call_ranges.proofs.Ranges.{entered, refused-3, by-code}
@@ -10,18 +10,6 @@ joined-call-requires c κs = let a = c .before .before .before .before in (a .pr
 
 state-ok-requires : tie.Need-state-ok-requires
 state-ok-requires c κs = let a = c .before .before .before .before .before .before .before .before in (a .pre .0, a .pre .1, a .pre .2, a .pre .6)
-
-refused-requires : tie.Need-refused-requires
-refused-requires c κs = search needs
-
-same-length : tie.Need-same-length
-same-length c = search needs
-
-same-length-2 : tie.Need-same-length-2
-same-length-2 c = search needs
-
-same-length-3 : tie.Need-same-length-3
-same-length-3 c = search needs
 
 returns : tie.Need-returns
 returns c =
@@ -46,18 +34,6 @@ joined-turn-requires c κs =
           (λ j. (k .before .before .slice-known3 .given) j .fits),
     )
 
-same-length-4 : tie.Need-same-length-4
-same-length-4 c = search needs
-
-same-length-5 : tie.Need-same-length-5
-same-length-5 c = search needs
-
-same-length-6 : tie.Need-same-length-6
-same-length-6 c = search needs
-
-same-length-7 : tie.Need-same-length-7
-same-length-7 c = search needs
-
 returns-2 : tie.Need-returns-2
 returns-2 c =
     let t = c .before .before .before .before .before .before .before .before in
@@ -73,17 +49,6 @@ returns-2 c =
 pub joined-spec : {M : Type 1} → statement M
 joined-spec =
     tie.close
-    (tie.spec
-    joined-call-requires
-    state-ok-requires
-    refused-requires
-    same-length
-    same-length-2
-    same-length-3
-    returns
-    joined-turn-requires
-    same-length-4
-    same-length-5
-    same-length-6
-    same-length-7
-    returns-2)
+    (tie.spec joined-call-requires state-ok-requires (λ c κs. search needs) (λ c. search needs) (λ c. search needs)
+    (λ c. search needs) returns joined-turn-requires (λ c. search needs) (λ c. search needs) (λ c. search needs)
+    (λ c. search needs) returns-2)

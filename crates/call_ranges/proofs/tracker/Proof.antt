@@ -1,4 +1,4 @@
--- `tracker` meets its contract: refused as 3, else the call on the writers. Assumes nothing.
+-- `tracker` meets its contract: refused as 3, else the call on the writers.
 use borrow.Author.Needs.{needs}
 use Rattle.model.specs.Calls.{tracker}
 use Rattle.call_ranges.proofs.Ranges.{formed-parts, entered, refused-3, by-code}
@@ -10,15 +10,6 @@ tracker-call-requires c κs = let a = c .before .before .before .before in (a .p
 
 state-ok-requires : tie.Need-state-ok-requires
 state-ok-requires c κs = let a = c .before .before .before .before .before .before .before in (a .pre .0, a .pre .1, a .pre .2, a .pre .6)
-
-refused-requires : tie.Need-refused-requires
-refused-requires c κs = search needs
-
-same-length : tie.Need-same-length
-same-length c = search needs
-
-same-length-2 : tie.Need-same-length-2
-same-length-2 c = search needs
 
 returns : tie.Need-returns
 returns c =
@@ -39,15 +30,6 @@ tracker-turn-requires c κs =
     let p = formed-parts (g .places) (g .head) (g .pens .now) (g .writers .now) (g .lost .now) (g .out .now) (g .s) (s .state-ok .result) (s .state-ok .ensures (g .out .now)) (f .if1 .left) in
     (record { long = a .pre .1; headFormed = p .head; table = p .writers; counted = p .counts }, a .pre .2, p .lost, a .pre .3)
 
-same-length-3 : tie.Need-same-length-3
-same-length-3 c = search needs
-
-same-length-4 : tie.Need-same-length-4
-same-length-4 c = search needs
-
-same-length-5 : tie.Need-same-length-5
-same-length-5 c = search needs
-
 returns-2 : tie.Need-returns-2
 returns-2 c =
     let t = c .before .before .before .before .before .before in
@@ -66,15 +48,5 @@ returns-2 c =
 pub tracker-spec : {M : Type 1} → statement M
 tracker-spec =
     tie.close
-    (tie.spec
-    tracker-call-requires
-    state-ok-requires
-    refused-requires
-    same-length
-    same-length-2
-    returns
-    tracker-turn-requires
-    same-length-3
-    same-length-4
-    same-length-5
-    returns-2)
+    (tie.spec tracker-call-requires state-ok-requires (λ c κs. search needs) (λ c. search needs) (λ c. search needs)
+    returns tracker-turn-requires (λ c. search needs) (λ c. search needs) (λ c. search needs) returns-2)

@@ -1,4 +1,4 @@
--- `call_sheet::both_ok` meets its contract. Assumes nothing.
+-- `call_sheet::both_ok` meets its contract.
 use mathlib.Core.Path.{sym, _∙_}
 use mathlib.Core.List.{[], _∷_}
 use Rattle.model.specs.Refusals.{nanosecondsOk}
@@ -6,12 +6,6 @@ use Rattle.call_sheet.proofs.Laws.{all-first, all-none}
 use borrow.Author.Needs.{needs}
 use Rattle.call_sheet.proofs.both_ok.Statement.{statement}
 use Rattle.call_sheet.proofs.both_ok.Tie as tie
-
-nanoseconds-ok-requires : tie.Need-nanoseconds-ok-requires
-nanoseconds-ok-requires c κs = search needs
-
-nanoseconds-ok-requires-2 : tie.Need-nanoseconds-ok-requires-2
-nanoseconds-ok-requires-2 c κs = search needs
 
 returns : tie.Need-returns
 returns c =
@@ -25,4 +19,4 @@ returns-2 c =
 
 pub both-ok-spec : {M : Type 1} → statement M
 both-ok-spec =
-    tie.close (tie.spec nanoseconds-ok-requires nanoseconds-ok-requires-2 returns returns-2)
+    tie.close (tie.spec (λ c κs. search needs) (λ c κs. search needs) returns returns-2)

@@ -1,4 +1,4 @@
--- `call_sheet::clock_ok` meets its contract. Assumes nothing.
+-- `call_sheet::clock_ok` meets its contract.
 use Prim.Native.Nat.{_^_}
 use mathlib.Core.Path.{sym}
 use lib.Dec.{ltb}

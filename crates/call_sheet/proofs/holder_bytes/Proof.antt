@@ -1,4 +1,4 @@
--- `call_sheet::holder_bytes` meets its contract. Assumes nothing.
+-- `call_sheet::holder_bytes` meets its contract.
 use borrow.Author.Needs.{needs}
 use mathlib.Core.Path.{_∙_}
 use native.Mathlib.Omega.{arith}
@@ -7,12 +7,6 @@ use Rattle.call_sheet.proofs.Laws.{paste-padded}
 use Rattle.call_sheet.proofs.holder_bytes.Statement.{statement}
 use Rattle.call_sheet.proofs.holder_bytes.Tie as tie
 
-slice-aggregate-copy : tie.Need-slice-aggregate-copy
-slice-aggregate-copy c = search needs
-
-copy-requires : tie.Need-copy-requires
-copy-requires c κs = search needs
-
 returns : tie.Need-returns
 returns c =
     c .before .copy .ensures
@@ -20,4 +14,4 @@ returns c =
     (rw (length-drop 84 (c .before .before .before .before .args .s .now)) (omega (arith, c .before .before .before .before .pre)))
 
 pub holder-bytes-spec : {M : Type 1} → statement M
-holder-bytes-spec = tie.close (tie.spec slice-aggregate-copy copy-requires returns)
+holder-bytes-spec = tie.close (tie.spec (λ c. search needs) (λ c κs. search needs) returns)

@@ -1,4 +1,4 @@
--- `call_sheet::instance_refusal` meets its contract: one law a link of the chain. Assumes nothing.
+-- `call_sheet::instance_refusal` meets its contract: one law a link of the chain.
 use mathlib.Core.Path.{sym, _∙_}
 use borrow.Author.Tests.{not-true, not-false}
 use Rattle.call_sheet.proofs.Laws.{refuses-4, refuses-6, refuses-none}
@@ -6,14 +6,8 @@ use borrow.Author.Needs.{needs}
 use Rattle.call_sheet.proofs.instance_refusal.Statement.{statement}
 use Rattle.call_sheet.proofs.instance_refusal.Tie as tie
 
-times-ok-requires : tie.Need-times-ok-requires
-times-ok-requires c κs = search needs
-
 returns : tie.Need-returns
 returns c = λ st. refuses-4 (c .before .before .args .c) (c .before .before .args .s) st (sym (c .before .times-ok .ensures) ∙ not-true _ (c .if1 .taken))
-
-holder-fits-requires : tie.Need-holder-fits-requires
-holder-fits-requires c κs = search needs
 
 returns-2 : tie.Need-returns-2
 returns-2 c =
@@ -29,4 +23,4 @@ returns-3 c =
 
 pub instance-refusal-spec : {M : Type 1} → statement M
 instance-refusal-spec =
-    tie.close (tie.spec times-ok-requires returns holder-fits-requires returns-2 returns-3)
+    tie.close (tie.spec (λ c κs. search needs) returns (λ c κs. search needs) returns-2 returns-3)

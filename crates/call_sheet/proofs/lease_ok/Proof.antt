@@ -1,4 +1,4 @@
--- `call_sheet::lease_ok` meets its contract. Assumes nothing.
+-- `call_sheet::lease_ok` meets its contract.
 use mathlib.Core.Path.{sym, _∙_}
 use mathlib.Core.List.{[], _∷_}
 use borrow.Author.Tests.{not-true, not-false}
@@ -8,14 +8,8 @@ use borrow.Author.Needs.{needs}
 use Rattle.call_sheet.proofs.lease_ok.Statement.{statement}
 use Rattle.call_sheet.proofs.lease_ok.Tie as tie
 
-clock-ok-requires : tie.Need-clock-ok-requires
-clock-ok-requires c κs = search needs
-
 returns : tie.Need-returns
 returns c = all-none clockOk (c .before .before .args .s .a) _ (sym (c .before .clock-ok .ensures) ∙ not-true _ (c .if1 .taken))
-
-clock-ok-requires-2 : tie.Need-clock-ok-requires-2
-clock-ok-requires-2 c κs = search needs
 
 returns-2 : tie.Need-returns-2
 returns-2 c =
@@ -29,4 +23,4 @@ returns-3 c =
 
 pub lease-ok-spec : {M : Type 1} → statement M
 lease-ok-spec =
-    tie.close (tie.spec clock-ok-requires returns clock-ok-requires-2 returns-2 returns-3)
+    tie.close (tie.spec (λ c κs. search needs) returns (λ c κs. search needs) returns-2 returns-3)

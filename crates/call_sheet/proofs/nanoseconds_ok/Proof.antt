@@ -1,4 +1,4 @@
--- `call_sheet::nanoseconds_ok` meets its contract. Assumes nothing.
+-- `call_sheet::nanoseconds_ok` meets its contract.
 use mathlib.Core.Path.{sym}
 use lib.Dec.{ltb}
 use Rattle.model.specs.Tables.{all}

@@ -1,11 +1,8 @@
--- `call_sheet::optional_ok` meets its contract. Assumes nothing.
+-- `call_sheet::optional_ok` meets its contract.
 use Rattle.model.specs.Tables.{all}
 use borrow.Author.Needs.{needs}
 use Rattle.call_sheet.proofs.optional_ok.Statement.{statement}
 use Rattle.call_sheet.proofs.optional_ok.Tie as tie
-
-nanoseconds-ok-requires : tie.Need-nanoseconds-ok-requires
-nanoseconds-ok-requires c κs = search needs
 
 returns : tie.Need-returns
 unfolding all
@@ -16,4 +13,4 @@ unfolding all
 returns-2 c = rw (c .if1 .left)
 
 pub optional-ok-spec : {M : Type 1} → statement M
-optional-ok-spec = tie.close (tie.spec nanoseconds-ok-requires returns returns-2)
+optional-ok-spec = tie.close (tie.spec (λ c κs. search needs) returns returns-2)

@@ -1,5 +1,5 @@
 -- `call` meets its contract: another figure is refused as 3, then a wrong length as 1, else the sheet is read and the call made by
--- its code. Assumes nothing.
+-- its code.
 use mathlib.Core.Bool.{true, false}
 use mathlib.Core.Path.{refl, sym, _∙_}
 use borrow.Author.Needs.{needs}
@@ -12,23 +12,11 @@ use Rattle.dcps.proofs.Coding.{lengths-by, called-3, called-1, called-c
 use Rattle.dcps.proofs.call.Statement.{statement}
 use Rattle.dcps.proofs.call.Tie as tie
 
-figure-ok-requires : tie.Need-figure-ok-requires
-figure-ok-requires c κs = search needs
-
-refused-requires : tie.Need-refused-requires
-refused-requires c κs = search needs
-
 returns : tie.Need-returns
 returns c =
     let a = c .before .before .before .before .before .before .before .before .args in
     called-3 (a .sheet .now) _ (a .head) (a .pens .now) (a .writers .now) (a .lost .now) (a .out .now) (c .refused .ensures)
     (sym (c .before .before .figure-ok .ensures) ∙ not-true _ (c .before .if1 .taken))
-
-cast-places : tie.Need-cast-places
-cast-places c = search needs
-
-refused-requires-2 : tie.Need-refused-requires-2
-refused-requires-2 c κs = search needs
 
 returns-2 : tie.Need-returns-2
 returns-2 c =
@@ -44,9 +32,6 @@ room-ok-requires c κs =
     let i = c .before in
     figure-few _ (sym (i .before .figure-ok .ensures) ∙ not-false _ (i .if1 .left))
 
-refused-requires-3 : tie.Need-refused-requires-3
-refused-requires-3 c κs = search needs
-
 returns-3 : tie.Need-returns-3
 returns-3 c =
     let s = c .before .before .before in
@@ -57,9 +42,6 @@ returns-3 c =
     (a .sheet .now) _ (a .head) (a .pens .now) (a .writers .now) (a .lost .now) (a .out .now) refl (c .refused3 .ensures)
     (lengths-by (a .head .places) (a .sheet .now) l true false _ (eq-eqb _ _ (s .if2 .left))
     (sym (c .before .before .room-ok .ensures) ∙ not-true _ (c .before .if3 .taken)) refl)
-
-refused-requires-4 : tie.Need-refused-requires-4
-refused-requires-4 c κs = search needs
 
 returns-4 : tie.Need-returns-4
 returns-4 c =
@@ -72,9 +54,6 @@ returns-4 c =
     (lengths-by (a .head .places) (a .sheet .now) l true true false (eq-eqb _ _ (o .before .if2 .left))
     (sym (o .room-ok .ensures) ∙ not-false _ (c .before .before .if3 .left)) (ne-eqb _ _ (c .before .if4 .taken)))
 
-read-sheet-requires : tie.Need-read-sheet-requires
-read-sheet-requires c κs = search needs
-
 coded-requires : tie.Need-coded-requires
 coded-requires c κs =
     let r = c .before .before .before .before in
@@ -84,18 +63,6 @@ coded-requires c κs =
     let n = rooms (a .head .places) (length (a .pens .now)) (length (a .writers .now)) (length (a .lost .now))
     (sym (o .room-ok .ensures) ∙ not-false _ (r .before .before .if3 .left)) in
     (n .pens, n .writers, n .lost, r .before .if4 .left, refl, figure-few _ (sym (i .before .figure-ok .ensures) ∙ not-false _ (i .if1 .left)))
-
-same-length : tie.Need-same-length
-same-length c = search needs
-
-same-length-2 : tie.Need-same-length-2
-same-length-2 c = search needs
-
-same-length-3 : tie.Need-same-length-3
-same-length-3 c = search needs
-
-same-length-4 : tie.Need-same-length-4
-same-length-4 c = search needs
 
 returns-5 : tie.Need-returns-5
 returns-5 c =
@@ -114,22 +81,7 @@ returns-5 c =
 pub call-spec : {M : Type 1} → statement M
 call-spec =
     tie.close
-    (tie.spec
-    figure-ok-requires
-    refused-requires
-    returns
-    cast-places
-    refused-requires-2
-    returns-2
-    room-ok-requires
-    refused-requires-3
-    returns-3
-    refused-requires-4
-    returns-4
-    read-sheet-requires
-    coded-requires
-    same-length
-    same-length-2
-    same-length-3
-    same-length-4
-    returns-5)
+    (tie.spec (λ c κs. search needs) (λ c κs. search needs) returns (λ c. search needs) (λ c κs. search needs)
+    returns-2 room-ok-requires (λ c κs. search needs) returns-3 (λ c κs. search needs) returns-4
+    (λ c κs. search needs) coded-requires (λ c. search needs) (λ c. search needs) (λ c. search needs)
+    (λ c. search needs) returns-5)

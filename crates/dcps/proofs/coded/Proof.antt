@@ -1,4 +1,4 @@
--- `coded` meets its contract: each range is sent to its call, and a code of none is refused as 2. Assumes nothing.
+-- `coded` meets its contract: each range is sent to its call, and a code of none is refused as 2.
 use mathlib.Core.Logic.{⊎-elim}
 use mathlib.Core.Option.{none}
 use mathlib.Core.Path.{_≡_, _∙_}
@@ -26,50 +26,8 @@ joined-requires c κs =
     let a = c .before .before .before .before .before .before .before .before .before .before .before .before .before .before in
     (a .pre .0, a .pre .1, a .pre .2, a .pre .3, omega (arith, c .before .before .before .before .before .if5 .left), omega (arith, c .before .before .before .before .if6 .taken), a .pre .4, a .pre .5)
 
-refused-requires : tie.Need-refused-requires
-refused-requires c κs = search needs
-
-same-length : tie.Need-same-length
-same-length c = search needs
-
-same-length-2 : tie.Need-same-length-2
-same-length-2 c = search needs
-
-same-length-3 : tie.Need-same-length-3
-same-length-3 c = search needs
-
-same-length-4 : tie.Need-same-length-4
-same-length-4 c = search needs
-
-returns : tie.Need-returns
-returns c = c .before .before .before .before .instances .ensures
-
-same-length-5 : tie.Need-same-length-5
-same-length-5 c = search needs
-
-same-length-6 : tie.Need-same-length-6
-same-length-6 c = search needs
-
-same-length-7 : tie.Need-same-length-7
-same-length-7 c = search needs
-
-same-length-8 : tie.Need-same-length-8
-same-length-8 c = search needs
-
 returns-2 : tie.Need-returns-2
 returns-2 c = c .before .before .before .before .before .before .tracker .ensures
-
-same-length-9 : tie.Need-same-length-9
-same-length-9 c = search needs
-
-same-length-10 : tie.Need-same-length-10
-same-length-10 c = search needs
-
-same-length-11 : tie.Need-same-length-11
-same-length-11 c = search needs
-
-same-length-12 : tie.Need-same-length-12
-same-length-12 c = search needs
 
 returns-3 : tie.Need-returns-3
 returns-3 c = c .before .before .before .before .before .before .before .before .joined .ensures
@@ -94,24 +52,8 @@ returns-4 c =
 pub coded-spec : {M : Type 1} → statement M
 coded-spec =
     tie.close
-    (tie.spec
-    instances-requires
-    tracker-requires
-    joined-requires
-    refused-requires
-    same-length
-    same-length-2
-    same-length-3
-    same-length-4
-    returns
-    same-length-5
-    same-length-6
-    same-length-7
-    same-length-8
-    returns-2
-    same-length-9
-    same-length-10
-    same-length-11
-    same-length-12
-    returns-3
-    returns-4)
+    (tie.spec instances-requires tracker-requires joined-requires (λ c κs. search needs) (λ c. search needs)
+    (λ c. search needs) (λ c. search needs) (λ c. search needs)
+    (λ c. c .before .before .before .before .instances .ensures) (λ c. search needs) (λ c. search needs)
+    (λ c. search needs) (λ c. search needs) returns-2 (λ c. search needs) (λ c. search needs) (λ c. search needs)
+    (λ c. search needs) returns-3 returns-4)

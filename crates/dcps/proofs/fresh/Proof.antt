@@ -1,4 +1,4 @@
--- `fresh` meets its contract: a wrong length is refused, else the three buffers are cleared. Assumes nothing.
+-- `fresh` meets its contract: a wrong length is refused, else the three buffers are cleared.
 use Prim.Native.Nat.{_*_}
 use mathlib.Core.Path.{sym, ap, _∙_}
 use native.Mathlib.Omega.{arith}
@@ -11,24 +11,6 @@ use Rattle.dcps.proofs.Beginnings.{cleared, room-is, rooms, fresh-refus
 use Rattle.dcps.proofs.fresh.Statement.{statement}
 use Rattle.dcps.proofs.fresh.Tie as tie
 
-places-in-requires : tie.Need-places-in-requires
-places-in-requires c κs = search needs
-
-cast-fresh-head : tie.Need-cast-fresh-head
-cast-fresh-head c = search needs
-
-fresh-head-requires : tie.Need-fresh-head-requires
-fresh-head-requires c κs = search needs
-
-room-ok-requires : tie.Need-room-ok-requires
-room-ok-requires c κs = search needs
-
-refused-requires : tie.Need-refused-requires
-refused-requires c κs = search needs
-
-same-length : tie.Need-same-length
-same-length c = search needs
-
 returns : tie.Need-returns
 returns c =
     let h = c .before .before .before in
@@ -38,9 +20,6 @@ returns c =
     (room-is (k .places-in .result) (a .pens .now) (a .writers .now) (a .lost .now) _
     (sym (c .before .before .room-ok .ensures) ∙ not-true _ (c .before .if1 .taken)))
     (c .refused .ensures ∙ ap (called (refusedWith 1)) (h .fresh-head .ensures))
-
-mul-clear : tie.Need-mul-clear
-mul-clear c = search needs
 
 clear-requires : tie.Need-clear-requires
 clear-requires c κs =
@@ -75,18 +54,6 @@ clear-requires-3 c κs =
           (sym (r .before .room-ok .ensures) ∙ not-false _ (r .if1 .left)) .lost,
     )
 
-refused-requires-2 : tie.Need-refused-requires-2
-refused-requires-2 c κs = search needs
-
-same-length-2 : tie.Need-same-length-2
-same-length-2 c = search needs
-
-same-length-3 : tie.Need-same-length-3
-same-length-3 c = search needs
-
-same-length-4 : tie.Need-same-length-4
-same-length-4 c = search needs
-
 returns-2 : tie.Need-returns-2
 returns-2 c =
     let l = c .before .before .before in
@@ -108,20 +75,6 @@ returns-2 c =
 pub fresh-spec : {M : Type 1} → statement M
 fresh-spec =
     tie.close
-    (tie.spec
-    places-in-requires
-    cast-fresh-head
-    fresh-head-requires
-    room-ok-requires
-    refused-requires
-    same-length
-    returns
-    mul-clear
-    clear-requires
-    clear-requires-2
-    clear-requires-3
-    refused-requires-2
-    same-length-2
-    same-length-3
-    same-length-4
-    returns-2)
+    (tie.spec (λ c κs. search needs) (λ c. search needs) (λ c κs. search needs) (λ c κs. search needs)
+    (λ c κs. search needs) (λ c. search needs) returns (λ c. search needs) clear-requires clear-requires-2
+    clear-requires-3 (λ c κs. search needs) (λ c. search needs) (λ c. search needs) (λ c. search needs) returns-2)

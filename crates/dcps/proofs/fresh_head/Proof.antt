@@ -1,4 +1,4 @@
--- `fresh_head` meets its contract. Assumes nothing.
+-- `fresh_head` meets its contract.
 use mathlib.Core.Path.{refl}
 use Rattle.model.specs.State.{fresh}
 use Rattle.dcps.proofs.fresh_head.Statement.{statement}

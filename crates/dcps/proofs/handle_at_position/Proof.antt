@@ -3,11 +3,8 @@ use Rattle.dcps.proofs.Numbers.{walk-number}
 use Rattle.dcps.proofs.handle_at_position.Statement.{statement}
 use Rattle.dcps.proofs.handle_at_position.Tie as tie
 
-handle-at-position-requires : tie.Need-handle-at-position-requires
-handle-at-position-requires c κs = search needs
-
 returns : tie.Need-returns
 returns c = (c .handle-at-position .ensures, walk-number _ _ _ (c .handle-at-position .ensures))
 
 pub handle-at-position-spec : {M : Type 1} → statement M
-handle-at-position-spec = tie.close (tie.spec handle-at-position-requires returns)
+handle-at-position-spec = tie.close (tie.spec (λ c κs. search needs) returns)

@@ -3,11 +3,8 @@ use Rattle.dcps.proofs.Numbers.{delivered-number}
 use Rattle.dcps.proofs.last_delivered_ts.Statement.{statement}
 use Rattle.dcps.proofs.last_delivered_ts.Tie as tie
 
-last-delivered-ts-requires : tie.Need-last-delivered-ts-requires
-last-delivered-ts-requires c κs = search needs
-
 returns : tie.Need-returns
 returns c = (c .last-delivered-ts .ensures, delivered-number _ _ _ (c .last-delivered-ts .ensures))
 
 pub last-delivered-ts-spec : {M : Type 1} → statement M
-last-delivered-ts-spec = tie.close (tie.spec last-delivered-ts-requires returns)
+last-delivered-ts-spec = tie.close (tie.spec (λ c κs. search needs) returns)

@@ -3,11 +3,8 @@ use Rattle.dcps.proofs.Numbers.{next-number}
 use Rattle.dcps.proofs.next_handle_after.Statement.{statement}
 use Rattle.dcps.proofs.next_handle_after.Tie as tie
 
-next-handle-after-requires : tie.Need-next-handle-after-requires
-next-handle-after-requires c κs = search needs
-
 returns : tie.Need-returns
 returns c = (c .next-handle-after .ensures, next-number _ _ _ (c .next-handle-after .ensures))
 
 pub next-handle-after-spec : {M : Type 1} → statement M
-next-handle-after-spec = tie.close (tie.spec next-handle-after-requires returns)
+next-handle-after-spec = tie.close (tie.spec (λ c κs. search needs) returns)

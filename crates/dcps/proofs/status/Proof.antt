@@ -3,11 +3,5 @@ use Rattle.dcps.proofs.Numbers.{status-number}
 use Rattle.dcps.proofs.status.Statement.{statement}
 use Rattle.dcps.proofs.status.Tie as tie
 
-status-requires : tie.Need-status-requires
-status-requires c κs = search needs
-
-returns : tie.Need-returns
-returns c = (c .status .ensures, status-number _ (c .status .ensures))
-
 pub status-spec : {M : Type 1} → statement M
-status-spec = tie.close (tie.spec status-requires returns)
+status-spec = tie.close (tie.spec (λ c κs. search needs) (λ c. (c .status .ensures, status-number _ (c .status .ensures))))

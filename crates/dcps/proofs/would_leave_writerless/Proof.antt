@@ -3,11 +3,8 @@ use Rattle.dcps.proofs.Numbers.{would-number}
 use Rattle.dcps.proofs.would_leave_writerless.Statement.{statement}
 use Rattle.dcps.proofs.would_leave_writerless.Tie as tie
 
-would-leave-writerless-requires : tie.Need-would-leave-writerless-requires
-would-leave-writerless-requires c κs = search needs
-
 returns : tie.Need-returns
 returns c = (c .would-leave-writerless .ensures, would-number _ _ _ _ (c .would-leave-writerless .ensures))
 
 pub would-leave-writerless-spec : {M : Type 1} → statement M
-would-leave-writerless-spec = tie.close (tie.spec would-leave-writerless-requires returns)
+would-leave-writerless-spec = tie.close (tie.spec (λ c κs. search needs) returns)

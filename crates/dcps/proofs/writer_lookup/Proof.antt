@@ -3,11 +3,8 @@ use Rattle.dcps.proofs.Numbers.{lookup-number}
 use Rattle.dcps.proofs.writer_lookup.Statement.{statement}
 use Rattle.dcps.proofs.writer_lookup.Tie as tie
 
-writer-lookup-requires : tie.Need-writer-lookup-requires
-writer-lookup-requires c κs = search needs
-
 returns : tie.Need-returns
 returns c = (c .writer-lookup .ensures, lookup-number _ _ _ (c .writer-lookup .ensures))
 
 pub writer-lookup-spec : {M : Type 1} → statement M
-writer-lookup-spec = tie.close (tie.spec writer-lookup-requires returns)
+writer-lookup-spec = tie.close (tie.spec (λ c κs. search needs) returns)

@@ -1,14 +1,8 @@
--- `dcps_call` meets its contract: wrong lengths first, then the call on the head that was read. Assumes nothing.
+-- `dcps_call` meets its contract: wrong lengths first, then the call on the head that was read.
 use borrow.Author.Needs.{needs}
 use Rattle.dcps_c.proofs.Crossing.{short-answer, short-head, made}
 use Rattle.dcps_c.proofs.dcps_call.Statement.{statement}
 use Rattle.dcps_c.proofs.dcps_call.Tie as tie
-
-unanswered-requires : tie.Need-unanswered-requires
-unanswered-requires c κs = search needs
-
-same-length : tie.Need-same-length
-same-length c = search needs
 
 returns : tie.Need-returns
 returns c =
@@ -16,45 +10,12 @@ returns c =
     short-answer (a .args .head .now) (a .args .sheet .now) (a .args .pens .now) (a .args .writers .now) (a .args .lost .now) (a .args .out .now)
     (a .args .answer .now) _ (c .before .before .if1 .taken) (c .unanswered .ensures)
 
-refuse-requires : tie.Need-refuse-requires
-refuse-requires c κs = search needs
-
-same-length-2 : tie.Need-same-length-2
-same-length-2 c = search needs
-
 returns-2 : tie.Need-returns-2
 returns-2 c =
     let a = c .before .before .before .before .before .before .before .before .before .before .before .before .before in
     let r = c .before .before in
     short-head (a .args .head .now) (a .args .sheet .now) (a .args .pens .now) (a .args .writers .now) (a .args .lost .now) (a .args .out .now)
     (a .args .answer .now) _ _ (r .before .before .before .if1 .left) (r .before .before .if2 .taken) (r .refuse .ensures .0) (r .refuse .ensures .1)
-
-lent-head-requires : tie.Need-lent-head-requires
-lent-head-requires c κs = search needs
-
-call-requires : tie.Need-call-requires
-call-requires c κs = search needs
-
-settle-requires : tie.Need-settle-requires
-settle-requires c κs = search needs
-
-same-length-3 : tie.Need-same-length-3
-same-length-3 c = search needs
-
-same-length-4 : tie.Need-same-length-4
-same-length-4 c = search needs
-
-same-length-5 : tie.Need-same-length-5
-same-length-5 c = search needs
-
-same-length-6 : tie.Need-same-length-6
-same-length-6 c = search needs
-
-same-length-7 : tie.Need-same-length-7
-same-length-7 c = search needs
-
-same-length-8 : tie.Need-same-length-8
-same-length-8 c = search needs
 
 returns-3 : tie.Need-returns-3
 returns-3 c =
@@ -70,20 +31,6 @@ returns-3 c =
 pub dcps-call-spec : {M : Type 1} → statement M
 dcps-call-spec =
     tie.close
-    (tie.spec
-    unanswered-requires
-    same-length
-    returns
-    refuse-requires
-    same-length-2
-    returns-2
-    lent-head-requires
-    call-requires
-    settle-requires
-    same-length-3
-    same-length-4
-    same-length-5
-    same-length-6
-    same-length-7
-    same-length-8
-    returns-3)
+    (tie.spec (λ c κs. search needs) (λ c. search needs) returns (λ c κs. search needs) (λ c. search needs) returns-2
+    (λ c κs. search needs) (λ c κs. search needs) (λ c κs. search needs) (λ c. search needs) (λ c. search needs)
+    (λ c. search needs) (λ c. search needs) (λ c. search needs) (λ c. search needs) returns-3)

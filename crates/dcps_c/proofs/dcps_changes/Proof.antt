@@ -1,26 +1,14 @@
--- `dcps_changes` meets its contract. Assumes nothing.
+-- `dcps_changes` meets its contract.
 use borrow.Author.Needs.{needs}
 use Rattle.dcps_c.proofs.HeadReads.{changes-untold, changes-told}
 use Rattle.dcps_c.proofs.Tellings.{retold}
 use Rattle.dcps_c.proofs.dcps_changes.Statement.{statement}
 use Rattle.dcps_c.proofs.dcps_changes.Tie as tie
 
-unanswered-requires : tie.Need-unanswered-requires
-unanswered-requires c κs = search needs
-
 returns : tie.Need-returns
 returns c =
     let a = c .before .before .before .before .args in
     changes-untold (a .head .now) (a .answer .now) _ (c .before .if1 .taken) (c .unanswered .ensures)
-
-changes-of-requires : tie.Need-changes-of-requires
-changes-of-requires c κs = search needs
-
-tell-requires : tie.Need-tell-requires
-tell-requires c κs = search needs
-
-same-length : tie.Need-same-length
-same-length c = search needs
 
 returns-2 : tie.Need-returns-2
 returns-2 c =
@@ -31,4 +19,5 @@ returns-2 c =
 
 pub dcps-changes-spec : {M : Type 1} → statement M
 dcps-changes-spec =
-    tie.close (tie.spec unanswered-requires returns changes-of-requires tell-requires same-length returns-2)
+    tie.close (tie.spec (λ c κs. search needs) returns (λ c κs. search needs) (λ c κs. search needs) (λ c. search needs)
+    returns-2)

@@ -1,4 +1,4 @@
--- `dcps_fresh` meets its contract. Assumes nothing.
+-- `dcps_fresh` meets its contract.
 use mathlib.Core.Path.{refl}
 use borrow.Author.Needs.{needs}
 use Rattle.dcps_c.proofs.Crossing.{fresh-short, fresh-made}
@@ -9,27 +9,6 @@ returns : tie.Need-returns
 returns c =
     let a = c .before .before .before .before .before .args in
     fresh-short (a .head .now) (a .pens .now) (a .writers .now) (a .lost .now) (c .if1 .taken)
-
-fresh-requires : tie.Need-fresh-requires
-fresh-requires c κs = search needs
-
-write-new-head-requires : tie.Need-write-new-head-requires
-write-new-head-requires c κs = search needs
-
-cast-result : tie.Need-cast-result
-cast-result c = search needs
-
-same-length : tie.Need-same-length
-same-length c = search needs
-
-same-length-2 : tie.Need-same-length-2
-same-length-2 c = search needs
-
-same-length-3 : tie.Need-same-length-3
-same-length-3 c = search needs
-
-same-length-4 : tie.Need-same-length-4
-same-length-4 c = search needs
 
 returns-2 : tie.Need-returns-2
 returns-2 c =
@@ -42,13 +21,5 @@ returns-2 c =
 pub dcps-fresh-spec : {M : Type 1} → statement M
 dcps-fresh-spec =
     tie.close
-    (tie.spec
-    returns
-    fresh-requires
-    write-new-head-requires
-    cast-result
-    same-length
-    same-length-2
-    same-length-3
-    same-length-4
-    returns-2)
+    (tie.spec returns (λ c κs. search needs) (λ c κs. search needs) (λ c. search needs) (λ c. search needs)
+    (λ c. search needs) (λ c. search needs) (λ c. search needs) returns-2)

@@ -1,20 +1,8 @@
--- `dcps_holder_in_force` meets its contract. Assumes nothing.
+-- `dcps_holder_in_force` meets its contract.
 use borrow.Author.Needs.{needs}
 use Rattle.dcps_c.proofs.Tellings.{placed}
 use Rattle.dcps_c.proofs.dcps_holder_in_force.Statement.{statement}
 use Rattle.dcps_c.proofs.dcps_holder_in_force.Tie as tie
-
-holder-place-requires : tie.Need-holder-place-requires
-holder-place-requires c κs = search needs
-
-holder-answer-requires : tie.Need-holder-answer-requires
-holder-answer-requires c κs = search needs
-
-tell-requires : tie.Need-tell-requires
-tell-requires c κs = search needs
-
-same-length : tie.Need-same-length
-same-length c = search needs
 
 returns : tie.Need-returns
 returns c =
@@ -25,4 +13,4 @@ returns c =
 pub dcps-holder-in-force-spec : {M : Type 1} → statement M
 dcps-holder-in-force-spec =
     tie.close
-    (tie.spec holder-place-requires holder-answer-requires tell-requires same-length returns)
+    (tie.spec (λ c κs. search needs) (λ c κs. search needs) (λ c κs. search needs) (λ c. search needs) returns)

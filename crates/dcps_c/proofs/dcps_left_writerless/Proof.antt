@@ -1,26 +1,8 @@
--- `dcps_left_writerless` meets its contract. Assumes nothing.
+-- `dcps_left_writerless` meets its contract.
 use borrow.Author.Needs.{needs}
 use Rattle.dcps_c.proofs.Tellings.{left-untold, left-told}
 use Rattle.dcps_c.proofs.dcps_left_writerless.Statement.{statement}
 use Rattle.dcps_c.proofs.dcps_left_writerless.Tie as tie
-
-returns : tie.Need-returns
-returns c = left-untold _ _ _ _ _ (c .if1 .taken)
-
-left-writerless-requires : tie.Need-left-writerless-requires
-left-writerless-requires c κs = search needs
-
-listing-answer-requires : tie.Need-listing-answer-requires
-listing-answer-requires c κs = search needs
-
-tell-requires : tie.Need-tell-requires
-tell-requires c κs = search needs
-
-same-length : tie.Need-same-length
-same-length c = search needs
-
-same-length-2 : tie.Need-same-length-2
-same-length-2 c = search needs
 
 returns-2 : tie.Need-returns-2
 returns-2 c =
@@ -32,11 +14,5 @@ returns-2 c =
 pub dcps-left-writerless-spec : {M : Type 1} → statement M
 dcps-left-writerless-spec =
     tie.close
-    (tie.spec
-    returns
-    left-writerless-requires
-    listing-answer-requires
-    tell-requires
-    same-length
-    same-length-2
-    returns-2)
+    (tie.spec (λ c. left-untold _ _ _ _ _ (c .if1 .taken)) (λ c κs. search needs) (λ c κs. search needs)
+    (λ c κs. search needs) (λ c. search needs) (λ c. search needs) returns-2)

@@ -1,4 +1,4 @@
--- `dcps_should_deliver_under_destination_order` meets its contract. Assumes nothing.
+-- `dcps_should_deliver_under_destination_order` meets its contract.
 use mathlib.Core.Bool.{not}
 use mathlib.Core.Path.{ap, _∙_}
 use borrow.Author.Needs.{needs}
@@ -18,15 +18,6 @@ should-deliver-under-destination-order-requires :
     tie.Need-should-deliver-under-destination-order-requires
 should-deliver-under-destination-order-requires c κs = search needs
 
-decision-answer-requires : tie.Need-decision-answer-requires
-decision-answer-requires c κs = search needs
-
-tell-requires : tie.Need-tell-requires
-tell-requires c κs = search needs
-
-same-length : tie.Need-same-length
-same-length c = search needs
-
 returns : tie.Need-returns
 returns c =
     let t = c .before .before in
@@ -39,9 +30,5 @@ returns c =
 pub dcps-should-deliver-under-destination-order-spec : {M : Type 1} → statement M
 dcps-should-deliver-under-destination-order-spec =
     tie.close
-    (tie.spec
-    should-deliver-under-destination-order-requires
-    decision-answer-requires
-    tell-requires
-    same-length
-    returns)
+    (tie.spec should-deliver-under-destination-order-requires (λ c κs. search needs) (λ c κs. search needs)
+    (λ c. search needs) returns)

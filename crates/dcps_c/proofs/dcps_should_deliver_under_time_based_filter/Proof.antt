@@ -1,4 +1,4 @@
--- `dcps_should_deliver_under_time_based_filter` meets its contract. Assumes nothing.
+-- `dcps_should_deliver_under_time_based_filter` meets its contract.
 use mathlib.Core.Path.{ap, _∙_}
 use borrow.Author.Needs.{needs}
 use lib.IntN.{ℤ}
@@ -16,15 +16,6 @@ should-deliver-under-time-based-filter-requires :
     tie.Need-should-deliver-under-time-based-filter-requires
 should-deliver-under-time-based-filter-requires c κs = search needs
 
-decision-answer-requires : tie.Need-decision-answer-requires
-decision-answer-requires c κs = search needs
-
-tell-requires : tie.Need-tell-requires
-tell-requires c κs = search needs
-
-same-length : tie.Need-same-length
-same-length c = search needs
-
 returns : tie.Need-returns
 returns c =
     let t = c .before .before in
@@ -37,9 +28,5 @@ returns c =
 pub dcps-should-deliver-under-time-based-filter-spec : {M : Type 1} → statement M
 dcps-should-deliver-under-time-based-filter-spec =
     tie.close
-    (tie.spec
-    should-deliver-under-time-based-filter-requires
-    decision-answer-requires
-    tell-requires
-    same-length
-    returns)
+    (tie.spec should-deliver-under-time-based-filter-requires (λ c κs. search needs) (λ c κs. search needs)
+    (λ c. search needs) returns)

@@ -1,4 +1,4 @@
--- `dcps_wire_nanos` meets its contract. Assumes nothing.
+-- `dcps_wire_nanos` meets its contract.
 use mathlib.Core.Path.{ap, _∙_}
 use borrow.Author.Needs.{needs}
 use Rattle.boundary_reads.specs.WireAnswers.{nanosAnswer}

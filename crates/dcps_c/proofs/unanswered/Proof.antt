@@ -1,4 +1,4 @@
--- `unanswered` meets its contract. Assumes nothing.
+-- `unanswered` meets its contract.
 use mathlib.Core.Path.{sym, _∙_}
 use borrow.Author.Needs.{needs}
 use Rattle.dcps_c.proofs.HeadReads.{unanswered-short, unanswered-one, unanswered-three}
@@ -7,12 +7,6 @@ use Rattle.dcps_c.proofs.unanswered.Tie as tie
 
 returns : tie.Need-returns
 returns c = unanswered-short (c .before .before .args .head .now) (c .if1 .taken)
-
-get-u16-requires : tie.Need-get-u16-requires
-get-u16-requires c κs = search needs
-
-figure-ok-requires : tie.Need-figure-ok-requires
-figure-ok-requires c κs = search needs
 
 returns-2 : tie.Need-returns-2
 returns-2 c =
@@ -27,4 +21,4 @@ returns-3 c =
     (sym (c .before .figure-ok .ensures) ∙ c .if2 .left)
 
 pub unanswered-spec : {M : Type 1} → statement M
-unanswered-spec = tie.close (tie.spec returns get-u16-requires figure-ok-requires returns-2 returns-3)
+unanswered-spec = tie.close (tie.spec returns (λ c κs. search needs) (λ c κs. search needs) returns-2 returns-3)

@@ -1,4 +1,4 @@
--- `is_less` meets its contract: the high halves decide, and where they agree the low ones. Assumes nothing.
+-- `is_less` meets its contract: the high halves decide, and where they agree the low ones.
 use Prim.Native.Nat.{_^_}
 use mathlib.Core.Path.{sym}
 use native.Mathlib.Nat.{le-of-lt}

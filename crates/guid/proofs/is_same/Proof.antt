@@ -1,4 +1,4 @@
--- `is_same` meets its contract: equal numbers have equal halves. Assumes nothing.
+-- `is_same` meets its contract: equal numbers have equal halves.
 use Prim.Native.Nat.{_^_}
 use mathlib.Core.Path.{sym}
 use native.Mathlib.Omega.{arith}

@@ -1,4 +1,4 @@
--- `same_prefix` meets its contract: a prefix is the high half and 4 bytes of the low one. Assumes nothing.
+-- `same_prefix` meets its contract: a prefix is the high half and 4 bytes of the low one.
 use Prim.Native.Nat.{_/_, _^_}
 use mathlib.Core.Path.{sym}
 use native.Mathlib.Omega.{arith}

@@ -1,6 +1,6 @@
 -- `handle_allocator::allocate` meets its contract: a walk of its MIR, by hand. The borrow is opened, the counter is read and passed to
 -- `allocate_step`, the new counter is written, and the borrow is closed at the record with it. Of `allocate_step` the proof knows
--- only its contract. Assumes nothing.
+-- only its contract.
 use mathlib.Core.Path.{_≡_, refl, ap}
 use Prim.Native.Nat.{ℕ, _<_, _^_}
 use mathlib.Core.List.{[], _∷_, List}

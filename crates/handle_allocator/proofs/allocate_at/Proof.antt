@@ -1,6 +1,5 @@
 -- `handle_allocator::allocate_at` meets its contract: a walk of its MIR, by hand. The struct is made in a local, which is lent to `allocate`
 -- for a lifetime that is made for the call; the lifetime is ended, the local is taken back at its last value, and its field is read.
--- Assumes nothing.
 use mathlib.Core.Path.{_≡_, refl, ap}
 use Prim.Native.Nat.{ℕ, _<_, _^_}
 use mathlib.Core.List.{[], _∷_, List}

@@ -1,4 +1,4 @@
--- `instance_turn` meets its contract: refused by its sheet, on every instance, or on one. Assumes nothing.
+-- `instance_turn` meets its contract: refused by its sheet, on every instance, or on one.
 use mathlib.Core.Path.{sym, _∙_}
 use native.Mathlib.Omega.{arith}
 use borrow.Author.Needs.{needs}
@@ -7,12 +7,6 @@ use Rattle.instance_calls.proofs.Turns.{refused-judged, every-judged, s
 use Rattle.instance_calls.proofs.instance_turn.Statement.{statement}
 use Rattle.instance_calls.proofs.instance_turn.Tie as tie
 
-instance-refusal-requires : tie.Need-instance-refusal-requires
-instance-refusal-requires c κs = search needs
-
-refused-requires : tie.Need-refused-requires
-refused-requires c κs = search needs
-
 returns : tie.Need-returns
 returns c =
     let d = c .before .before in
@@ -20,17 +14,11 @@ returns c =
     refused-judged (a .places) (a .c) (a .s) (a .head) (a .pens .now) (a .out .now) (d .instance-refusal .result) (d .instance-refusal .ensures)
     (λ z. omega (arith, z, c .before .if1 .taken)) (c .refused .result) (c .refused .ensures)
 
-on-every-requires : tie.Need-on-every-requires
-on-every-requires c κs = search needs
-
 every-call-requires : tie.Need-every-call-requires
 every-call-requires c κs =
     let e = c .before .before in
     let s = e .before .before .before .before .before .before .before in
     (record { few = s .pre .0; size = s .pre .1; formed = s .pre .3 }, omega (arith, s .pre .2), sym (e .before .on-every .ensures) ∙ e .if2 .taken)
-
-with-instances-requires : tie.Need-with-instances-requires
-with-instances-requires c κs = search needs
 
 same-length : tie.Need-same-length
 same-length c = c .before .before .before .before .before .before .before .every-call .kept .1 .1 .0
@@ -52,9 +40,6 @@ single-call-requires c κs =
     let s = e .before .before .before .before .before .before .before in
     (record { few = s .pre .0; size = s .pre .1; formed = s .pre .3 }, by-reach (rule (s .args .c) .reach) (sym (e .before .on-every .ensures) ∙ e .if2 .left))
 
-with-instances-requires-2 : tie.Need-with-instances-requires-2
-with-instances-requires-2 c κs = search needs
-
 same-length-3 : tie.Need-same-length-3
 same-length-3 c = c .before .before .before .before .before .single-call .kept .1 .1 .0
 
@@ -69,17 +54,6 @@ returns-3 c =
 pub instance-turn-spec : {M : Type 1} → statement M
 instance-turn-spec =
     tie.close
-    (tie.spec
-    instance-refusal-requires
-    refused-requires
-    returns
-    on-every-requires
-    every-call-requires
-    with-instances-requires
-    same-length
-    same-length-2
-    returns-2
-    single-call-requires
-    with-instances-requires-2
-    same-length-3
-    returns-3)
+    (tie.spec (λ c κs. search needs) (λ c κs. search needs) returns (λ c κs. search needs) every-call-requires
+    (λ c κs. search needs) same-length same-length-2 returns-2 single-call-requires (λ c κs. search needs)
+    same-length-3 returns-3)

@@ -1,16 +1,8 @@
--- `on_every` meets its contract: by the call's row. Assumes nothing.
+-- `on_every` meets its contract: by the call's row.
 use borrow.Author.Needs.{needs}
 use Rattle.instance_calls.proofs.on_every.Statement.{statement}
 use Rattle.instance_calls.proofs.on_every.Tie as tie
 
-rule-of-requires : tie.Need-rule-of-requires
-rule-of-requires c κs = search needs
-
-is-every-requires : tie.Need-is-every-requires
-is-every-requires c κs = search needs
-
-returns : tie.Need-returns
-returns c = rw (← c .before .rule-of .ensures) (c .is-every .ensures)
-
 pub on-every-spec : {M : Type 1} → statement M
-on-every-spec = tie.close (tie.spec rule-of-requires is-every-requires returns)
+on-every-spec = tie.close (tie.spec (λ c κs. search needs) (λ c κs. search needs)
+    (λ c. rw (← c .before .rule-of .ensures) (c .is-every .ensures)))

@@ -1,4 +1,4 @@
--- `clear_owner` meets its contract. Assumes nothing.
+-- `clear_owner` meets its contract.
 use Prim.Native.Nat.{_/_, _%_}
 use native.Mathlib.Omega.{arith}
 use borrow.Author.Tests.{eqb-true}
@@ -17,38 +17,13 @@ returns c =
     cleared-by (k .before .before .before .args .s .now) (a .put-u64 .last .0) (b .put-u642 .last .0) (d .put-u32 .last .0) (c .before .before .put-u16 .last .0) (k .get-u16 .result)
     (k .get-u16 .ensures) (a .put-u64 .ensures) (b .put-u642 .ensures) (d .put-u32 .ensures) (c .before .before .put-u16 .ensures)
 
-get-u16-requires : tie.Need-get-u16-requires
-get-u16-requires c κs = search needs
-
-put-u64-requires : tie.Need-put-u64-requires
-put-u64-requires c κs = search needs
-
-put-u64-requires-2 : tie.Need-put-u64-requires-2
-put-u64-requires-2 c κs = search needs
-
-put-u32-requires : tie.Need-put-u32-requires
-put-u32-requires c κs = search needs
-
 sub-put-u16 : tie.Need-sub-put-u16
 sub-put-u16 c =
     let k = c .before .before .before .before .before .before .before .before .before .before .before .before .before .before .before .before in
     omega (arith, eqb-true (flagsAt (k .args .s .now) / 128 % 2) 1 (k .pre .1), c .before .before .before .before .before .before .before .before .before .before .before .before .before .get-u16 .ensures)
 
-put-u16-requires : tie.Need-put-u16-requires
-put-u16-requires c κs = search needs
-
-same-length : tie.Need-same-length
-same-length c = search needs
-
 pub clear-owner-spec : {M : Type 1} → statement M
 clear-owner-spec =
     tie.close
-    (tie.spec
-    get-u16-requires
-    put-u64-requires
-    put-u64-requires-2
-    put-u32-requires
-    sub-put-u16
-    put-u16-requires
-    same-length
-    returns)
+    (tie.spec (λ c κs. search needs) (λ c κs. search needs) (λ c κs. search needs) (λ c κs. search needs) sub-put-u16
+    (λ c κs. search needs) (λ c. search needs) returns)

@@ -1,4 +1,4 @@
--- `is_before` meets its contract. Assumes nothing.
+-- `is_before` meets its contract.
 use Prim.Native.Nat.{ℕ, _+_}
 use mathlib.Core.Path.{sym, ap, _∙_}
 use native.Mathlib.Omega.{arith}
@@ -22,15 +22,6 @@ returns-2 c =
     ap (λ (n : ℕ). ltb n (k .args .g .lo)) (c .before .get-u642 .ensures)
     ∙ sym (less-low (guidAt (k .args .s .now) (k .args .at)) (k .args .g) (sym (c .before .before .before .before .get-u64 .ensures) ∙ omega arith))
 
-get-u64-requires : tie.Need-get-u64-requires
-get-u64-requires c κs = search needs
-
-add-get-u64 : tie.Need-add-get-u64
-add-get-u64 c = search needs
-
-get-u64-requires-2 : tie.Need-get-u64-requires-2
-get-u64-requires-2 c κs = search needs
-
 pub is-before-spec : {M : Type 1} → statement M
 is-before-spec =
-    tie.close (tie.spec get-u64-requires returns add-get-u64 get-u64-requires-2 returns-2)
+    tie.close (tie.spec (λ c κs. search needs) returns (λ c. search needs) (λ c κs. search needs) returns-2)

@@ -1,4 +1,4 @@
--- `is_behind` meets its contract. Assumes nothing.
+-- `is_behind` meets its contract.
 use Prim.Native.Nat.{ℕ, _+_}
 use mathlib.Core.Path.{sym, ap, _∙_}
 use native.Mathlib.Omega.{arith}
@@ -22,15 +22,6 @@ returns-2 c =
     ap (λ (n : ℕ). ltb (k .args .g .lo) n) (c .before .get-u642 .ensures)
     ∙ sym (less-low (k .args .g) (guidAt (k .args .s .now) (k .args .at)) (omega arith ∙ c .before .before .before .before .get-u64 .ensures))
 
-get-u64-requires : tie.Need-get-u64-requires
-get-u64-requires c κs = search needs
-
-add-get-u64 : tie.Need-add-get-u64
-add-get-u64 c = search needs
-
-get-u64-requires-2 : tie.Need-get-u64-requires-2
-get-u64-requires-2 c κs = search needs
-
 pub is-behind-spec : {M : Type 1} → statement M
 is-behind-spec =
-    tie.close (tie.spec get-u64-requires returns add-get-u64 get-u64-requires-2 returns-2)
+    tie.close (tie.spec (λ c κs. search needs) returns (λ c. search needs) (λ c κs. search needs) returns-2)

@@ -1,4 +1,4 @@
--- `leave_writerless` meets its contract. Assumes nothing.
+-- `leave_writerless` meets its contract.
 use native.Mathlib.Omega.{arith}
 use Rattle.instance_edits.proofs.RecordEdits.{given-by, silent-by}
 use borrow.Author.Needs.{needs}
@@ -23,53 +23,9 @@ returns-2 c =
     let k = c .before .before .before .before .before .before in
     silent-by (k .args .at) (k .args .s .now) (k .args .f) (c .before .before .put-u162 .last .0) (c .before .before .before .before .if1 .left) (c .before .before .put-u162 .ensures)
 
-add-g : tie.Need-add-g
-add-g c = search needs
-
-with-bit-requires : tie.Need-with-bit-requires
-with-bit-requires c κs = search needs
-
-with-bit-requires-2 : tie.Need-with-bit-requires-2
-with-bit-requires-2 c κs = omega arith
-
-put-u16-requires : tie.Need-put-u16-requires
-put-u16-requires c κs = search needs
-
-put-u32-requires : tie.Need-put-u32-requires
-put-u32-requires c κs = search needs
-
-put-u32-requires-2 : tie.Need-put-u32-requires-2
-put-u32-requires-2 c κs = search needs
-
-put-u32-requires-3 : tie.Need-put-u32-requires-3
-put-u32-requires-3 c κs = search needs
-
-put-u32-requires-4 : tie.Need-put-u32-requires-4
-put-u32-requires-4 c κs = search needs
-
-same-length : tie.Need-same-length
-same-length c = search needs
-
-put-u16-requires-2 : tie.Need-put-u16-requires-2
-put-u16-requires-2 c κs = search needs
-
-same-length-2 : tie.Need-same-length-2
-same-length-2 c = search needs
-
 pub leave-writerless-spec : {M : Type 1} → statement M
 leave-writerless-spec =
     tie.close
-    (tie.spec
-    add-g
-    with-bit-requires
-    with-bit-requires-2
-    put-u16-requires
-    put-u32-requires
-    put-u32-requires-2
-    put-u32-requires-3
-    put-u32-requires-4
-    same-length
-    returns
-    put-u16-requires-2
-    same-length-2
-    returns-2)
+    (tie.spec (λ c. search needs) (λ c κs. search needs) (λ c κs. omega arith) (λ c κs. search needs)
+    (λ c κs. search needs) (λ c κs. search needs) (λ c κs. search needs) (λ c κs. search needs) (λ c. search needs)
+    returns (λ c κs. search needs) (λ c. search needs) returns-2)

@@ -1,4 +1,4 @@
--- `owner_apart` meets its contract. Assumes nothing.
+-- `owner_apart` meets its contract.
 use mathlib.Core.Logic.{inl, inr}
 use mathlib.Core.Path.{sym, _∙_}
 use borrow.Author.Tests.{ltb-true}
@@ -16,11 +16,5 @@ returns-2 : tie.Need-returns-2
 unfolding instanceOf
 returns-2 c r = let k = c .before .before .before .before .before .before in inr (ltb-true (num (k .args .w .high)) (num (guidAt (k .args .s .now) 92)) (sym (c .is-behind .ensures) ∙ r))
 
-is-before-requires : tie.Need-is-before-requires
-is-before-requires c κs = search needs
-
-is-behind-requires : tie.Need-is-behind-requires
-is-behind-requires c κs = search needs
-
 pub owner-apart-spec : {M : Type 1} → statement M
-owner-apart-spec = tie.close (tie.spec is-before-requires returns is-behind-requires returns-2)
+owner-apart-spec = tie.close (tie.spec (λ c κs. search needs) returns (λ c κs. search needs) returns-2)

@@ -1,4 +1,4 @@
--- `owner_listed` meets its contract. Assumes nothing.
+-- `owner_listed` meets its contract.
 use Prim.Native.Nat.{ℕ, _/_, _%_}
 use mathlib.Core.Path.{sym, ap, _∙_}
 use native.Mathlib.Omega.{arith}
@@ -36,30 +36,8 @@ returns-3 c =
     (eq-eqb (flagsAt (k .args .s .now) / 128 % 2) 1 (omega (arith, c .before .before .before .before .before .get-u16 .ensures))) (k .pre .1 .rises)
     (ap (λ (g : Guid). foundIn (keys 16 n (k .args .gone .now)) (num g)) (sym (c .before .before .before .guid-at .ensures)) ∙ sym (c .before .before .find-listed .ensures) ∙ c .enum-told2 .given .1)
 
-get-u16-requires : tie.Need-get-u16-requires
-get-u16-requires c κs = search needs
-
-guid-at-requires : tie.Need-guid-at-requires
-guid-at-requires c κs = search needs
-
-find-listed-requires : tie.Need-find-listed-requires
-find-listed-requires c κs = search needs
-
-enum-told : tie.Need-enum-told
-enum-told c = search needs
-
-enum-told-2 : tie.Need-enum-told-2
-enum-told-2 c = search needs
-
 pub owner-listed-spec : {M : Type 1} → statement M
 owner-listed-spec =
     tie.close
-    (tie.spec
-    get-u16-requires
-    returns
-    guid-at-requires
-    find-listed-requires
-    enum-told
-    enum-told-2
-    returns-2
-    returns-3)
+    (tie.spec (λ c κs. search needs) returns (λ c κs. search needs) (λ c κs. search needs) (λ c. search needs)
+    (λ c. search needs) returns-2 returns-3)

@@ -1,4 +1,4 @@
--- `owner_of_prefix` meets its contract. Assumes nothing.
+-- `owner_of_prefix` meets its contract.
 use Prim.Native.Nat.{ℕ, _/_, _%_, _^_}
 use mathlib.Core.Path.{sym, ap, _∙_}
 use native.Mathlib.Omega.{arith}
@@ -26,16 +26,7 @@ returns-3 c =
     ∙ participant-same (k .args .s .now) (k .args .g) (sym (c .before .before .before .before .before .before .get-u64 .ensures) ∙ omega arith)
     (ap (λ (n : ℕ). n / 2 ^ 32) (sym (c .before .before .before .get-u642 .ensures)) ∙ omega arith)
 
-get-u64-requires : tie.Need-get-u64-requires
-get-u64-requires c κs = search needs
-
-get-u64-requires-2 : tie.Need-get-u64-requires-2
-get-u64-requires-2 c κs = search needs
-
-get-u16-requires : tie.Need-get-u16-requires
-get-u16-requires c κs = search needs
-
 pub owner-of-prefix-spec : {M : Type 1} → statement M
 owner-of-prefix-spec =
     tie.close
-    (tie.spec get-u64-requires returns get-u64-requires-2 returns-2 get-u16-requires returns-3)
+    (tie.spec (λ c κs. search needs) returns (λ c κs. search needs) returns-2 (λ c κs. search needs) returns-3)

@@ -1,4 +1,4 @@
--- `put_strength` meets its contract. Assumes nothing.
+-- `put_strength` meets its contract.
 use Prim.Native.Nat.{ℕ}
 use mathlib.Core.List.{List}
 use mathlib.Core.Path.{ap, _∙_}
@@ -13,11 +13,5 @@ returns c x e =
     let v : ℕ = c .before .before .before .before .before .args .strength in
     c .before .before .put-u32 .ensures ∙ ap (λ (r : List ℕ). put 4 r 108 v) e ∙ strengthened x v
 
-put-u32-requires : tie.Need-put-u32-requires
-put-u32-requires c κs = search needs
-
-same-length : tie.Need-same-length
-same-length c = search needs
-
 pub put-strength-spec : {M : Type 1} → statement M
-put-strength-spec = tie.close (tie.spec put-u32-requires same-length returns)
+put-strength-spec = tie.close (tie.spec (λ c κs. search needs) (λ c. search needs) returns)

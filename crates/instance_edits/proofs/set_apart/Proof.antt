@@ -1,4 +1,4 @@
--- `set_apart` meets its contract. Assumes nothing.
+-- `set_apart` meets its contract.
 use mathlib.Core.Path.{sym, _∙_}
 use native.Mathlib.Omega.{arith}
 use Rattle.instance_edits.proofs.RecordReads.{apart-high, apart-low, apart-none, few-writers}
@@ -15,21 +15,6 @@ returns-2 c r = let k = c .before .before .before .before .before .before in apa
 returns-3 : tie.Need-returns-3
 returns-3 c r = let k = c .before .before .before .before .before .before .before .before in apart-low (k .args .s .now) (k .pre) (k .args .w) (omega arith) (rw (← c .before .before .before .get-u16 .ensures) (sym (c .is-before .ensures) ∙ r))
 
-is-behind-requires : tie.Need-is-behind-requires
-is-behind-requires c κs = search needs
-
-get-u16-requires : tie.Need-get-u16-requires
-get-u16-requires c κs = search needs
-
-cast-n : tie.Need-cast-n
-cast-n c = search needs
-
-mul-is-before : tie.Need-mul-is-before
-mul-is-before c = search needs
-
-add-is-before : tie.Need-add-is-before
-add-is-before c = search needs
-
 is-before-requires : tie.Need-is-before-requires
 is-before-requires c κs =
     let k = c .before .before .before .before .before .before .before in omega (arith, few-writers (k .args .s .now) (k .pre), c .before .before .get-u16 .ensures, k .pre .size)
@@ -37,13 +22,5 @@ is-before-requires c κs =
 pub set-apart-spec : {M : Type 1} → statement M
 set-apart-spec =
     tie.close
-    (tie.spec
-    is-behind-requires
-    returns
-    get-u16-requires
-    cast-n
-    returns-2
-    mul-is-before
-    add-is-before
-    is-before-requires
-    returns-3)
+    (tie.spec (λ c κs. search needs) returns (λ c κs. search needs) (λ c. search needs) returns-2 (λ c. search needs)
+    (λ c. search needs) is-before-requires returns-3)

@@ -1,4 +1,4 @@
--- `with_bit` meets its contract. Assumes nothing.
+-- `with_bit` meets its contract.
 use Prim.Native.Nat.{_/_, _%_}
 use native.Mathlib.Omega.{arith}
 use borrow.Author.Tests.{eq-eqb, ne-eqb}
@@ -15,11 +15,5 @@ returns-2 : tie.Need-returns-2
 unfolding withBit
 returns-2 c = (rw (ne-eqb _ 1 (c .if1 .left)), omega arith)
 
-div-if1 : tie.Need-div-if1
-div-if1 c = search needs
-
-add-result : tie.Need-add-result
-add-result c = search needs
-
 pub with-bit-spec : {M : Type 1} → statement M
-with-bit-spec = tie.close (tie.spec div-if1 add-result returns returns-2)
+with-bit-spec = tie.close (tie.spec (λ c. search needs) (λ c. search needs) returns returns-2)

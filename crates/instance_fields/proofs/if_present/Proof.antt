@@ -1,13 +1,7 @@
--- An absent time is zeros. Assumes nothing.
+-- An absent time is zeros.
 use borrow.Author.Needs.{needs}
 use Rattle.instance_fields.proofs.if_present.Statement.{statement}
 use Rattle.instance_fields.proofs.if_present.Tie as tie
 
-returns : tie.Need-returns
-returns c = search needs
-
-returns-2 : tie.Need-returns-2
-returns-2 c = rw (c .if1 .left)
-
 pub if-present-spec : {M : Type 1} → statement M
-if-present-spec = tie.close (tie.spec returns returns-2)
+if-present-spec = tie.close (tie.spec (λ c. search needs) (λ c. rw (c .if1 .left)))

@@ -1,35 +1,8 @@
--- Alive again, with one generation more. Assumes nothing.
+-- Alive again, with one generation more.
 use Rattle.model.specs.Instances.{revived}
 use borrow.Author.Needs.{needs}
 use Rattle.instance_fields.proofs.revived.Statement.{statement}
 use Rattle.instance_fields.proofs.revived.Tie as tie
-
-enum-told : tie.Need-enum-told
-enum-told c = search needs
-
-enum-told-2 : tie.Need-enum-told-2
-enum-told-2 c = search needs
-
-generation-after-requires : tie.Need-generation-after-requires
-generation-after-requires c κs = search needs
-
-with-generations-requires : tie.Need-with-generations-requires
-with-generations-requires c κs = search needs
-
-with-kind-requires : tie.Need-with-kind-requires
-with-kind-requires c κs = search needs
-
-enum-told-3 : tie.Need-enum-told-3
-enum-told-3 c = search needs
-
-generation-after-requires-2 : tie.Need-generation-after-requires-2
-generation-after-requires-2 c κs = search needs
-
-with-generations-requires-2 : tie.Need-with-generations-requires-2
-with-generations-requires-2 c κs = search needs
-
-with-kind-requires-2 : tie.Need-with-kind-requires-2
-with-kind-requires-2 c κs = search needs
 
 returns : tie.Need-returns
 unfolding revived
@@ -50,16 +23,6 @@ returns-3 c =
 pub revived-spec : {M : Type 1} → statement M
 revived-spec =
     tie.close
-    (tie.spec
-    enum-told
-    enum-told-2
-    generation-after-requires
-    with-generations-requires
-    with-kind-requires
-    enum-told-3
-    generation-after-requires-2
-    with-generations-requires-2
-    with-kind-requires-2
-    returns
-    returns-2
-    returns-3)
+    (tie.spec (λ c. search needs) (λ c. search needs) (λ c κs. search needs) (λ c κs. search needs)
+    (λ c κs. search needs) (λ c. search needs) (λ c κs. search needs) (λ c κs. search needs) (λ c κs. search needs)
+    returns returns-2 returns-3)

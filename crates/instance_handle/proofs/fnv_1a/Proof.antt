@@ -1,5 +1,5 @@
 -- `instance_handle::fnv_1a` meets its contract. The loop's invariant: the hash so far, over what is left, is the whole
--- hash. Assumes nothing.
+-- hash.
 use Prim.Native.Nat.{ℕ, _≤_, _-_, _+_}
 use mathlib.Core.Path.{_≡_, refl, sym, ap, _∙_}
 use native.Mathlib.Omega.{arith}
@@ -16,21 +16,6 @@ Inv-loop bytes hash₀ i₀ hash i = (i ≤ length bytes) × (fnvFrom hash (drop
 abbrev μ-loop : tie.MeasureT-loop
 μ-loop bytes hash₀ i₀ hash i = length bytes - i
 
-loop-holds : tie.Need-loop-holds Inv-loop μ-loop
-loop-holds c = (omega arith, refl)
-
-shared-slice-read-fnv-step : tie.Need-shared-slice-read-fnv-step Inv-loop μ-loop
-shared-slice-read-fnv-step c = search needs
-
-fnv-step-requires : tie.Need-fnv-step-requires Inv-loop μ-loop
-fnv-step-requires c κs = search needs
-
-add-i : tie.Need-add-i Inv-loop μ-loop
-add-i c = search needs
-
-loop-less : tie.Need-loop-less Inv-loop μ-loop
-loop-less c = search needs
-
 loop-again : tie.Need-loop-again Inv-loop μ-loop
 loop-again c =
     let s = c .before .before .before .before .before .args .bytes .now in
@@ -46,13 +31,5 @@ returns c =
 pub fnv-1a-spec : {M : Type 1} → statement M
 fnv-1a-spec =
     tie.close
-    (tie.spec
-    Inv-loop
-    μ-loop
-    loop-holds
-    shared-slice-read-fnv-step
-    fnv-step-requires
-    add-i
-    loop-less
-    loop-again
-    returns)
+    (tie.spec Inv-loop μ-loop (λ c. (omega arith, refl)) (λ c. search needs) (λ c κs. search needs)
+    (λ c. search needs) (λ c. search needs) loop-again returns)

@@ -1,20 +1,12 @@
--- An alive instance whose set is empty. Assumes nothing.
+-- An alive instance whose set is empty.
 use mathlib.Core.Path.{sym, _∙_}
 use borrow.Author.Needs.{needs}
 use Rattle.instance_lifecycle.proofs.is_writerless.Statement.{statement}
 use Rattle.instance_lifecycle.proofs.is_writerless.Tie as tie
 
-is-empty-requires : tie.Need-is-empty-requires
-is-empty-requires c κs = search needs
-
-is-alive-requires : tie.Need-is-alive-requires
-is-alive-requires c κs = search needs
-
 returns : tie.Need-returns
 returns c = rw (sym (c .before .before .is-empty .ensures) ∙ c .before .if1 .taken) (c .is-alive .ensures)
 
-returns-2 : tie.Need-returns-2
-returns-2 c = rw (sym (c .before .is-empty .ensures) ∙ c .if1 .left)
-
 pub is-writerless-spec : {M : Type 1} → statement M
-is-writerless-spec = tie.close (tie.spec is-empty-requires is-alive-requires returns returns-2)
+is-writerless-spec = tie.close (tie.spec (λ c κs. search needs) (λ c κs. search needs) returns
+    (λ c. rw (sym (c .before .is-empty .ensures) ∙ c .if1 .left)))

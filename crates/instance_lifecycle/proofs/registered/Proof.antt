@@ -1,32 +1,8 @@
--- Code 1. Assumes nothing.
+-- Code 1.
 use Rattle.model.specs.Instances.{registered}
 use borrow.Author.Needs.{needs}
 use Rattle.instance_lifecycle.proofs.registered.Statement.{statement}
 use Rattle.instance_lifecycle.proofs.registered.Tie as tie
-
-saturating-add-u32-requires : tie.Need-saturating-add-u32-requires
-saturating-add-u32-requires c κs = search needs
-
-revived-requires : tie.Need-revived-requires
-revived-requires c κs = search needs
-
-with-writer-count-requires : tie.Need-with-writer-count-requires
-with-writer-count-requires c κs = search needs
-
-with-life-requires : tie.Need-with-life-requires
-with-life-requires c κs = search needs
-
-stored-requires : tie.Need-stored-requires
-stored-requires c κs = search needs
-
-with-holder-requires : tie.Need-with-holder-requires
-with-holder-requires c κs = search needs
-
-if-present-requires : tie.Need-if-present-requires
-if-present-requires c κs = search needs
-
-sampled-at-requires : tie.Need-sampled-at-requires
-sampled-at-requires c κs = search needs
 
 returns : tie.Need-returns
 unfolding registered
@@ -40,13 +16,5 @@ returns c =
 pub registered-spec : {M : Type 1} → statement M
 registered-spec =
     tie.close
-    (tie.spec
-    saturating-add-u32-requires
-    revived-requires
-    with-writer-count-requires
-    with-life-requires
-    stored-requires
-    with-holder-requires
-    if-present-requires
-    sampled-at-requires
-    returns)
+    (tie.spec (λ c κs. search needs) (λ c κs. search needs) (λ c κs. search needs) (λ c κs. search needs)
+    (λ c κs. search needs) (λ c κs. search needs) (λ c κs. search needs) (λ c κs. search needs) returns)

@@ -1,4 +1,4 @@
--- Code 5. Assumes nothing.
+-- Code 5.
 use mathlib.Core.Path.{sym, ap, _∙_}
 use Rattle.model.specs.declared.InstanceState.{InstanceState}
 use Rattle.model.specs.Instances.{sampledAt, writerUnregistered}
@@ -7,17 +7,8 @@ use borrow.Author.Needs.{needs}
 use Rattle.instance_lifecycle.proofs.writer_unregistered.Statement.{statement}
 use Rattle.instance_lifecycle.proofs.writer_unregistered.Tie as tie
 
-without-requires : tie.Need-without-requires
-without-requires c κs = search needs
-
 is-writerless-requires : tie.Need-is-writerless-requires
 is-writerless-requires c κs = let s = c .before in without-sound (s .args .g) (s .args .x) (c .without .result) (c .without .ensures) (s .pre)
-
-writerless-requires : tie.Need-writerless-requires
-writerless-requires c κs = search needs
-
-sampled-at-requires : tie.Need-sampled-at-requires
-sampled-at-requires c κs = search needs
 
 returns : tie.Need-returns
 unfolding writerUnregistered
@@ -27,9 +18,6 @@ returns c =
     let t = sym (without-left (s .args .g) (s .args .x) (k .without .result) (k .without .ensures)) ∙ sym
     (c .before .before .before .is-writerless .ensures) ∙ c .before .before .if1 .taken in
     rw (t, c .sampled-at .ensures, c .before .writerless .ensures, k .without .ensures)
-
-sampled-at-requires-2 : tie.Need-sampled-at-requires-2
-sampled-at-requires-2 c κs = search needs
 
 returns-2 : tie.Need-returns-2
 unfolding writerUnregistered
@@ -43,11 +31,5 @@ returns-2 c =
 pub writer-unregistered-spec : {M : Type 1} → statement M
 writer-unregistered-spec =
     tie.close
-    (tie.spec
-    without-requires
-    is-writerless-requires
-    writerless-requires
-    sampled-at-requires
-    returns
-    sampled-at-requires-2
-    returns-2)
+    (tie.spec (λ c κs. search needs) is-writerless-requires (λ c κs. search needs) (λ c κs. search needs) returns
+    (λ c κs. search needs) returns-2)

@@ -1,8 +1,8 @@
--- The set without the writers of the list, then the flags. Assumes nothing.
+-- The set without the writers of the list, then the flags.
 use Prim.Native.Nat.{ℕ, _%_}
 use mathlib.Core.Path.{ap}
 use native.Mathlib.Omega.{arith}
-use Rattle.instance_sets.specs.Lists.{gonesIn}
+use Rattle.writer_set_bytes.specs.Lists.{gonesIn}
 use Rattle.instance_loss.proofs.Dropping.{part-filled, flags-stay, count-few, dropped-left}
 use borrow.Author.Needs.{needs}
 use Rattle.instance_loss.proofs.drop_listed.Statement.{statement}
@@ -14,31 +14,16 @@ returns c =
     let a = s .args in
     let k = c .before .before .before .before .before .before .keep-others in
     let v = c .before .before .before .before .before .before .before .before .get-u16 in
-    let t = c .before .before .settle in
+    let t = c .before .before .write-remainder in
     dropped-left (a .s .now) (λ j. c .before .before .before .before .before .before .before .before .before .before .before .slice-known .given j .fits) (s .pre .0) (v .result) (k .result) (gonesIn (a .gone .now)) (k .last .0) (v .ensures) (k .ensures .0) (k .ensures .1) (a .at) (t .last .0) (t .result) (t .ensures)
-
-get-u16-requires : tie.Need-get-u16-requires
-get-u16-requires c κs = search needs
-
-cast-n : tie.Need-cast-n
-cast-n c = search needs
-
-sub-keep-others : tie.Need-sub-keep-others
-sub-keep-others c = search needs
-
-part-keep-others-start : tie.Need-part-keep-others-start
-part-keep-others-start c = search needs
-
-part-keep-others-end : tie.Need-part-keep-others-end
-part-keep-others-end c = search needs
 
 keep-others-requires : tie.Need-keep-others-requires
 keep-others-requires c κs =
     let s = c .before .before .before .before .before in
     (part-filled (s .args .s .now) (λ j. c .before .before .before .before .slice-known .given j .fits) (s .pre .0) _ (c .before .get-u16 .ensures), s .pre .1)
 
-settle-requires : tie.Need-settle-requires
-settle-requires c κs =
+write-remainder-requires : tie.Need-write-remainder-requires
+write-remainder-requires c κs =
     let s = c .before .before .before .before .before .before .before .before .before in
     let a = s .args in
     let k = c .before .before .before .keep-others in
@@ -49,19 +34,8 @@ settle-requires c κs =
       count-few (a .s .now) (λ j. c .before .before .before .before .before .before .before .before .slice-known .given j .fits) (s .pre .0) (v .result) (k .result) g (k .last .0) (v .ensures) (k .ensures .0) (k .ensures .1),
     )
 
-same-length : tie.Need-same-length
-same-length c = search needs
-
 pub drop-listed-spec : {M : Type 1} → statement M
 drop-listed-spec =
     tie.close
-    (tie.spec
-    get-u16-requires
-    cast-n
-    sub-keep-others
-    part-keep-others-start
-    part-keep-others-end
-    keep-others-requires
-    settle-requires
-    same-length
-    returns)
+    (tie.spec (λ c κs. search needs) (λ c. search needs) (λ c. search needs) (λ c. search needs) (λ c. search needs)
+    keep-others-requires write-remainder-requires (λ c. search needs) returns)

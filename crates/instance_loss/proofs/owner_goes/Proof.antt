@@ -1,9 +1,9 @@
--- An owner apart from the span is not in the list. Assumes nothing.
+-- An owner apart from the span is not in the list.
 use mathlib.Core.Bool.{Bool, true, _&&_}
 use mathlib.Core.Path.{_≡_, _∙_}
 use borrow.Author.Tests.{not-true, not-false}
 use Rattle.model.specs.InstanceRecord.{instanceOf}
-use Rattle.instance_sets.specs.Lists.{gonesIn}
+use Rattle.writer_set_bytes.specs.Lists.{gonesIn}
 use Rattle.instance_loss.proofs.Losing.{apart-unowned, goes}
 use borrow.Author.Needs.{needs}
 use Rattle.instance_loss.proofs.owner_goes.Statement.{statement}
@@ -20,12 +20,6 @@ returns-2 c =
 returns-3 : tie.Need-returns-3
 returns-3 c = c .owner-listed .ensures ∙ goes (c .before .before .before .before .before .before .args .clears) (not-false (c .before .before .before .before .before .before .args .clears) (c .before .before .before .if1 .left))
 
-owner-apart-requires : tie.Need-owner-apart-requires
-owner-apart-requires c κs = search needs
-
-owner-listed-requires : tie.Need-owner-listed-requires
-owner-listed-requires c κs = search needs
-
 pub owner-goes-spec : {M : Type 1} → statement M
 owner-goes-spec =
-    tie.close (tie.spec returns owner-apart-requires returns-2 owner-listed-requires returns-3)
+    tie.close (tie.spec returns (λ c κs. search needs) returns-2 (λ c κs. search needs) returns-3)

@@ -1,4 +1,4 @@
--- No owner, the same, greater strength, or equal strength and lower GUID. Assumes nothing.
+-- No owner, the same, greater strength, or equal strength and lower GUID.
 use borrow.Author.Tests.{not-false}
 use Rattle.instance_ownership.proofs.StepLaws.{bid-more, bid-equal, bid-less}
 use mathlib.Core.Path.{sym, _∙_}
@@ -12,27 +12,15 @@ returns : tie.Need-returns
 unfolding outbids
 returns c = rw (c .if1 .taken)
 
-is-same-requires : tie.Need-is-same-requires
-is-same-requires c κs = search needs
-
 returns-2 : tie.Need-returns-2
 unfolding outbids
 returns-2 c = rw (c .before .before .if1 .left, sym (c .before .is-same .ensures) ∙ c .if2 .taken)
-
-raise-requires : tie.Need-raise-requires
-raise-requires c κs = search needs
-
-raise-requires-2 : tie.Need-raise-requires-2
-raise-requires-2 c κs = search needs
 
 returns-3 : tie.Need-returns-3
 returns-3 c =
     let a = c .before .before .before .before .before .before .before .before .args in
     sym (bid-more (a .g) (a .strength) (a .o) (c .before .before .raise .result) (c .before .raise2 .result) (not-false _ (c .before .before .before .before .before .if1 .left))
     (sym (c .before .before .before .before .is-same .ensures) ∙ c .before .before .before .if2 .left) (c .before .before .raise .ensures) (c .before .raise2 .ensures) (c .if3 .taken))
-
-is-less-requires : tie.Need-is-less-requires
-is-less-requires c κs = search needs
 
 returns-4 : tie.Need-returns-4
 returns-4 c =
@@ -49,13 +37,5 @@ returns-5 c =
 pub outbids-spec : {M : Type 1} → statement M
 outbids-spec =
     tie.close
-    (tie.spec
-    returns
-    is-same-requires
-    returns-2
-    raise-requires
-    raise-requires-2
-    returns-3
-    is-less-requires
-    returns-4
-    returns-5)
+    (tie.spec returns (λ c κs. search needs) returns-2 (λ c κs. search needs) (λ c κs. search needs) returns-3
+    (λ c κs. search needs) returns-4 returns-5)

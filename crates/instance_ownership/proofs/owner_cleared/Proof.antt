@@ -1,15 +1,9 @@
--- Codes 18 and 20. Assumes nothing.
+-- Codes 18 and 20.
 use mathlib.Core.Path.{sym, _∙_}
 use Rattle.model.specs.Instances.{ownerCleared}
 use borrow.Author.Needs.{needs}
 use Rattle.instance_ownership.proofs.owner_cleared.Statement.{statement}
 use Rattle.instance_ownership.proofs.owner_cleared.Tie as tie
-
-owns-requires : tie.Need-owns-requires
-owns-requires c κs = search needs
-
-unowned-requires : tie.Need-unowned-requires
-unowned-requires c κs = search needs
 
 returns : tie.Need-returns
 unfolding ownerCleared
@@ -20,4 +14,4 @@ unfolding ownerCleared
 returns-2 c = rw (sym (c .before .owns .ensures) ∙ c .if1 .left)
 
 pub owner-cleared-spec : {M : Type 1} → statement M
-owner-cleared-spec = tie.close (tie.spec owns-requires unowned-requires returns returns-2)
+owner-cleared-spec = tie.close (tie.spec (λ c κs. search needs) (λ c κs. search needs) returns returns-2)

@@ -1,15 +1,9 @@
--- Code 16. Assumes nothing.
+-- Code 16.
 use mathlib.Core.Path.{sym, _∙_}
 use Rattle.model.specs.Instances.{ownershipTried}
 use borrow.Author.Needs.{needs}
 use Rattle.instance_ownership.proofs.ownership_tried.Statement.{statement}
 use Rattle.instance_ownership.proofs.ownership_tried.Tie as tie
-
-takes-over-requires : tie.Need-takes-over-requires
-takes-over-requires c κs = search needs
-
-owned-from-requires : tie.Need-owned-from-requires
-owned-from-requires c κs = search needs
 
 returns : tie.Need-returns
 unfolding ownershipTried
@@ -21,4 +15,4 @@ returns-2 c = rw (sym (c .before .takes-over .ensures) ∙ c .if1 .left)
 
 pub ownership-tried-spec : {M : Type 1} → statement M
 ownership-tried-spec =
-    tie.close (tie.spec takes-over-requires owned-from-requires returns returns-2)
+    tie.close (tie.spec (λ c κs. search needs) (λ c κs. search needs) returns returns-2)

@@ -1,16 +1,7 @@
--- An absent owner is nobody. Assumes nothing.
+-- An absent owner is nobody.
 use borrow.Author.Needs.{needs}
 use Rattle.instance_ownership.proofs.owns.Statement.{statement}
 use Rattle.instance_ownership.proofs.owns.Tie as tie
 
-is-same-requires : tie.Need-is-same-requires
-is-same-requires c κs = search needs
-
-returns : tie.Need-returns
-returns c = rw (c .before .if1 .taken) (c .is-same .ensures)
-
-returns-2 : tie.Need-returns-2
-returns-2 c = rw (c .if1 .left)
-
 pub owns-spec : {M : Type 1} → statement M
-owns-spec = tie.close (tie.spec is-same-requires returns returns-2)
+owns-spec = tie.close (tie.spec (λ c κs. search needs) (λ c. rw (c .before .if1 .taken) (c .is-same .ensures)) (λ c. rw (c .if1 .left)))

@@ -1,19 +1,13 @@
--- A writer that outbids the owner takes over, or one that comes after the owner's deadline. Assumes nothing.
+-- A writer that outbids the owner takes over, or one that comes after the owner's deadline.
 use mathlib.Core.Path.{sym, _∙_}
 use Rattle.model.specs.Instances.{takesOver}
 use borrow.Author.Needs.{needs}
 use Rattle.instance_ownership.proofs.takes_over.Statement.{statement}
 use Rattle.instance_ownership.proofs.takes_over.Tie as tie
 
-outbids-requires : tie.Need-outbids-requires
-outbids-requires c κs = search needs
-
 returns : tie.Need-returns
 unfolding takesOver
 returns c = rw (sym (c .before .outbids .ensures) ∙ c .if1 .taken)
-
-deadline-missed-requires : tie.Need-deadline-missed-requires
-deadline-missed-requires c κs = search needs
 
 returns-2 : tie.Need-returns-2
 unfolding takesOver
@@ -28,4 +22,4 @@ returns-3 c = rw (sym (c .before .before .before .before .before .outbids .ensur
 
 pub takes-over-spec : {M : Type 1} → statement M
 takes-over-spec =
-    tie.close (tie.spec outbids-requires returns deadline-missed-requires returns-2 returns-3)
+    tie.close (tie.spec (λ c κs. search needs) returns (λ c κs. search needs) returns-2 returns-3)

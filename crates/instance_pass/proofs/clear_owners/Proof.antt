@@ -1,4 +1,4 @@
--- The pass. The measure is how many are left. Assumes nothing.
+-- The pass. The measure is how many are left.
 use Prim.Native.Nat.{ℕ, _+_, _-_, _≤_}
 use mathlib.Core.Path.{_≡_, refl, ap, _∙_}
 use native.Mathlib.Omega.{arith}
@@ -21,20 +21,8 @@ loop-holds c =
     let a = c .before .args in
     (omega arith, omega arith, refl, changing-start (ownerAct (a .prefix) (a .g)) (clearedAs (a .prefix) (a .g)) (λ x. refl) (λ x. refl) (a .count) (a .pens .now))
 
-owner-at-requires : tie.Need-owner-at-requires Inv-loop μ-loop
-owner-at-requires c κs = omega arith
-
-one-requires : tie.Need-one-requires Inv-loop μ-loop
-one-requires c κs = tt
-
 add-n : tie.Need-add-n Inv-loop μ-loop
 add-n c = omega (arith, bit-le (c .before .before .before .owner-at .result), c .one .ensures)
-
-add-i : tie.Need-add-i Inv-loop μ-loop
-add-i c = omega arith
-
-loop-less : tie.Need-loop-less Inv-loop μ-loop
-loop-less c = omega arith
 
 loop-again : tie.Need-loop-again Inv-loop μ-loop
 loop-again c =
@@ -49,9 +37,6 @@ loop-again c =
           (ap (λ (m : ℕ). l .n + m) (c .one .ensures ∙ ap bit (r .ensures .0))),
     )
 
-same-length : tie.Need-same-length Inv-loop μ-loop
-same-length c = omega arith
-
 returns : tie.Need-returns Inv-loop μ-loop
 returns c =
     let a = c .before .before .before .args in
@@ -61,15 +46,5 @@ returns c =
 pub clear-owners-spec : {M : Type 1} → statement M
 clear-owners-spec =
     tie.close
-    (tie.spec
-    Inv-loop
-    μ-loop
-    loop-holds
-    owner-at-requires
-    one-requires
-    add-n
-    add-i
-    loop-less
-    loop-again
-    same-length
-    returns)
+    (tie.spec Inv-loop μ-loop loop-holds (λ c κs. omega arith) (λ c κs. tt) add-n (λ c. omega arith)
+    (λ c. omega arith) loop-again (λ c. omega arith) returns)

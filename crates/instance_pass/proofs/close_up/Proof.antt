@@ -1,21 +1,9 @@
--- A record goes to its place, where it may stand already. Assumes nothing.
+-- A record goes to its place, where it may stand already.
 use mathlib.Core.Path.{refl}
 use Rattle.instance_pass.proofs.PassLaws.{stood, shifted}
 use borrow.Author.Needs.{needs}
 use Rattle.instance_pass.proofs.close_up.Statement.{statement}
 use Rattle.instance_pass.proofs.close_up.Tie as tie
-
-mul-move-down : tie.Need-mul-move-down
-mul-move-down c = search needs
-
-mul-move-down-2 : tie.Need-mul-move-down-2
-mul-move-down-2 c = search needs
-
-move-down-requires : tie.Need-move-down-requires
-move-down-requires c κs = search needs
-
-same-length : tie.Need-same-length
-same-length c = search needs
 
 returns : tie.Need-returns
 returns c =
@@ -30,4 +18,4 @@ returns-2 c =
 pub close-up-spec : {M : Type 1} → statement M
 close-up-spec =
     tie.close
-    (tie.spec mul-move-down mul-move-down-2 move-down-requires same-length returns returns-2)
+    (tie.spec (λ c. search needs) (λ c. search needs) (λ c κs. search needs) (λ c. search needs) returns returns-2)

@@ -1,23 +1,11 @@
--- A list of one. Assumes nothing.
+-- A list of one.
 use native.Mathlib.Omega.{arith}
 use Rattle.model.proofs.Fits.{FitsGuid}
 use Rattle.instance_pass.proofs.LossLaws.{drop-passed, one-gone, one-listed}
-use Rattle.instance_sets.specs.Lists.{gonesIn}
+use Rattle.writer_set_bytes.specs.Lists.{gonesIn}
 use borrow.Author.Needs.{needs}
 use Rattle.instance_pass.proofs.drop_writer.Statement.{statement}
 use Rattle.instance_pass.proofs.drop_writer.Tie as tie
-
-slice-aggregate-put-guid : tie.Need-slice-aggregate-put-guid
-slice-aggregate-put-guid c = search needs
-
-put-guid-requires : tie.Need-put-guid-requires
-put-guid-requires c κs = search needs
-
-slice-aggregate-lose-every : tie.Need-slice-aggregate-lose-every
-slice-aggregate-lose-every c = search needs
-
-if-present-requires : tie.Need-if-present-requires
-if-present-requires c κs = search needs
 
 lose-every-requires : tie.Need-lose-every-requires
 lose-every-requires c κs =
@@ -27,12 +15,6 @@ lose-every-requires c κs =
     let fits : FitsGuid g = record { high = omega (arith, s .good .1 .1 .1); low = omega (arith, s .good .1 .1 .1) } in
     let b = c .before .before .before .before .before .put-guid in
     (s .pre .0, one-listed g (b .last .0) (omega arith) (one-gone g (b .last .0) fits (b .ensures)), s .pre .1)
-
-same-length : tie.Need-same-length
-same-length c = search needs
-
-same-length-2 : tie.Need-same-length-2
-same-length-2 c = search needs
 
 returns : tie.Need-returns
 returns c =
@@ -48,12 +30,5 @@ returns c =
 pub drop-writer-spec : {M : Type 1} → statement M
 drop-writer-spec =
     tie.close
-    (tie.spec
-    slice-aggregate-put-guid
-    put-guid-requires
-    slice-aggregate-lose-every
-    if-present-requires
-    lose-every-requires
-    same-length
-    same-length-2
-    returns)
+    (tie.spec (λ c. search needs) (λ c κs. search needs) (λ c. search needs) (λ c κs. search needs)
+    lose-every-requires (λ c. search needs) (λ c. search needs) returns)

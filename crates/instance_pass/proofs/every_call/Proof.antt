@@ -1,4 +1,4 @@
--- A call on every instance. Assumes nothing.
+-- A call on every instance.
 use mathlib.Core.Path.{ap, _∙_}
 use native.Mathlib.Omega.{arith}
 use Rattle.model.specs.declared.Report.{Report}
@@ -14,9 +14,6 @@ call-pass-requires c κs =
     let s = c .before .before .before .before in
     let a = s .args in
     (s .pre .2, table-editable (a .places) (a .count) (a .next .0) (a .pens .now) (s .pre .0), s .pre .1)
-
-report-of-requires : tie.Need-report-of-requires
-report-of-requires c κs = search needs
 
 answered-requires : tie.Need-answered-requires
 answered-requires c κs =
@@ -34,12 +31,6 @@ cast-t16 c =
     let w = every-few (a .places) (a .count) (a .next .0) (a .c) (a .s) (a .pens .now) (a .out .now) (r .last .0) (r .last .1 .0) (r .result) (s .pre .0) (r .ensures) in
     omega (arith, w .kept)
 
-same-length : tie.Need-same-length
-same-length c = search needs
-
-same-length-2 : tie.Need-same-length-2
-same-length-2 c = search needs
-
 returns : tie.Need-returns
 returns c =
     let s = c .before .before .before .before .before .before .before .before .before .before .before .before in
@@ -51,11 +42,5 @@ returns c =
 pub every-call-spec : {M : Type 1} → statement M
 every-call-spec =
     tie.close
-    (tie.spec
-    call-pass-requires
-    report-of-requires
-    answered-requires
-    cast-t16
-    same-length
-    same-length-2
-    returns)
+    (tie.spec call-pass-requires (λ c κs. search needs) answered-requires cast-t16 (λ c. search needs)
+    (λ c. search needs) returns)

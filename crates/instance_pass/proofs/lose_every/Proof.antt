@@ -1,8 +1,8 @@
--- The pass. The measure is how many are left. Assumes nothing.
+-- The pass. The measure is how many are left.
 use Prim.Native.Nat.{_-_}
 use mathlib.Core.Path.{refl}
 use native.Mathlib.Omega.{arith}
-use Rattle.instance_sets.specs.Lists.{gonesIn}
+use Rattle.writer_set_bytes.specs.Lists.{gonesIn}
 use Rattle.instance_pass.specs.Steps.{lossBy}
 use Rattle.instance_pass.proofs.LossLaws.{by-bounded}
 use Rattle.instance_pass.proofs.EditLaws.{record-formed}
@@ -15,12 +15,6 @@ Inv-loop pens₀ out₀ count gone at clears w guesses tally₀ i₀ pens out ta
 
 abbrev μ-loop : tie.MeasureT-loop
 μ-loop pens₀ out₀ count gone at clears w guesses tally₀ i₀ pens out tally i = count - i
-
-span-of-requires : tie.Need-span-of-requires Inv-loop μ-loop
-span-of-requires c κs = c .before .before .before .pre .1
-
-note-guesses-requires : tie.Need-note-guesses-requires Inv-loop μ-loop
-note-guesses-requires c κs = c .before .before .before .before .before .pre .1
 
 loop-holds : tie.Need-loop-holds Inv-loop μ-loop
 loop-holds c =
@@ -38,12 +32,6 @@ lose-at-requires c κs =
       c .before .before .before .before .before .before .before .span-of .ensures,
     )
 
-add-i : tie.Need-add-i Inv-loop μ-loop
-add-i c = omega arith
-
-loop-less : tie.Need-loop-less Inv-loop μ-loop
-loop-less c = omega arith
-
 loop-again : tie.Need-loop-again Inv-loop μ-loop
 loop-again c =
     let s = c .before .before .before .before .before .before .before .before .before .before .before .before .before .before .before .before in
@@ -52,12 +40,6 @@ loop-again c =
     let r = c .before .before .before .before .lose-at in
     during-turn (lossBy (a .clears) (gonesIn (a .gone .now)) (a .at)) (a .count) (a .pens .now) (a .out .now) (l .i) (l .pens) (l .out) (l .tally) (l .inv) (s .pre .0 .few) (s .pre .0 .room) (s .pre .2) (omega arith)
     (by-bounded (a .clears) (gonesIn (a .gone .now)) (a .at)) (r .last .0) (r .last .1 .0) (r .result) (omega arith) (omega arith) (r .ensures)
-
-same-length : tie.Need-same-length Inv-loop μ-loop
-same-length c = omega arith
-
-same-length-2 : tie.Need-same-length-2 Inv-loop μ-loop
-same-length-2 c = omega arith
 
 returns : tie.Need-returns Inv-loop μ-loop
 returns c =
@@ -68,16 +50,6 @@ returns c =
 pub lose-every-spec : {M : Type 1} → statement M
 lose-every-spec =
     tie.close
-    (tie.spec
-    Inv-loop
-    μ-loop
-    span-of-requires
-    note-guesses-requires
-    loop-holds
-    lose-at-requires
-    add-i
-    loop-less
-    loop-again
-    same-length
-    same-length-2
-    returns)
+    (tie.spec Inv-loop μ-loop (λ c κs. c .before .before .before .pre .1)
+    (λ c κs. c .before .before .before .before .before .pre .1) loop-holds lose-at-requires (λ c. omega arith)
+    (λ c. omega arith) loop-again (λ c. omega arith) (λ c. omega arith) returns)

@@ -1,6 +1,6 @@
--- Nobody, or all at once. Assumes nothing.
+-- Nobody, or all at once.
 use Rattle.instance_pass.proofs.LossLaws.{losses-passed, none-passed}
-use Rattle.instance_sets.specs.Lists.{gonesIn}
+use Rattle.writer_set_bytes.specs.Lists.{gonesIn}
 use borrow.Author.Needs.{needs}
 use Rattle.instance_pass.proofs.lose_writers.Statement.{statement}
 use Rattle.instance_pass.proofs.lose_writers.Tie as tie
@@ -9,15 +9,6 @@ returns : tie.Need-returns
 returns c =
     let a = c .before .before .before .before .args in
     none-passed (a .at) (a .gone .now) (a .count) (a .pens .now) (a .out .now) (c .if1 .taken)
-
-lose-every-requires : tie.Need-lose-every-requires
-lose-every-requires c κs = search needs
-
-same-length : tie.Need-same-length
-same-length c = search needs
-
-same-length-2 : tie.Need-same-length-2
-same-length-2 c = search needs
 
 returns-2 : tie.Need-returns-2
 returns-2 c =
@@ -28,4 +19,4 @@ returns-2 c =
 
 pub lose-writers-spec : {M : Type 1} → statement M
 lose-writers-spec =
-    tie.close (tie.spec returns lose-every-requires same-length same-length-2 returns-2)
+    tie.close (tie.spec returns (λ c κs. search needs) (λ c. search needs) (λ c. search needs) returns-2)

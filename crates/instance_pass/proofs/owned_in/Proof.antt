@@ -1,19 +1,8 @@
--- The one test or the other. Assumes nothing.
+-- The one test or the other.
 use borrow.Author.Needs.{needs}
 use Rattle.instance_pass.proofs.owned_in.Statement.{statement}
 use Rattle.instance_pass.proofs.owned_in.Tie as tie
 
-owner-of-prefix-requires : tie.Need-owner-of-prefix-requires
-owner-of-prefix-requires c κs = search needs
-
-returns : tie.Need-returns
-returns c = rw (c .before .if1 .taken) (c .owner-of-prefix .ensures)
-
-owner-is-requires : tie.Need-owner-is-requires
-owner-is-requires c κs = search needs
-
-returns-2 : tie.Need-returns-2
-returns-2 c = rw (c .before .if1 .left) (c .owner-is .ensures)
-
 pub owned-in-spec : {M : Type 1} → statement M
-owned-in-spec = tie.close (tie.spec owner-of-prefix-requires returns owner-is-requires returns-2)
+owned-in-spec = tie.close (tie.spec (λ c κs. search needs) (λ c. rw (c .before .if1 .taken) (c .owner-of-prefix .ensures))
+    (λ c κs. search needs) (λ c. rw (c .before .if1 .left) (c .owner-is .ensures)))

@@ -1,51 +1,21 @@
--- Cleared where it is owned so. Assumes nothing.
+-- Cleared where it is owned so.
 use Prim.Native.Nat.{_*_}
 use mathlib.Core.Path.{refl, sym, ap, _∙_}
 use mathlib.Core.List.{List}
 use Prim.Native.Nat.{ℕ}
 use native.Mathlib.Omega.{arith}
 use Rattle.model.specs.InstanceRecord.{instanceOf}
-use Rattle.instance_record.proofs.Rows.{lent-part}
+use Rattle.instance_decoding.proofs.Rows.{lent-part}
 use Rattle.instance_pass.specs.Steps.{ownsAs}
 use Rattle.instance_pass.proofs.OwnerLaws.{owner-flag, owner-put, owner-kept}
 use borrow.Author.Needs.{needs}
 use Rattle.instance_pass.proofs.owner_at.Statement.{statement}
 use Rattle.instance_pass.proofs.owner_at.Tie as tie
 
-mul-from : tie.Need-mul-from
-mul-from c = search needs
-
-add-end : tie.Need-add-end
-add-end c = search needs
-
-sub-owned-in : tie.Need-sub-owned-in
-sub-owned-in c = search needs
-
-part-owned-in-start : tie.Need-part-owned-in-start
-part-owned-in-start c = search needs
-
-part-owned-in-end : tie.Need-part-owned-in-end
-part-owned-in-end c = search needs
-
-owned-in-requires : tie.Need-owned-in-requires
-owned-in-requires c κs = search needs
-
-sub-clear-owner : tie.Need-sub-clear-owner
-sub-clear-owner c = search needs
-
-part-clear-owner-start : tie.Need-part-clear-owner-start
-part-clear-owner-start c = search needs
-
-part-clear-owner-end : tie.Need-part-clear-owner-end
-part-clear-owner-end c = search needs
-
 clear-owner-requires : tie.Need-clear-owner-requires
 clear-owner-requires c κs =
     let a = c .before .before .before .before .before .before .args in
     (omega arith, owner-flag (a .prefix) (a .g) _ (sym (c .before .before .owned-in .ensures) ∙ c .before .if1 .taken))
-
-same-length : tie.Need-same-length
-same-length c = search needs
 
 returns : tie.Need-returns
 returns c =
@@ -56,9 +26,6 @@ returns c =
       owner-put (a .pens .now) _ _ (c .before .before .clear-owner .last .0) (a .i) (s .pre) (lent-part (a .i * 512) 512 (a .pens .now)) (omega arith) refl (a .prefix) (a .g)
           (sym (o .ensures) ∙ c .before .before .before .before .if1 .taken) (c .before .before .clear-owner .ensures),
     )
-
-same-length-2 : tie.Need-same-length-2
-same-length-2 c = search needs
 
 returns-2 : tie.Need-returns-2
 returns-2 c =
@@ -72,18 +39,6 @@ returns-2 c =
 pub owner-at-spec : {M : Type 1} → statement M
 owner-at-spec =
     tie.close
-    (tie.spec
-    mul-from
-    add-end
-    sub-owned-in
-    part-owned-in-start
-    part-owned-in-end
-    owned-in-requires
-    sub-clear-owner
-    part-clear-owner-start
-    part-clear-owner-end
-    clear-owner-requires
-    same-length
-    returns
-    same-length-2
-    returns-2)
+    (tie.spec (λ c. search needs) (λ c. search needs) (λ c. search needs) (λ c. search needs) (λ c. search needs)
+    (λ c κs. search needs) (λ c. search needs) (λ c. search needs) (λ c. search needs) clear-owner-requires
+    (λ c. search needs) returns (λ c. search needs) returns-2)

@@ -1,4 +1,4 @@
--- The pass. The measure is how many are left. Assumes nothing.
+-- The pass. The measure is how many are left.
 use Prim.Native.Nat.{_-_, _≤_}
 use mathlib.Core.Path.{_≡_, refl}
 use native.Mathlib.Omega.{arith}
@@ -20,15 +20,6 @@ loop-holds c =
     let a = c .before .before .args in
     (omega arith, omega arith, refl, λ s d. purging-start s (a .count) (a .pens .now))
 
-purge-at-requires : tie.Need-purge-at-requires Inv-loop μ-loop
-purge-at-requires c κs = (omega arith, omega arith, omega arith)
-
-add-i : tie.Need-add-i Inv-loop μ-loop
-add-i c = omega arith
-
-loop-less : tie.Need-loop-less Inv-loop μ-loop
-loop-less c = omega arith
-
 loop-again : tie.Need-loop-again Inv-loop μ-loop
 loop-again c =
     let start = c .before .before .before .before .before .before .before .before in
@@ -42,15 +33,6 @@ loop-again c =
       λ s d. purging-turn s (a .count) (a .pens .now) (l .i) (l .k) (l .pens) (l .inv .0) (start .pre .0) (start .pre .1) (omega arith) (l .inv .3 s d) (r .last .0) (r .result) (omega arith) (r .ensures s d),
     )
 
-truncate-requires : tie.Need-truncate-requires Inv-loop μ-loop
-truncate-requires c κs = (omega arith, omega arith)
-
-sub-t15 : tie.Need-sub-t15 Inv-loop μ-loop
-sub-t15 c = omega arith
-
-same-length : tie.Need-same-length Inv-loop μ-loop
-same-length c = omega arith
-
 returns : tie.Need-returns Inv-loop μ-loop
 returns c =
     let start = c .before .before .before .before .before .before .before .before in
@@ -63,15 +45,5 @@ returns c =
 pub purge-spec : {M : Type 1} → statement M
 purge-spec =
     tie.close
-    (tie.spec
-    Inv-loop
-    μ-loop
-    loop-holds
-    purge-at-requires
-    add-i
-    loop-less
-    loop-again
-    truncate-requires
-    sub-t15
-    same-length
-    returns)
+    (tie.spec Inv-loop μ-loop loop-holds (λ c κs. (omega arith, omega arith, omega arith)) (λ c. omega arith)
+    (λ c. omega arith) loop-again (λ c κs. (omega arith, omega arith)) (λ c. omega arith) (λ c. omega arith) returns)

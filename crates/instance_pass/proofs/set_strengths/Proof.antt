@@ -1,4 +1,4 @@
--- The pass. The measure is how many are left. Assumes nothing.
+-- The pass. The measure is how many are left.
 use Prim.Native.Nat.{_-_, _≤_}
 use mathlib.Core.Path.{_≡_, refl}
 use native.Mathlib.Omega.{arith}
@@ -22,15 +22,6 @@ loop-holds c =
     let strength = a .s .second in
     (omega arith, refl, changing-start (strengthAct g strength) (strengthUpdated g strength) (λ x. refl) (λ x. refl) (a .count) (a .pens .now))
 
-strength-at-requires : tie.Need-strength-at-requires Inv-loop μ-loop
-strength-at-requires c κs = omega arith
-
-add-i : tie.Need-add-i Inv-loop μ-loop
-add-i c = omega arith
-
-loop-less : tie.Need-loop-less Inv-loop μ-loop
-loop-less c = omega arith
-
 loop-again : tie.Need-loop-again Inv-loop μ-loop
 loop-again c =
     let start = c .before .before .before .before .before .before .before .before in
@@ -44,9 +35,6 @@ loop-again c =
       changing-turn (strengthAct g strength) (strengthUpdated g strength) (λ x. refl) (λ x. refl) (a .count) (a .pens .now) (l .i) 0 0 (l .pens) (r .last .0) (λ x. omega arith) (start .pre .0) (start .pre .1) (omega arith) (l .inv .2) (omega arith) (r .ensures) (omega arith),
     )
 
-same-length : tie.Need-same-length Inv-loop μ-loop
-same-length c = omega arith
-
 returns : tie.Need-returns Inv-loop μ-loop
 returns c =
     let a = c .before .before .before .before .args in
@@ -58,13 +46,5 @@ returns c =
 pub set-strengths-spec : {M : Type 1} → statement M
 set-strengths-spec =
     tie.close
-    (tie.spec
-    Inv-loop
-    μ-loop
-    loop-holds
-    strength-at-requires
-    add-i
-    loop-less
-    loop-again
-    same-length
-    returns)
+    (tie.spec Inv-loop μ-loop loop-holds (λ c κs. omega arith) (λ c. omega arith) (λ c. omega arith) loop-again
+    (λ c. omega arith) returns)

@@ -1,18 +1,9 @@
--- The counts go up by one instance. Assumes nothing.
+-- The counts go up by one instance.
 use native.Mathlib.Omega.{arith}
 use Rattle.instance_pass.proofs.StepLaws.{bit-le}
 use borrow.Author.Needs.{needs}
 use Rattle.instance_pass.proofs.with_told.Statement.{statement}
 use Rattle.instance_pass.proofs.with_told.Tie as tie
-
-one-requires : tie.Need-one-requires
-one-requires c κs = search needs
-
-one-requires-2 : tie.Need-one-requires-2
-one-requires-2 c κs = search needs
-
-add-t5 : tie.Need-add-t5
-add-t5 c = search needs
 
 add-t6 : tie.Need-add-t6
 add-t6 c = omega (arith, bit-le (c .before .before .before .before .args .r .left), c .before .before .before .one .ensures)
@@ -24,4 +15,4 @@ returns : tie.Need-returns
 returns c = rw (c .before .before .before .before .one .ensures, c .before .before .before .one2 .ensures)
 
 pub with-told-spec : {M : Type 1} → statement M
-with-told-spec = tie.close (tie.spec one-requires one-requires-2 add-t5 add-t6 add-t7 returns)
+with-told-spec = tie.close (tie.spec (λ c κs. search needs) (λ c κs. search needs) (λ c. search needs) add-t6 add-t7 returns)

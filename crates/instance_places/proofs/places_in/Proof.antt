@@ -1,4 +1,4 @@
--- `places_in` meets its contract. Assumes nothing.
+-- `places_in` meets its contract.
 use mathlib.Core.Path.{refl}
 use native.Mathlib.Omega.{arith}
 use borrow.Author.Tests.{eq-eqb, ne-eqb}

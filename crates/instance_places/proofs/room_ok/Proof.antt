@@ -1,4 +1,4 @@
--- `room_ok` meets its contract: the first length that is another makes the whole fail. Assumes nothing.
+-- `room_ok` meets its contract: the first length that is another makes the whole fail.
 use Prim.Native.Nat.{_*_}
 use mathlib.Core.Bool.{true, false}
 use mathlib.Core.Path.{_≡_}
@@ -7,9 +7,6 @@ use borrow.Author.Tests.{eq-eqb, ne-eqb}
 use lib.Dec.{eqb}
 use Rattle.instance_places.proofs.room_ok.Statement.{statement}
 use Rattle.instance_places.proofs.room_ok.Tie as tie
-
-mul-if1 : tie.Need-mul-if1
-mul-if1 c = search needs
 
 returns : tie.Need-returns
 returns c = let e : eqb (c .before .args .pens) (c .before .args .places * 512) ≡ false = ne-eqb _ _ (c .if1 .taken) in rw e
@@ -27,4 +24,4 @@ returns-3 c =
     rw (e, f)
 
 pub room-ok-spec : {M : Type 1} → statement M
-room-ok-spec = tie.close (tie.spec mul-if1 returns returns-2 returns-3)
+room-ok-spec = tie.close (tie.spec (λ c. search needs) returns returns-2 returns-3)

@@ -1,4 +1,4 @@
--- The limit, then the refusals, then the start. Assumes nothing.
+-- The limit, then the refusals, then the start.
 use mathlib.Core.Path.{sym, _∙_}
 use native.Mathlib.Omega.{arith}
 use Rattle.instance_reach.proofs.Table.{start-free, limited-left, refused-left}
@@ -6,24 +6,12 @@ use borrow.Author.Needs.{needs}
 use Rattle.instance_reach.proofs.begin.Statement.{statement}
 use Rattle.instance_reach.proofs.begin.Tie as tie
 
-limited-requires : tie.Need-limited-requires
-limited-requires c κs = search needs
-
-stopped-requires : tie.Need-stopped-requires
-stopped-requires c κs = search needs
-
 returns : tie.Need-returns
 returns c =
     let k = c .before .before in
     let a = k .before .before in
     rw (c .stopped .ensures)
     (limited-left (a .args .next) (a .pre .0) (a .pre .1) (λ n. omega (arith, k .before .slice-known .given n)) (sym (k .limited .ensures) ∙ c .before .if1 .taken))
-
-start-refusal-requires : tie.Need-start-refusal-requires
-start-refusal-requires c κs = search needs
-
-stopped-requires-2 : tie.Need-stopped-requires-2
-stopped-requires-2 c κs = search needs
 
 returns-2 : tie.Need-returns-2
 returns-2 c =
@@ -42,22 +30,8 @@ start-requires c κs =
     let free = start-free (a .args .places) (a .args .count) (a .args .next .0) (n .start-refusal .result) (n .start-refusal .ensures) (omega (arith, c .before .if2 .left)) in
     (a .pre .0, a .pre .1, free .0, free .1, sym (k .limited .ensures) ∙ n .before .if1 .left)
 
-same-length : tie.Need-same-length
-same-length c = search needs
-
-returns-3 : tie.Need-returns-3
-returns-3 c = search needs
-
 pub begin-spec : {M : Type 1} → statement M
 begin-spec =
     tie.close
-    (tie.spec
-    limited-requires
-    stopped-requires
-    returns
-    start-refusal-requires
-    stopped-requires-2
-    returns-2
-    start-requires
-    same-length
-    returns-3)
+    (tie.spec (λ c κs. search needs) (λ c κs. search needs) returns (λ c κs. search needs) (λ c κs. search needs)
+    returns-2 start-requires (λ c. search needs) (λ c. search needs))

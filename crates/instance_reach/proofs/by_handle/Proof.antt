@@ -1,4 +1,4 @@
--- Where the handle stands, if it does. Assumes nothing.
+-- Where the handle stands, if it does.
 use native.Mathlib.Omega.{arith}
 use Rattle.instance_reach.proofs.Table.{ready-room-all, ready-length, ready-distinct, reached-handle, absent-handle, absent-left}
 use borrow.Author.Needs.{needs}
@@ -17,18 +17,6 @@ change-requires c κs =
           (omega (arith, ready-length (a .pre .0), c .before .if1 .taken)),
     )
 
-same-length : tie.Need-same-length
-same-length c = search needs
-
-returns : tie.Need-returns
-returns c = search needs
-
-idle-requires : tie.Need-idle-requires
-idle-requires c κs = search needs
-
-same-length-2 : tie.Need-same-length-2
-same-length-2 c = search needs
-
 returns-2 : tie.Need-returns-2
 returns-2 c =
     let f = c .before .before in
@@ -42,11 +30,5 @@ returns-2 c =
 pub by-handle-spec : {M : Type 1} → statement M
 by-handle-spec =
     tie.close
-    (tie.spec
-    find-handle-requires
-    change-requires
-    same-length
-    returns
-    idle-requires
-    same-length-2
-    returns-2)
+    (tie.spec find-handle-requires change-requires (λ c. search needs) (λ c. search needs) (λ c κs. search needs)
+    (λ c. search needs) returns-2)

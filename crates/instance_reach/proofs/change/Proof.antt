@@ -1,4 +1,4 @@
--- The instance that is reached is read, and refused a writer or changed. Assumes nothing.
+-- The instance that is reached is read, and refused a writer or changed.
 use mathlib.Core.Path.{sym, _∙_}
 use native.Mathlib.Omega.{arith}
 use Rattle.instance_reach.proofs.Table.{reached-place, reached-usable, reached-room, crowded-left, changed-left}
@@ -11,12 +11,6 @@ instance-at-requires c κs = let a = c .before .before in reached-place (a .args
 
 crowded-requires : tie.Need-crowded-requires
 crowded-requires c κs = let a = c .before .before .before in reached-usable (a .args .next) (a .pre .0) (a .pre .1) (c .instance-at .ensures)
-
-stopped-requires : tie.Need-stopped-requires
-stopped-requires c κs = search needs
-
-same-length : tie.Need-same-length
-same-length c = search needs
 
 returns : tie.Need-returns
 returns c =
@@ -42,12 +36,6 @@ replace-requires c κs =
     let a = c .before .before .before .before .before .before .before in
     (reached-place (a .args .next) (a .pre .0) (a .pre .1), c .before .acted .ensures .few)
 
-answered-requires : tie.Need-answered-requires
-answered-requires c κs = search needs
-
-same-length-2 : tie.Need-same-length-2
-same-length-2 c = search needs
-
 returns-2 : tie.Need-returns-2
 returns-2 c =
     let r = c .before .before .before in
@@ -63,14 +51,5 @@ returns-2 c =
 pub change-spec : {M : Type 1} → statement M
 change-spec =
     tie.close
-    (tie.spec
-    instance-at-requires
-    crowded-requires
-    stopped-requires
-    same-length
-    returns
-    acted-requires
-    replace-requires
-    answered-requires
-    same-length-2
-    returns-2)
+    (tie.spec instance-at-requires crowded-requires (λ c κs. search needs) (λ c. search needs) returns acted-requires
+    replace-requires (λ c κs. search needs) (λ c. search needs) returns-2)

@@ -1,27 +1,9 @@
--- By the way of the row. Assumes nothing.
+-- By the way of the row.
 use mathlib.Core.Path.{sym, ap, _∙_}
 use Rattle.model.specs.declared.Rule.{Rule}
 use borrow.Author.Needs.{needs}
 use Rattle.instance_reach.proofs.reaches_by_handle.Statement.{statement}
 use Rattle.instance_reach.proofs.reaches_by_handle.Tie as tie
-
-rule-of-requires : tie.Need-rule-of-requires
-rule-of-requires c κs = search needs
-
-enum-told : tie.Need-enum-told
-enum-told c = search needs
-
-enum-told-2 : tie.Need-enum-told-2
-enum-told-2 c = search needs
-
-enum-told-3 : tie.Need-enum-told-3
-enum-told-3 c = search needs
-
-enum-told-4 : tie.Need-enum-told-4
-enum-told-4 c = search needs
-
-enum-told-5 : tie.Need-enum-told-5
-enum-told-5 c = search needs
 
 returns : tie.Need-returns
 returns c = rw (← c .before .before .rule-of .ensures, c .enum-told .given .1)
@@ -41,15 +23,5 @@ returns-5 c = rw (← c .before .before .rule-of .ensures, c .enum-told5 .given 
 pub reaches-by-handle-spec : {M : Type 1} → statement M
 reaches-by-handle-spec =
     tie.close
-    (tie.spec
-    rule-of-requires
-    enum-told
-    enum-told-2
-    enum-told-3
-    enum-told-4
-    enum-told-5
-    returns
-    returns-2
-    returns-3
-    returns-4
-    returns-5)
+    (tie.spec (λ c κs. search needs) (λ c. search needs) (λ c. search needs) (λ c. search needs) (λ c. search needs)
+    (λ c. search needs) returns returns-2 returns-3 returns-4 returns-5)

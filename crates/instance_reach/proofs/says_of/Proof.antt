@@ -1,13 +1,7 @@
--- A part of the row. Assumes nothing.
+-- A part of the row.
 use borrow.Author.Needs.{needs}
 use Rattle.instance_reach.proofs.says_of.Statement.{statement}
 use Rattle.instance_reach.proofs.says_of.Tie as tie
 
-rule-of-requires : tie.Need-rule-of-requires
-rule-of-requires c κs = search needs
-
-returns : tie.Need-returns
-returns c = rw (c .rule-of .ensures)
-
 pub says-of-spec : {M : Type 1} → statement M
-says-of-spec = tie.close (tie.spec rule-of-requires returns)
+says-of-spec = tie.close (tie.spec (λ c κs. search needs) (λ c. rw (c .rule-of .ensures)))

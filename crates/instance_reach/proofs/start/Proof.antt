@@ -1,4 +1,4 @@
--- The instance is started, changed and put in. Assumes nothing.
+-- The instance is started, changed and put in.
 use mathlib.Core.Path.{ap, _∙_}
 use native.Mathlib.Omega.{arith}
 use Rattle.model.specs.declared.Allocated.{Allocated}
@@ -7,12 +7,6 @@ use Rattle.instance_reach.proofs.Table.{ready-place, starts-asked, star
 use borrow.Author.Needs.{needs}
 use Rattle.instance_reach.proofs.start.Statement.{statement}
 use Rattle.instance_reach.proofs.start.Tie as tie
-
-allocate-step-requires : tie.Need-allocate-step-requires
-allocate-step-requires c κs = search needs
-
-started-requires : tie.Need-started-requires
-started-requires c κs = search needs
 
 acted-requires : tie.Need-acted-requires
 acted-requires c κs =
@@ -27,14 +21,8 @@ insert-requires c κs =
       c .before .acted .ensures .few,
     )
 
-answered-requires : tie.Need-answered-requires
-answered-requires c κs = search needs
-
 add-t18 : tie.Need-add-t18
 add-t18 c = let a = c .before .before .before .before .before .before .before .before .before .before .before in omega (arith, a .pre .0 .few, a .pre .2)
-
-same-length : tie.Need-same-length
-same-length c = search needs
 
 returns : tie.Need-returns
 returns c =
@@ -53,12 +41,5 @@ returns c =
 pub start-spec : {M : Type 1} → statement M
 start-spec =
     tie.close
-    (tie.spec
-    allocate-step-requires
-    started-requires
-    acted-requires
-    insert-requires
-    answered-requires
-    add-t18
-    same-length
-    returns)
+    (tie.spec (λ c κs. search needs) (λ c κs. search needs) acted-requires insert-requires (λ c κs. search needs)
+    add-t18 (λ c. search needs) returns)

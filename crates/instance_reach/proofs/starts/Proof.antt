@@ -1,16 +1,8 @@
--- A part of the row. Assumes nothing.
+-- A part of the row.
 use borrow.Author.Needs.{needs}
 use Rattle.instance_reach.proofs.starts.Statement.{statement}
 use Rattle.instance_reach.proofs.starts.Tie as tie
 
-rule-of-requires : tie.Need-rule-of-requires
-rule-of-requires c κs = search needs
-
-starts-requires : tie.Need-starts-requires
-starts-requires c κs = search needs
-
-returns : tie.Need-returns
-returns c = rw (← c .before .rule-of .ensures) (c .starts .ensures)
-
 pub starts-spec : {M : Type 1} → statement M
-starts-spec = tie.close (tie.spec rule-of-requires starts-requires returns)
+starts-spec = tie.close (tie.spec (λ c κs. search needs) (λ c κs. search needs)
+    (λ c. rw (← c .before .rule-of .ensures) (c .starts .ensures)))

@@ -1,13 +1,7 @@
--- The answer with its number, and the rest as it was. Assumes nothing.
+-- The answer with its number, and the rest as it was.
 use borrow.Author.Needs.{needs}
 use Rattle.instance_reach.proofs.stopped.Statement.{statement}
 use Rattle.instance_reach.proofs.stopped.Tie as tie
 
-refused-with-requires : tie.Need-refused-with-requires
-refused-with-requires c κs = search needs
-
-returns : tie.Need-returns
-returns c = rw (c .refused-with .ensures)
-
 pub stopped-spec : {M : Type 1} → statement M
-stopped-spec = tie.close (tie.spec refused-with-requires returns)
+stopped-spec = tie.close (tie.spec (λ c κs. search needs) (λ c. rw (c .refused-with .ensures)))

@@ -1,53 +1,8 @@
--- The answer where there is no instance, form by form. Assumes nothing.
+-- The answer where there is no instance, form by form.
 use mathlib.Core.Path.{sym, _∙_}
 use borrow.Author.Needs.{needs}
 use Rattle.instance_reach.proofs.unanswered.Statement.{statement}
 use Rattle.instance_reach.proofs.unanswered.Tie as tie
-
-says-of-requires : tie.Need-says-of-requires
-says-of-requires c κs = search needs
-
-enum-told : tie.Need-enum-told
-enum-told c = search needs
-
-silent-requires : tie.Need-silent-requires
-silent-requires c κs = search needs
-
-enum-told-2 : tie.Need-enum-told-2
-enum-told-2 c = search needs
-
-silent-requires-2 : tie.Need-silent-requires-2
-silent-requires-2 c κs = search needs
-
-enum-told-3 : tie.Need-enum-told-3
-enum-told-3 c = search needs
-
-saying-requires : tie.Need-saying-requires
-saying-requires c κs = search needs
-
-enum-told-4 : tie.Need-enum-told-4
-enum-told-4 c = search needs
-
-silent-requires-3 : tie.Need-silent-requires-3
-silent-requires-3 c κs = search needs
-
-enum-told-5 : tie.Need-enum-told-5
-enum-told-5 c = search needs
-
-silent-requires-4 : tie.Need-silent-requires-4
-silent-requires-4 c κs = search needs
-
-enum-told-6 : tie.Need-enum-told-6
-enum-told-6 c = search needs
-
-saying-requires-2 : tie.Need-saying-requires-2
-saying-requires-2 c κs = search needs
-
-enum-told-7 : tie.Need-enum-told-7
-enum-told-7 c = search needs
-
-saying-requires-3 : tie.Need-saying-requires-3
-saying-requires-3 c κs = search needs
 
 returns : tie.Need-returns
 returns c = λ s. rw (sym (c .before .before .before .says-of .ensures) ∙ c .before .enum-told .given .1) (c .silent .ensures)
@@ -73,26 +28,7 @@ returns-7 c = λ s. rw (sym (c .before .before .before .says-of .ensures) ∙ c 
 pub unanswered-spec : {M : Type 1} → statement M
 unanswered-spec =
     tie.close
-    (tie.spec
-    says-of-requires
-    enum-told
-    silent-requires
-    enum-told-2
-    silent-requires-2
-    enum-told-3
-    saying-requires
-    enum-told-4
-    silent-requires-3
-    enum-told-5
-    silent-requires-4
-    enum-told-6
-    saying-requires-2
-    enum-told-7
-    saying-requires-3
-    returns
-    returns-2
-    returns-3
-    returns-4
-    returns-5
-    returns-6
-    returns-7)
+    (tie.spec (λ c κs. search needs) (λ c. search needs) (λ c κs. search needs) (λ c. search needs)
+    (λ c κs. search needs) (λ c. search needs) (λ c κs. search needs) (λ c. search needs) (λ c κs. search needs)
+    (λ c. search needs) (λ c κs. search needs) (λ c. search needs) (λ c κs. search needs) (λ c. search needs)
+    (λ c κs. search needs) returns returns-2 returns-3 returns-4 returns-5 returns-6 returns-7)

@@ -1,4 +1,4 @@
--- `all_gone` meets its contract: each of the writers that were passed is gone. Assumes nothing.
+-- `all_gone` meets its contract: each of the writers that were passed is gone.
 use Prim.Native.Nat.{ℕ, _-_, _≤_, _<_}
 use mathlib.Core.Bool.{true}
 use mathlib.Core.Path.{_≡_, sym, _∙_}
@@ -20,32 +20,11 @@ Inv-loop r n gone m i₀ i =
 abbrev μ-loop : tie.MeasureT-loop
 μ-loop r n gone m i₀ i = n - i
 
-loop-holds : tie.Need-loop-holds Inv-loop μ-loop
-loop-holds c = (omega arith, λ j l. absurd (omega arith))
-
-mul-guid-at : tie.Need-mul-guid-at Inv-loop μ-loop
-mul-guid-at c = omega arith
-
-add-guid-at : tie.Need-add-guid-at Inv-loop μ-loop
-add-guid-at c = omega arith
-
-guid-at-requires : tie.Need-guid-at-requires Inv-loop μ-loop
-guid-at-requires c κs = omega arith
-
-has-guid-requires : tie.Need-has-guid-requires Inv-loop μ-loop
-has-guid-requires c κs = omega arith
-
 returns : tie.Need-returns Inv-loop μ-loop
 returns c =
     let i = c .before .before .before .before .loop .i in
     sym (not-each-row guidOf 16 _ _ (among _) i (omega arith)
     (gone-test _ i _ _ _ (c .before .before .guid-at .ensures) (c .before .has-guid .ensures) ∙ not-true _ (c .if1 .taken)))
-
-add-i : tie.Need-add-i Inv-loop μ-loop
-add-i c = omega arith
-
-loop-less : tie.Need-loop-less Inv-loop μ-loop
-loop-less c = omega arith
 
 loop-again : tie.Need-loop-again Inv-loop μ-loop
 loop-again c =
@@ -62,16 +41,5 @@ returns-2 c =
 pub all-gone-spec : {M : Type 1} → statement M
 all-gone-spec =
     tie.close
-    (tie.spec
-    Inv-loop
-    μ-loop
-    loop-holds
-    mul-guid-at
-    add-guid-at
-    guid-at-requires
-    has-guid-requires
-    returns
-    add-i
-    loop-less
-    loop-again
-    returns-2)
+    (tie.spec Inv-loop μ-loop (λ c. (omega arith, λ j l. absurd (omega arith))) (λ c. omega arith) (λ c. omega arith)
+    (λ c κs. omega arith) (λ c κs. omega arith) returns (λ c. omega arith) (λ c. omega arith) loop-again returns-2)

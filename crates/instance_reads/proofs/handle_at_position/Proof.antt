@@ -1,20 +1,11 @@
--- `handle_at_position` meets its contract, by its test and what it calls. Assumes nothing.
+-- `handle_at_position` meets its contract, by its test and what it calls.
 use borrow.Author.Needs.{needs}
 use Rattle.instance_reads.proofs.Walks.{walk-refused, walk-is}
 use Rattle.instance_reads.proofs.handle_at_position.Statement.{statement}
 use Rattle.instance_reads.proofs.handle_at_position.Tie as tie
 
-places-in-requires : tie.Need-places-in-requires
-places-in-requires c κs = search needs
-
-refusal-of-requires : tie.Need-refusal-of-requires
-refusal-of-requires c κs = search needs
-
 returns : tie.Need-returns
 returns c = rw (← c .before .before .places-in .ensures .0) (walk-refused _ _ _ (c .before .refusal-of .ensures) _ (c .if1 .taken))
-
-handle-in-requires : tie.Need-handle-in-requires
-handle-in-requires c κs = search needs
 
 returns-2 : tie.Need-returns-2
 returns-2 c =
@@ -23,4 +14,4 @@ returns-2 c =
 
 pub handle-at-position-spec : {M : Type 1} → statement M
 handle-at-position-spec =
-    tie.close (tie.spec places-in-requires refusal-of-requires returns handle-in-requires returns-2)
+    tie.close (tie.spec (λ c κs. search needs) (λ c κs. search needs) returns (λ c κs. search needs) returns-2)

@@ -1,12 +1,9 @@
--- `handle_in` meets its contract: the record at the position is the table's instance there. Assumes nothing.
+-- `handle_in` meets its contract: the record at the position is the table's instance there.
 use native.Mathlib.Omega.{arith}
 use Rattle.instance_reads.proofs.Table.{whole, room-at}
 use Rattle.instance_reads.proofs.Walks.{handle-here, handle-past}
 use Rattle.instance_reads.proofs.handle_in.Statement.{statement}
 use Rattle.instance_reads.proofs.handle_in.Tie as tie
-
-used-requires : tie.Need-used-requires
-used-requires c κs = whole _ _ (c .before .pre) .size
 
 returns : tie.Need-returns
 returns c = handle-past _ _ (c .before .before .before .args .position) (omega (arith, c .before .used .ensures, c .if1 .taken))
@@ -21,4 +18,4 @@ returns-2 c =
     (c .handle-at .ensures)
 
 pub handle-in-spec : {M : Type 1} → statement M
-handle-in-spec = tie.close (tie.spec used-requires returns handle-at-requires returns-2)
+handle-in-spec = tie.close (tie.spec (λ c κs. whole _ _ (c .before .pre) .size) returns handle-at-requires returns-2)

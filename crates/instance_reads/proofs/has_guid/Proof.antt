@@ -1,4 +1,4 @@
--- `has_guid` meets its contract: none of the GUIDs that were passed is g. Assumes nothing.
+-- `has_guid` meets its contract: none of the GUIDs that were passed is g.
 use Prim.Native.Nat.{ℕ, _-_, _≤_, _<_}
 use mathlib.Core.Bool.{false}
 use mathlib.Core.Path.{_≡_, _∙_}
@@ -16,29 +16,11 @@ Inv-loop list n g i₀ i = (i ≤ n) × ((j : ℕ) → j < i → is g (row guidO
 abbrev μ-loop : tie.MeasureT-loop
 μ-loop list n g i₀ i = n - i
 
-loop-holds : tie.Need-loop-holds Inv-loop μ-loop
-loop-holds c = (omega arith, λ j l. absurd (omega arith))
-
-mul-guid-at : tie.Need-mul-guid-at Inv-loop μ-loop
-mul-guid-at c = omega arith
-
-guid-at-requires : tie.Need-guid-at-requires Inv-loop μ-loop
-guid-at-requires c κs = omega arith
-
-is-same-requires : tie.Need-is-same-requires Inv-loop μ-loop
-is-same-requires c κs = search needs
-
 returns : tie.Need-returns Inv-loop μ-loop
 returns c =
     let i = c .before .before .before .before .loop .i in
     has-here _ _ _ i (omega arith)
     (guid-test _ i _ _ _ (c .before .before .guid-at .ensures) (c .before .is-same .ensures) ∙ c .if1 .taken)
-
-add-i : tie.Need-add-i Inv-loop μ-loop
-add-i c = omega arith
-
-loop-less : tie.Need-loop-less Inv-loop μ-loop
-loop-less c = omega arith
 
 loop-again : tie.Need-loop-again Inv-loop μ-loop
 loop-again c =
@@ -53,15 +35,5 @@ returns-2 c = has-nowhere _ _ _ (λ j l. c .before .loop .inv .1 j (omega arith)
 pub has-guid-spec : {M : Type 1} → statement M
 has-guid-spec =
     tie.close
-    (tie.spec
-    Inv-loop
-    μ-loop
-    loop-holds
-    mul-guid-at
-    guid-at-requires
-    is-same-requires
-    returns
-    add-i
-    loop-less
-    loop-again
-    returns-2)
+    (tie.spec Inv-loop μ-loop (λ c. (omega arith, λ j l. absurd (omega arith))) (λ c. omega arith)
+    (λ c κs. omega arith) (λ c κs. search needs) returns (λ c. omega arith) (λ c. omega arith) loop-again returns-2)

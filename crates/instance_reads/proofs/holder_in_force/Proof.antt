@@ -1,4 +1,4 @@
--- `holder_in_force` meets its contract: what is stored is a part of the table. Assumes nothing.
+-- `holder_in_force` meets its contract: what is stored is a part of the table.
 use native.Mathlib.Omega.{arith}
 use borrow.Author.Needs.{needs}
 use borrow.Author.Tests.{not-true, not-false}
@@ -6,23 +6,11 @@ use Rattle.instance_reads.proofs.Stored.{offered-there, part-there, par
 use Rattle.instance_reads.proofs.holder_in_force.Statement.{statement}
 use Rattle.instance_reads.proofs.holder_in_force.Tie as tie
 
-holder-place-requires : tie.Need-holder-place-requires
-holder-place-requires c κs = search needs
-
 returns : tie.Need-returns
 returns c = offered-there _ _ _ _ (c .before .holder-place .ensures .0) (not-true _ (c .if1 .taken)) _
 
-cast-end : tie.Need-cast-end
-cast-end c = search needs
-
 add-end : tie.Need-add-end
 add-end c = search (needs, part-room _ _ _ _ (c .before .holder-place .ensures .0))
-
-sub-result : tie.Need-sub-result
-sub-result c = search needs
-
-part-result-start : tie.Need-part-result-start
-part-result-start c = search needs
 
 part-result-end : tie.Need-part-result-end
 part-result-end c = omega (arith, part-room _ _ _ _ (c .before .holder-place .ensures .0))
@@ -33,12 +21,5 @@ returns-2 c = part-there _ _ _ _ (c .before .before .holder-place .ensures .0) (
 pub holder-in-force-spec : {M : Type 1} → statement M
 holder-in-force-spec =
     tie.close
-    (tie.spec
-    holder-place-requires
-    returns
-    cast-end
-    add-end
-    sub-result
-    part-result-start
-    part-result-end
-    returns-2)
+    (tie.spec (λ c κs. search needs) returns (λ c. search needs) add-end (λ c. search needs) (λ c. search needs)
+    part-result-end returns-2)

@@ -1,4 +1,4 @@
--- `holder_place` meets its contract, by its test and what it calls. Assumes nothing.
+-- `holder_place` meets its contract, by its test and what it calls.
 use borrow.Author.Needs.{needs}
 use mathlib.Core.Path.{sym, _∙_}
 use Rattle.instance_reads.proofs.Table.{found-room, found-none}
@@ -6,37 +6,16 @@ use Rattle.instance_reads.proofs.Stored.{force-at, place-refused, place
 use Rattle.instance_reads.proofs.holder_place.Statement.{statement}
 use Rattle.instance_reads.proofs.holder_place.Tie as tie
 
-places-in-requires : tie.Need-places-in-requires
-places-in-requires c κs = search needs
-
-refusal-of-requires : tie.Need-refusal-of-requires
-refusal-of-requires c κs = search needs
-
-nowhere-requires : tie.Need-nowhere-requires
-nowhere-requires c κs = search needs
-
 returns : tie.Need-returns
 returns c =
     rw (← c .before .before .before .places-in .ensures .0)
     (force-at _ _ _ _ (c .nowhere .ensures ∙ place-refused _ _ _ _ (c .before .before .refusal-of .ensures) (c .before .if1 .taken)))
-
-locate-requires : tie.Need-locate-requires
-locate-requires c κs = search needs
-
-enum-known-i : tie.Need-enum-known-i
-enum-known-i c = search needs
 
 holder-at-requires : tie.Need-holder-at-requires
 holder-at-requires c κs =
     let l = c .before .before .before in
     let r = sym (l .before .before .refusal-of .ensures) ∙ l .before .if1 .left in
     found-room _ _ r _ _ _ (l .locate .ensures) (c .before .i .given .1)
-
-enum-told : tie.Need-enum-told
-enum-told c = search needs
-
-nowhere-requires-2 : tie.Need-nowhere-requires-2
-nowhere-requires-2 c κs = search needs
 
 returns-2 : tie.Need-returns-2
 returns-2 c =
@@ -56,15 +35,5 @@ returns-3 c =
 pub holder-place-spec : {M : Type 1} → statement M
 holder-place-spec =
     tie.close
-    (tie.spec
-    places-in-requires
-    refusal-of-requires
-    nowhere-requires
-    returns
-    locate-requires
-    enum-known-i
-    holder-at-requires
-    enum-told
-    nowhere-requires-2
-    returns-2
-    returns-3)
+    (tie.spec (λ c κs. search needs) (λ c κs. search needs) (λ c κs. search needs) returns (λ c κs. search needs)
+    (λ c. search needs) holder-at-requires (λ c. search needs) (λ c κs. search needs) returns-2 returns-3)

@@ -1,4 +1,4 @@
--- `last_delivered_ts` meets its contract, by its tests and what it calls. Assumes nothing.
+-- `last_delivered_ts` meets its contract, by its tests and what it calls.
 use mathlib.Core.Path.{_∙_}
 use mir.Syntax.{w32}
 use mir.ValLaws.{toZ-ofZ}
@@ -8,26 +8,14 @@ use Rattle.instance_reads.proofs.Answers.{delivered-is, delivered-missi
 use Rattle.instance_reads.proofs.last_delivered_ts.Statement.{statement}
 use Rattle.instance_reads.proofs.last_delivered_ts.Tie as tie
 
-places-in-requires : tie.Need-places-in-requires
-places-in-requires c κs = search needs
-
-refusal-of-requires : tie.Need-refusal-of-requires
-refusal-of-requires c κs = search needs
-
 returns : tie.Need-returns
 returns c = rw (← c .before .before .places-in .ensures .0) (delivered-refused _ _ _ _ (c .before .refusal-of .ensures) (c .if1 .taken))
-
-times-of-requires : tie.Need-times-of-requires
-times-of-requires c κs = search needs
 
 returns-2 : tie.Need-returns-2
 returns-2 c =
     let h = c .before .before .before in
     rw (← h .before .before .places-in .ensures .0)
     (delivered-missing _ _ _ _ (h .before .refusal-of .ensures) _ (c .before .before .times-of .ensures) (h .if1 .left) (not-true _ (c .if2 .taken)))
-
-of-bits-requires : tie.Need-of-bits-requires
-of-bits-requires c κs = search needs
 
 returns-3 : tie.Need-returns-3
 returns-3 c =
@@ -39,11 +27,5 @@ returns-3 c =
 pub last-delivered-ts-spec : {M : Type 1} → statement M
 last-delivered-ts-spec =
     tie.close
-    (tie.spec
-    places-in-requires
-    refusal-of-requires
-    returns
-    times-of-requires
-    returns-2
-    of-bits-requires
-    returns-3)
+    (tie.spec (λ c κs. search needs) (λ c κs. search needs) returns (λ c κs. search needs) returns-2
+    (λ c κs. search needs) returns-3)

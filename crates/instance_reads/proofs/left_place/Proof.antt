@@ -1,4 +1,4 @@
--- `left_place` meets its contract: none of the instances that were passed is left. Assumes nothing.
+-- `left_place` meets its contract: none of the instances that were passed is left.
 use Prim.Native.Nat.{ℕ, _-_, _≤_, _<_}
 use mathlib.Core.Bool.{false}
 use mathlib.Core.Path.{_≡_, _∙_}
@@ -7,7 +7,7 @@ use borrow.Author.Count.{below-more}
 use Rattle.model.specs.Guids.{guidsIn}
 use Rattle.model.specs.InstanceRecord.{instanceOf}
 use Rattle.model.specs.Reads.{usedIn, leftWith}
-use Rattle.instance_record.specs.Parts.{recordAt}
+use Rattle.instance_decoding.specs.Parts.{recordAt}
 use Rattle.instance_reads.proofs.Members.{part-ok, part-told, place-table}
 use Rattle.instance_reads.proofs.Table.{whole, room-at, valid-at}
 use Rattle.instance_reads.proofs.left_place.Statement.{statement}
@@ -19,20 +19,11 @@ Inv-loop pens places count gone m mask i₀ i = (i ≤ count) × ((j : ℕ) → 
 abbrev μ-loop : tie.MeasureT-loop
 μ-loop pens places count gone m mask i₀ i = count - i
 
-loop-holds : tie.Need-loop-holds Inv-loop μ-loop
-loop-holds c = (omega arith, λ j l. absurd (omega arith))
-
 mul-o : tie.Need-mul-o Inv-loop μ-loop
 mul-o c = let s = c .before .before .before .before in omega (arith, whole _ _ (s .pre .0) .room, s .pre .1)
 
 add-e : tie.Need-add-e Inv-loop μ-loop
 add-e c = let s = c .before .before .before .before in omega (arith, whole _ _ (s .pre .0) .room, s .pre .1)
-
-sub-left-with : tie.Need-sub-left-with Inv-loop μ-loop
-sub-left-with c = omega arith
-
-part-left-with-start : tie.Need-part-left-with-start Inv-loop μ-loop
-part-left-with-start c = omega arith
 
 part-left-with-end : tie.Need-part-left-with-end Inv-loop μ-loop
 part-left-with-end c = let s = c .before .before .before .before in omega (arith, whole _ _ (s .pre .0) .room, s .pre .1)
@@ -53,12 +44,6 @@ returns c =
     place-table _ _ p _ (l .i) (s .pre .1) (l .inv .0) (l .inv .1)
     (λ m. part-told p _ (l .i) _ (c .before .left-with .ensures) ∙ c .if1 .taken)
 
-add-i : tie.Need-add-i Inv-loop μ-loop
-add-i c = omega arith
-
-loop-less : tie.Need-loop-less Inv-loop μ-loop
-loop-less c = omega arith
-
 loop-again : tie.Need-loop-again Inv-loop μ-loop
 loop-again c =
     let s = c .before .before .before .before .before .before .before in
@@ -76,18 +61,6 @@ returns-2 c =
 pub left-place-spec : {M : Type 1} → statement M
 left-place-spec =
     tie.close
-    (tie.spec
-    Inv-loop
-    μ-loop
-    loop-holds
-    mul-o
-    add-e
-    sub-left-with
-    part-left-with-start
-    part-left-with-end
-    left-with-requires
-    returns
-    add-i
-    loop-less
-    loop-again
+    (tie.spec Inv-loop μ-loop (λ c. (omega arith, λ j l. absurd (omega arith))) mul-o add-e (λ c. omega arith)
+    (λ c. omega arith) part-left-with-end left-with-requires returns (λ c. omega arith) (λ c. omega arith) loop-again
     returns-2)

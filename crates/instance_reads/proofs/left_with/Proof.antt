@@ -1,4 +1,4 @@
--- `left_with` meets its contract, by the flags and its tests. Assumes nothing.
+-- `left_with` meets its contract, by the flags and its tests.
 use native.Mathlib.Omega.{arith}
 use borrow.Author.Needs.{needs}
 use borrow.Author.Tests.{not-true, not-false}
@@ -7,22 +7,13 @@ use Rattle.instance_reads.proofs.Members.{set-few}
 use Rattle.instance_reads.proofs.left_with.Statement.{statement}
 use Rattle.instance_reads.proofs.left_with.Tie as tie
 
-get-u16-requires : tie.Need-get-u16-requires
-get-u16-requires c κs = search needs
-
 returns : tie.Need-returns
 returns c = left-dead _ _ (c .before .get-u16 .ensures) _ _ (c .if1 .taken)
-
-view-in-requires : tie.Need-view-in-requires
-view-in-requires c κs = search needs
 
 returns-2 : tie.Need-returns-2
 returns-2 c =
     let f = c .before .before .before .get-u16 .ensures in
     left-unseen _ _ f _ _ (c .before .before .if1 .left) _ (c .before .view-in .ensures) (not-true _ (c .if2 .taken))
-
-cast-n : tie.Need-cast-n
-cast-n c = search needs
 
 returns-3 : tie.Need-returns-3
 returns-3 c =
@@ -47,12 +38,5 @@ returns-4 c =
 pub left-with-spec : {M : Type 1} → statement M
 left-with-spec =
     tie.close
-    (tie.spec
-    get-u16-requires
-    returns
-    view-in-requires
-    returns-2
-    cast-n
-    returns-3
-    all-gone-requires
-    returns-4)
+    (tie.spec (λ c κs. search needs) returns (λ c κs. search needs) returns-2 (λ c. search needs) returns-3
+    all-gone-requires returns-4)

@@ -1,4 +1,4 @@
--- `left_writerless` meets its contract, by its tests and what it calls. Assumes nothing.
+-- `left_writerless` meets its contract, by its tests and what it calls.
 use mathlib.Core.Path.{sym, _∙_}
 use native.Mathlib.Omega.{arith}
 use borrow.Author.Needs.{needs}
@@ -11,12 +11,6 @@ use Rattle.instance_reads.proofs.left_writerless.Tie as tie
 returns : tie.Need-returns
 returns c =
     left-refused _ _ _ _ _ (left-short _ _ _ _ (c .if1 .taken)) _ (λ z. omega arith)
-
-places-in-requires : tie.Need-places-in-requires
-places-in-requires c κs = search needs
-
-list-refusal-requires : tie.Need-list-refusal-requires
-list-refusal-requires c κs = search needs
 
 returns-2 : tie.Need-returns-2
 returns-2 c =
@@ -35,9 +29,6 @@ cast-t13 c =
     let r = list-free _ _ _ (sym (h .before .list-refusal .ensures) ∙ h .if2 .left) in
     omega (arith, listed-few (c .before .before .list-all-left .ensures), count-table (h .before .before .places-in .result) (a .args .pens .now), whole _ _ r .few, h .before .before .places-in .ensures .1)
 
-same-length : tie.Need-same-length
-same-length c = search needs
-
 returns-3 : tie.Need-returns-3
 returns-3 c =
     let h = c .before .before .before .before in
@@ -48,12 +39,5 @@ returns-3 c =
 pub left-writerless-spec : {M : Type 1} → statement M
 left-writerless-spec =
     tie.close
-    (tie.spec
-    returns
-    places-in-requires
-    list-refusal-requires
-    returns-2
-    list-all-left-requires
-    cast-t13
-    same-length
-    returns-3)
+    (tie.spec returns (λ c κs. search needs) (λ c κs. search needs) returns-2 list-all-left-requires cast-t13
+    (λ c. search needs) returns-3)

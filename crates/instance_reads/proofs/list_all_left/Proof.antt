@@ -1,4 +1,4 @@
--- `list_all_left` meets its contract: after i instances those of them that are left are listed. Assumes nothing.
+-- `list_all_left` meets its contract: after i instances those of them that are left are listed.
 use Prim.Native.Nat.{_-_, _≤_, _<_}
 use mathlib.Core.List.{[]}
 use mathlib.Core.Path.{sym}
@@ -21,9 +21,6 @@ Inv-loop pens places gone m view-states out₀ count i₀ k₀ out i k =
 abbrev μ-loop : tie.MeasureT-loop
 μ-loop pens places gone m view-states out₀ count i₀ k₀ out i k = count - i
 
-used-requires : tie.Need-used-requires Inv-loop μ-loop
-used-requires c κs = whole _ _ (c .before .before .before .pre .0) .size
-
 loop-holds : tie.Need-loop-holds Inv-loop μ-loop
 loop-holds c = let s = c .before .before .before .before in
     (omega arith, listed-start _ (tableOf (s .args .places) (s .args .pens .now)) _)
@@ -42,12 +39,6 @@ list-left-requires c κs =
       s .pre .1,
       listed-room (tableOf (s .args .places) (s .args .pens .now)) i (k .loop .inv .1) (omega arith) (s .args .places) (omega arith) (s .pre .2),
     )
-
-add-i : tie.Need-add-i Inv-loop μ-loop
-add-i c = omega arith
-
-loop-less : tie.Need-loop-less Inv-loop μ-loop
-loop-less c = omega arith
 
 loop-again : tie.Need-loop-again Inv-loop μ-loop
 loop-again c =
@@ -87,14 +78,5 @@ returns c =
 pub list-all-left-spec : {M : Type 1} → statement M
 list-all-left-spec =
     tie.close
-    (tie.spec
-    Inv-loop
-    μ-loop
-    used-requires
-    loop-holds
-    list-left-requires
-    add-i
-    loop-less
-    loop-again
-    same-length
-    returns)
+    (tie.spec Inv-loop μ-loop (λ c κs. whole _ _ (c .before .before .before .pre .0) .size) loop-holds
+    list-left-requires (λ c. omega arith) (λ c. omega arith) loop-again same-length returns)

@@ -1,4 +1,4 @@
--- `list_left` meets its contract, by its test and what it calls. Assumes nothing.
+-- `list_left` meets its contract, by its test and what it calls.
 use mathlib.Core.Path.{ap, _∙_}
 use borrow.Author.Needs.{needs}
 use borrow.Author.Tests.{not-true, not-false}
@@ -12,21 +12,6 @@ use Rattle.instance_reads.proofs.Members.{part-ok, part-told}
 use Rattle.instance_reads.proofs.list_left.Statement.{statement}
 use Rattle.instance_reads.proofs.list_left.Tie as tie
 
-mul-o : tie.Need-mul-o
-mul-o c = search needs
-
-add-e : tie.Need-add-e
-add-e c = search needs
-
-sub-left-with : tie.Need-sub-left-with
-sub-left-with c = search needs
-
-part-left-with-start : tie.Need-part-left-with-start
-part-left-with-start c = search needs
-
-part-left-with-end : tie.Need-part-left-with-end
-part-left-with-end c = search needs
-
 left-with-requires : tie.Need-left-with-requires
 left-with-requires c κs =
     let s = c .before .before .before .before in
@@ -38,21 +23,6 @@ returns c =
     let s = c .before .before .before .before .before .before in
     let p = leftWith (guidsIn (s .args .m) (s .args .gone .now)) (s .args .view-states) in
     list-skip _ _ _ _ (part-told p _ (s .args .i) _ (c .before .left-with .ensures) ∙ not-true _ (c .if1 .taken))
-
-handle-at-requires : tie.Need-handle-at-requires
-handle-at-requires c κs = search needs
-
-mul-put-u64 : tie.Need-mul-put-u64
-mul-put-u64 c = search needs
-
-put-u64-requires : tie.Need-put-u64-requires
-put-u64-requires c κs = search needs
-
-add-result : tie.Need-add-result
-add-result c = search needs
-
-same-length : tie.Need-same-length
-same-length c = search needs
 
 returns-2 : tie.Need-returns-2
 returns-2 c =
@@ -66,17 +36,6 @@ returns-2 c =
 pub list-left-spec : {M : Type 1} → statement M
 list-left-spec =
     tie.close
-    (tie.spec
-    mul-o
-    add-e
-    sub-left-with
-    part-left-with-start
-    part-left-with-end
-    left-with-requires
-    returns
-    handle-at-requires
-    mul-put-u64
-    put-u64-requires
-    add-result
-    same-length
-    returns-2)
+    (tie.spec (λ c. search needs) (λ c. search needs) (λ c. search needs) (λ c. search needs) (λ c. search needs)
+    left-with-requires returns (λ c κs. search needs) (λ c. search needs) (λ c κs. search needs) (λ c. search needs)
+    (λ c. search needs) returns-2)

@@ -1,12 +1,9 @@
--- `locate` meets its contract: the used records are the table's instances, and their keys rise. Assumes nothing.
+-- `locate` meets its contract: the used records are the table's instances, and their keys rise.
 use native.Mathlib.Omega.{arith}
 use Rattle.model.specs.Reads.{tableOf}
 use Rattle.instance_reads.proofs.Table.{whole, located}
 use Rattle.instance_reads.proofs.locate.Statement.{statement}
 use Rattle.instance_reads.proofs.locate.Tie as tie
-
-used-requires : tie.Need-used-requires
-used-requires c κs = whole _ _ (c .before .pre .1) .size
 
 find-key-requires : tie.Need-find-key-requires
 unfolding tableOf
@@ -18,4 +15,4 @@ returns : tie.Need-returns
 returns c = located _ _ _ _ _ (c .before .used .ensures) (c .find-key .ensures)
 
 pub locate-spec : {M : Type 1} → statement M
-locate-spec = tie.close (tie.spec used-requires find-key-requires returns)
+locate-spec = tie.close (tie.spec (λ c κs. whole _ _ (c .before .pre .1) .size) find-key-requires returns)

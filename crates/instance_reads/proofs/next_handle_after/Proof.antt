@@ -1,4 +1,4 @@
--- `next_handle_after` meets its contract, by its tests and what it calls. Assumes nothing.
+-- `next_handle_after` meets its contract, by its tests and what it calls.
 use mathlib.Core.Path.{sym, _∙_}
 use native.Mathlib.Omega.{arith}
 use borrow.Author.Needs.{needs}
@@ -7,17 +7,8 @@ use Rattle.instance_reads.proofs.Walks.{next-refused, next-first, next-
 use Rattle.instance_reads.proofs.next_handle_after.Statement.{statement}
 use Rattle.instance_reads.proofs.next_handle_after.Tie as tie
 
-places-in-requires : tie.Need-places-in-requires
-places-in-requires c κs = search needs
-
-refusal-of-requires : tie.Need-refusal-of-requires
-refusal-of-requires c κs = search needs
-
 returns : tie.Need-returns
 returns c = rw (← c .before .before .places-in .ensures .0) (next-refused _ _ _ (c .before .refusal-of .ensures) _ (c .if1 .taken))
-
-handle-in-requires : tie.Need-handle-in-requires
-handle-in-requires c κs = search needs
 
 returns-2 : tie.Need-returns-2
 returns-2 c =
@@ -39,9 +30,6 @@ add-handle-in c =
     omega
     (arith, whole _ _ (sym (h .before .refusal-of .ensures) ∙ h .if1 .left) .few, h .before .before .places-in .ensures .1, c .before .used .ensures, place-few _ _ _ _ (c .find-handle .ensures))
 
-handle-in-requires-2 : tie.Need-handle-in-requires-2
-handle-in-requires-2 c κs = search needs
-
 returns-3 : tie.Need-returns-3
 returns-3 c =
     let h = c .before .before .before in
@@ -52,14 +40,5 @@ returns-3 c =
 pub next-handle-after-spec : {M : Type 1} → statement M
 next-handle-after-spec =
     tie.close
-    (tie.spec
-    places-in-requires
-    refusal-of-requires
-    returns
-    handle-in-requires
-    returns-2
-    used-requires
-    find-handle-requires
-    add-handle-in
-    handle-in-requires-2
-    returns-3)
+    (tie.spec (λ c κs. search needs) (λ c κs. search needs) returns (λ c κs. search needs) returns-2 used-requires
+    find-handle-requires add-handle-in (λ c κs. search needs) returns-3)

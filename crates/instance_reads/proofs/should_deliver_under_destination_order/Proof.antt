@@ -1,16 +1,10 @@
--- `should_deliver_under_destination_order` meets its contract, by its tests and what it calls. Assumes nothing.
+-- `should_deliver_under_destination_order` meets its contract, by its tests and what it calls.
 use mathlib.Core.Path.{sym, _∙_}
 use borrow.Author.Needs.{needs}
 use borrow.Author.Tests.{not-true, not-false}
 use Rattle.instance_reads.proofs.Answers.{order-any, order-is, order-refused, table-free}
 use Rattle.instance_reads.proofs.should_deliver_under_destination_order.Statement.{statement}
 use Rattle.instance_reads.proofs.should_deliver_under_destination_order.Tie as tie
-
-places-in-requires : tie.Need-places-in-requires
-places-in-requires c κs = search needs
-
-time-refusal-requires : tie.Need-time-refusal-requires
-time-refusal-requires c κs = search needs
 
 returns : tie.Need-returns
 returns c = rw (← c .before .before .places-in .ensures .0) (order-refused _ _ _ _ _ (c .before .time-refusal .ensures) _ (c .if1 .taken))
@@ -23,12 +17,6 @@ returns-2 c =
 times-of-requires : tie.Need-times-of-requires
 times-of-requires c κs = (c .before .before .before .places-in .ensures .1, table-free _ _ _ (sym (c .before .before .time-refusal .ensures) ∙ c .before .if1 .left))
 
-bits-of-time-requires : tie.Need-bits-of-time-requires
-bits-of-time-requires c κs = search needs
-
-order-admits-requires : tie.Need-order-admits-requires
-order-admits-requires c κs = search needs
-
 returns-3 : tie.Need-returns-3
 returns-3 c =
     let h = c .before .before .before .before .before in
@@ -39,12 +27,5 @@ returns-3 c =
 pub should-deliver-under-destination-order-spec : {M : Type 1} → statement M
 should-deliver-under-destination-order-spec =
     tie.close
-    (tie.spec
-    places-in-requires
-    time-refusal-requires
-    returns
-    returns-2
-    times-of-requires
-    bits-of-time-requires
-    order-admits-requires
-    returns-3)
+    (tie.spec (λ c κs. search needs) (λ c κs. search needs) returns returns-2 times-of-requires (λ c κs. search needs)
+    (λ c κs. search needs) returns-3)

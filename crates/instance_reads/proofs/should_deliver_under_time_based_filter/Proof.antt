@@ -1,27 +1,15 @@
--- `should_deliver_under_time_based_filter` meets its contract, by its tests and what it calls. Assumes nothing.
+-- `should_deliver_under_time_based_filter` meets its contract, by its tests and what it calls.
 use mathlib.Core.Path.{sym, _∙_}
 use borrow.Author.Needs.{needs}
 use Rattle.instance_reads.proofs.Answers.{filter-is, filter-refused, table-free}
 use Rattle.instance_reads.proofs.should_deliver_under_time_based_filter.Statement.{statement}
 use Rattle.instance_reads.proofs.should_deliver_under_time_based_filter.Tie as tie
 
-places-in-requires : tie.Need-places-in-requires
-places-in-requires c κs = search needs
-
-time-refusal-requires : tie.Need-time-refusal-requires
-time-refusal-requires c κs = search needs
-
 returns : tie.Need-returns
 returns c = rw (← c .before .before .places-in .ensures .0) (filter-refused _ _ _ _ _ (c .before .time-refusal .ensures) _ (c .if1 .taken))
 
 times-of-requires : tie.Need-times-of-requires
 times-of-requires c κs = (c .before .before .places-in .ensures .1, table-free _ _ _ (sym (c .before .time-refusal .ensures) ∙ c .if1 .left))
-
-bits-of-time-requires : tie.Need-bits-of-time-requires
-bits-of-time-requires c κs = search needs
-
-filter-admits-requires : tie.Need-filter-admits-requires
-filter-admits-requires c κs = search needs
 
 returns-2 : tie.Need-returns-2
 returns-2 c =
@@ -33,11 +21,5 @@ returns-2 c =
 pub should-deliver-under-time-based-filter-spec : {M : Type 1} → statement M
 should-deliver-under-time-based-filter-spec =
     tie.close
-    (tie.spec
-    places-in-requires
-    time-refusal-requires
-    returns
-    times-of-requires
-    bits-of-time-requires
-    filter-admits-requires
-    returns-2)
+    (tie.spec (λ c κs. search needs) (λ c κs. search needs) returns times-of-requires (λ c κs. search needs)
+    (λ c κs. search needs) returns-2)

@@ -1,4 +1,4 @@
--- `times_of` meets its contract: the instance at the key's place is the one that model finds. Assumes nothing.
+-- `times_of` meets its contract: the instance at the key's place is the one that model finds.
 use mathlib.Core.Path.{sym, ap, _∙_}
 use mathlib.Core.Option.{some}
 use borrow.Author.Needs.{needs}
@@ -7,22 +7,10 @@ use Rattle.instance_reads.proofs.Answers.{times-here, times-none}
 use Rattle.instance_reads.proofs.times_of.Statement.{statement}
 use Rattle.instance_reads.proofs.times_of.Tie as tie
 
-locate-requires : tie.Need-locate-requires
-locate-requires c κs = search needs
-
-enum-known-i : tie.Need-enum-known-i
-enum-known-i c = search needs
-
 instance-at-requires : tie.Need-instance-at-requires
 instance-at-requires c κs =
     let l = c .before .before .before in
     found-room _ _ (l .before .before .pre .1) _ _ _ (l .locate .ensures) (c .before .i .given .1)
-
-enum-told : tie.Need-enum-told
-enum-told c = search needs
-
-no-time-requires : tie.Need-no-time-requires
-no-time-requires c κs = search needs
 
 returns : tie.Need-returns
 returns c =
@@ -40,11 +28,5 @@ returns-2 c =
 pub times-of-spec : {M : Type 1} → statement M
 times-of-spec =
     tie.close
-    (tie.spec
-    locate-requires
-    enum-known-i
-    instance-at-requires
-    enum-told
-    no-time-requires
-    returns
-    returns-2)
+    (tie.spec (λ c κs. search needs) (λ c. search needs) instance-at-requires (λ c. search needs)
+    (λ c κs. search needs) returns returns-2)

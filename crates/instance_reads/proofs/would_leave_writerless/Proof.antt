@@ -1,4 +1,4 @@
--- `would_leave_writerless` meets its contract, by its test and what it calls. Assumes nothing.
+-- `would_leave_writerless` meets its contract, by its test and what it calls.
 use mathlib.Core.Path.{sym, _∙_}
 use native.Mathlib.Omega.{arith}
 use borrow.Author.Needs.{needs}
@@ -6,12 +6,6 @@ use Rattle.instance_reads.proofs.Left.{list-free, would-refused, would-
 use Rattle.instance_reads.proofs.Table.{whole}
 use Rattle.instance_reads.proofs.would_leave_writerless.Statement.{statement}
 use Rattle.instance_reads.proofs.would_leave_writerless.Tie as tie
-
-places-in-requires : tie.Need-places-in-requires
-places-in-requires c κs = search needs
-
-list-refusal-requires : tie.Need-list-refusal-requires
-list-refusal-requires c κs = search needs
 
 returns : tie.Need-returns
 returns c =
@@ -34,4 +28,4 @@ returns-2 c =
 
 pub would-leave-writerless-spec : {M : Type 1} → statement M
 would-leave-writerless-spec =
-    tie.close (tie.spec places-in-requires list-refusal-requires returns used-requires left-place-requires returns-2)
+    tie.close (tie.spec (λ c κs. search needs) (λ c κs. search needs) returns used-requires left-place-requires returns-2)

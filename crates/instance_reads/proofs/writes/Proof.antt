@@ -1,4 +1,4 @@
--- `writes` meets its contract, by the flags. Assumes nothing.
+-- `writes` meets its contract, by the flags.
 use native.Mathlib.Omega.{arith}
 use lib.ListN.{length-drop}
 use borrow.Author.Needs.{needs}
@@ -6,23 +6,8 @@ use Rattle.instance_reads.proofs.Members.{rest-part, set-few, writes-de
 use Rattle.instance_reads.proofs.writes.Statement.{statement}
 use Rattle.instance_reads.proofs.writes.Tie as tie
 
-get-u16-requires : tie.Need-get-u16-requires
-get-u16-requires c κs = search needs
-
 returns : tie.Need-returns
 returns c = writes-dead _ _ (c .before .get-u16 .ensures) _ (c .if1 .taken)
-
-sub-has-guid : tie.Need-sub-has-guid
-sub-has-guid c = search needs
-
-part-has-guid-start : tie.Need-part-has-guid-start
-part-has-guid-start c = search needs
-
-part-has-guid-end : tie.Need-part-has-guid-end
-part-has-guid-end c = search needs
-
-cast-has-guid : tie.Need-cast-has-guid
-cast-has-guid c = search needs
 
 has-guid-requires : tie.Need-has-guid-requires
 has-guid-requires c κs =
@@ -39,12 +24,5 @@ returns-2 c =
 pub writes-spec : {M : Type 1} → statement M
 writes-spec =
     tie.close
-    (tie.spec
-    get-u16-requires
-    returns
-    sub-has-guid
-    part-has-guid-start
-    part-has-guid-end
-    cast-has-guid
-    has-guid-requires
-    returns-2)
+    (tie.spec (λ c κs. search needs) returns (λ c. search needs) (λ c. search needs) (λ c. search needs)
+    (λ c. search needs) has-guid-requires returns-2)

@@ -1,32 +1,8 @@
--- Code 9. Assumes nothing.
+-- Code 9.
 use Rattle.model.specs.Instances.{admittedObserved}
 use borrow.Author.Needs.{needs}
 use Rattle.instance_samples.proofs.admitted_observed.Statement.{statement}
 use Rattle.instance_samples.proofs.admitted_observed.Tie as tie
-
-revived-new-requires : tie.Need-revived-new-requires
-revived-new-requires c κs = search needs
-
-with-life-requires : tie.Need-with-life-requires
-with-life-requires c κs = search needs
-
-stored-requires : tie.Need-stored-requires
-stored-requires c κs = search needs
-
-given-holder-requires : tie.Need-given-holder-requires
-given-holder-requires c κs = search needs
-
-with-holder-requires : tie.Need-with-holder-requires
-with-holder-requires c κs = search needs
-
-always-requires : tie.Need-always-requires
-always-requires c κs = search needs
-
-sampled-at-requires : tie.Need-sampled-at-requires
-sampled-at-requires c κs = search needs
-
-counted-requires : tie.Need-counted-requires
-counted-requires c κs = search needs
 
 returns : tie.Need-returns
 unfolding admittedObserved
@@ -40,13 +16,5 @@ returns c =
 pub admitted-observed-spec : {M : Type 1} → statement M
 admitted-observed-spec =
     tie.close
-    (tie.spec
-    revived-new-requires
-    with-life-requires
-    stored-requires
-    given-holder-requires
-    with-holder-requires
-    always-requires
-    sampled-at-requires
-    counted-requires
-    returns)
+    (tie.spec (λ c κs. search needs) (λ c κs. search needs) (λ c κs. search needs) (λ c κs. search needs)
+    (λ c κs. search needs) (λ c κs. search needs) (λ c κs. search needs) (λ c κs. search needs) returns)

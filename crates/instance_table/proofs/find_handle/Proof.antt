@@ -1,4 +1,4 @@
--- `find_handle` meets its contract: none that was passed has the handle. Assumes nothing.
+-- `find_handle` meets its contract: none that was passed has the handle.
 use Prim.Native.Nat.{ℕ, _-_, _≤_, _<_}
 use mathlib.Core.Logic.{_≢_}
 use mathlib.Core.Path.{sym, _∙_}
@@ -15,23 +15,11 @@ Inv-loop t count n i₀ i = (i ≤ count) × ((j : ℕ) → j < i → handleAt t
 abbrev μ-loop : tie.MeasureT-loop
 μ-loop t count n i₀ i = count - i
 
-loop-holds : tie.Need-loop-holds Inv-loop μ-loop
-loop-holds c = (omega arith, (λ j l. absurd (omega arith)))
-
-number-at-requires : tie.Need-number-at-requires Inv-loop μ-loop
-number-at-requires c κs = omega arith
-
 returns : tie.Need-returns Inv-loop μ-loop
 returns c =
     let a = c .before .before .before .before .before .args in
     let l = c .before .before .before .loop in
     handle-place (a .t .now) (a .count) (a .h) (l .i) (l .inv .0) (l .inv .1) (λ m. sym (c .before .number-at .ensures) ∙ c .if1 .taken)
-
-add-i : tie.Need-add-i Inv-loop μ-loop
-add-i c = omega arith
-
-loop-less : tie.Need-loop-less Inv-loop μ-loop
-loop-less c = omega arith
 
 loop-again : tie.Need-loop-again Inv-loop μ-loop
 loop-again c =
@@ -45,4 +33,5 @@ returns-2 c =
     handle-place (a .t .now) (a .count) (a .h) (l .i) (l .inv .0) (l .inv .1) (λ m. absurd (omega arith))
 
 pub find-handle-spec : {M : Type 1} → statement M
-find-handle-spec = tie.close (tie.spec Inv-loop μ-loop loop-holds number-at-requires returns add-i loop-less loop-again returns-2)
+find-handle-spec = tie.close (tie.spec Inv-loop μ-loop (λ c. (omega arith, (λ j l. absurd (omega arith)))) (λ c κs. omega arith) returns
+    (λ c. omega arith) (λ c. omega arith) loop-again returns-2)

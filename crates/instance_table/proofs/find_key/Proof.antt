@@ -1,4 +1,4 @@
--- `find_key` meets its contract: the table's keys are the instances' keys. Assumes nothing.
+-- `find_key` meets its contract: the table's keys are the instances' keys.
 use mathlib.Core.List.{List}
 use mathlib.Core.Path.{_∙_, ap}
 use native.Mathlib.Omega.{arith}

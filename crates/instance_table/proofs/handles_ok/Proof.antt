@@ -1,5 +1,4 @@
 -- `handles_ok` meets its contract: the handles passed are as they should be, and the flags of their remainders are set.
--- Assumes nothing.
 use Prim.Native.Nat.{_-_, _≤_}
 use mathlib.Core.Logic.{⊎-elim}
 use mathlib.Core.Path.{_≡_, sym, _∙_}
@@ -21,9 +20,6 @@ abbrev μ-loop : tie.MeasureT-loop
 loop-holds : tie.Need-loop-holds Inv-loop μ-loop
 loop-holds c = (omega arith, met-start (c .before .args .t .now) (c .before .args .next))
 
-number-at-requires : tie.Need-number-at-requires Inv-loop μ-loop
-number-at-requires c κs = omega arith
-
 returns : tie.Need-returns Inv-loop μ-loop
 returns c =
     let a = c .before .before .before .before .before .args in
@@ -36,39 +32,18 @@ returns-2 c =
     let l = c .before .before .before .before .loop in
     high-end (a .t .now) (a .next) (a .count) (l .i) (omega arith) (omega (arith, c .before .before .number-at .ensures))
 
-array-read-if3 : tie.Need-array-read-if3 Inv-loop μ-loop
-array-read-if3 c = omega arith
-
 ordered-ok-requires : tie.Need-ordered-ok-requires Inv-loop μ-loop
 ordered-ok-requires c κs =
     let a = c .before .before .before .before .before .before .before .before .args in
     let l = c .before .before .before .before .before .before .loop in
     (leb-true (a .count) 128 (both (ltb 1280 (l .scanned)) (leb (a .count) 128) (c .if4 .taken) .1), omega arith)
 
-returns-3 : tie.Need-returns-3 Inv-loop μ-loop
-returns-3 c = c .ordered-ok .ensures
-
-fresh-requires : tie.Need-fresh-requires Inv-loop μ-loop
-fresh-requires c κs = omega arith
-
 returns-4 : tie.Need-returns-4 Inv-loop μ-loop
 returns-4 c =
     let a = c .before .before .before .before .before .before .before .before .before .before .args in
     let l = c .before .before .before .before .before .before .before .before .loop in
     used-end (a .t .now) (a .next) (a .count) (l .i) (omega arith)
-    (rw (← c .before .before .before .before .before .before .number-at .ensures) (sym (c .before .fresh .ensures) ∙ not-true _ (c .if5 .taken)))
-
-wrapping-add-usize-requires : tie.Need-wrapping-add-usize-requires Inv-loop μ-loop
-wrapping-add-usize-requires c κs = search needs
-
-array-write-met : tie.Need-array-write-met Inv-loop μ-loop
-array-write-met c = omega arith
-
-add-i : tie.Need-add-i Inv-loop μ-loop
-add-i c = omega arith
-
-loop-less : tie.Need-loop-less Inv-loop μ-loop
-loop-less c = omega arith
+    (rw (← c .before .before .before .before .before .before .number-at .ensures) (sym (c .before .is-unused .ensures) ∙ not-true _ (c .if5 .taken)))
 
 loop-again : tie.Need-loop-again Inv-loop μ-loop
 loop-again c =
@@ -89,21 +64,6 @@ returns-5 c =
 pub handles-ok-spec : {M : Type 1} → statement M
 handles-ok-spec =
     tie.close
-    (tie.spec
-    Inv-loop
-    μ-loop
-    loop-holds
-    number-at-requires
-    returns
-    returns-2
-    array-read-if3
-    ordered-ok-requires
-    returns-3
-    fresh-requires
-    returns-4
-    wrapping-add-usize-requires
-    array-write-met
-    add-i
-    loop-less
-    loop-again
-    returns-5)
+    (tie.spec Inv-loop μ-loop loop-holds (λ c κs. omega arith) returns returns-2 (λ c. omega arith)
+    ordered-ok-requires (λ c. c .ordered-ok .ensures) (λ c κs. omega arith) returns-4 (λ c κs. search needs)
+    (λ c. omega arith) (λ c. omega arith) (λ c. omega arith) loop-again returns-5)

@@ -1,18 +1,9 @@
--- `insert` meets its contract: a gap opened and written over is an insert. Assumes nothing.
+-- `insert` meets its contract: a gap opened and written over is an insert.
 use native.Mathlib.Omega.{arith}
 use borrow.Author.Needs.{needs}
 use Rattle.instance_table.proofs.LaidOut.{inserted}
 use Rattle.instance_table.proofs.insert.Statement.{statement}
 use Rattle.instance_table.proofs.insert.Tie as tie
-
-open-gap-requires : tie.Need-open-gap-requires
-open-gap-requires c κs = search needs
-
-put-instance-requires : tie.Need-put-instance-requires
-put-instance-requires c κs = search needs
-
-same-length : tie.Need-same-length
-same-length c = search needs
 
 returns : tie.Need-returns
 returns c =
@@ -24,4 +15,4 @@ returns c =
     (omega arith) (s .pre .0)
 
 pub insert-spec : {M : Type 1} → statement M
-insert-spec = tie.close (tie.spec open-gap-requires put-instance-requires same-length returns)
+insert-spec = tie.close (tie.spec (λ c κs. search needs) (λ c κs. search needs) (λ c. search needs) returns)

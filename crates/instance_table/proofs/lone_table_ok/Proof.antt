@@ -1,4 +1,4 @@
--- `lone_table_ok` meets its contract. Assumes nothing.
+-- `lone_table_ok` meets its contract.
 use Prim.Native.Nat.{ℕ}
 use mathlib.Core.Path.{ap, _∙_}
 use borrow.Author.Needs.{needs}
@@ -7,12 +7,6 @@ use Rattle.model.specs.WellFormed.{instanceTableOk}
 use Rattle.instance_table.proofs.lone_table_ok.Statement.{statement}
 use Rattle.instance_table.proofs.lone_table_ok.Tie as tie
 
-used-requires : tie.Need-used-requires
-used-requires c κs = search needs
-
-table-ok-requires : tie.Need-table-ok-requires
-table-ok-requires c κs = search needs
-
 returns : tie.Need-returns
 unfolding tableOk
 returns c =
@@ -20,4 +14,4 @@ returns c =
     c .table-ok .ensures ∙ ap (λ (n : ℕ). instanceTableOk (a .places) n 9223372036854775808 (a .t .now)) (c .before .used .ensures)
 
 pub lone-table-ok-spec : {M : Type 1} → statement M
-lone-table-ok-spec = tie.close (tie.spec used-requires table-ok-requires returns)
+lone-table-ok-spec = tie.close (tie.spec (λ c κs. search needs) (λ c κs. search needs) returns)

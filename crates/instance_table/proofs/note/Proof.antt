@@ -1,4 +1,4 @@
--- `note` meets its contract: after i turns, i handles. Assumes nothing.
+-- `note` meets its contract: after i turns, i handles.
 use Prim.Native.Nat.{ℕ, _-_, _≤_, _<_}
 use mathlib.Core.Path.{_≡_}
 use native.Mathlib.Omega.{arith}
@@ -13,24 +13,6 @@ Inv-loop t count hs₀ i₀ hs i = (i ≤ count) × (length hs ≡ 128) × ((j :
 
 abbrev μ-loop : tie.MeasureT-loop
 μ-loop t count hs₀ i₀ hs i = count - i
-
-loop-holds : tie.Need-loop-holds Inv-loop μ-loop
-loop-holds c = (omega arith, omega arith, (λ j l. absurd (omega arith)))
-
-number-at-requires : tie.Need-number-at-requires Inv-loop μ-loop
-number-at-requires c κs = omega arith
-
-mul-hs : tie.Need-mul-hs Inv-loop μ-loop
-mul-hs c = omega arith
-
-element-write-hs : tie.Need-element-write-hs Inv-loop μ-loop
-element-write-hs c = omega arith
-
-add-i : tie.Need-add-i Inv-loop μ-loop
-add-i c = omega arith
-
-loop-less : tie.Need-loop-less Inv-loop μ-loop
-loop-less c = omega arith
 
 loop-again : tie.Need-loop-again Inv-loop μ-loop
 loop-again c =
@@ -49,14 +31,5 @@ returns c =
 pub note-spec : {M : Type 1} → statement M
 note-spec =
     tie.close
-    (tie.spec
-    Inv-loop
-    μ-loop
-    loop-holds
-    number-at-requires
-    mul-hs
-    element-write-hs
-    add-i
-    loop-less
-    loop-again
-    returns)
+    (tie.spec Inv-loop μ-loop (λ c. (omega arith, omega arith, (λ j l. absurd (omega arith)))) (λ c κs. omega arith)
+    (λ c. omega arith) (λ c. omega arith) (λ c. omega arith) (λ c. omega arith) loop-again returns)

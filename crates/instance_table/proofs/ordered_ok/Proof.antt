@@ -1,4 +1,4 @@
--- `ordered_ok` meets its contract: the handles noted are those of the table. Assumes nothing.
+-- `ordered_ok` meets its contract: the handles noted are those of the table.
 use borrow.Author.Tests.{not-true, not-false}
 use Rattle.instance_table.proofs.Handles.{noted-outside, noted-by}
 use borrow.Author.Needs.{needs}
@@ -12,21 +12,12 @@ returns-2 c =
     noted-by (a .t .now) (n .last .1 .1 .0) (a .next) (a .count) (n .ensures) (c .distinct .result)
     (c .before .before .before .within .ensures .0 (not-false _ (c .before .before .if1 .left))) (c .distinct .ensures .0) (c .distinct .ensures .1)
 
-note-requires : tie.Need-note-requires
-note-requires c κs = search needs
-
-within-requires : tie.Need-within-requires
-within-requires c κs = search needs
-
 returns : tie.Need-returns
 returns c =
     let a = c .before .before .before .before .before .before .args in
     let n = c .before .before .before .note in
     noted-outside (a .t .now) (n .last .1 .1 .0) (a .next) (a .count) (n .ensures) (c .before .within .ensures .1 (not-true _ (c .if1 .taken)))
 
-distinct-requires : tie.Need-distinct-requires
-distinct-requires c κs = search needs
-
 pub ordered-ok-spec : {M : Type 1} → statement M
 ordered-ok-spec =
-    tie.close (tie.spec note-requires within-requires returns distinct-requires returns-2)
+    tie.close (tie.spec (λ c κs. search needs) (λ c κs. search needs) returns (λ c κs. search needs) returns-2)

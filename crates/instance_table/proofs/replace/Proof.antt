@@ -1,14 +1,8 @@
--- `replace` meets its contract: a write at a place is a `set`. Assumes nothing.
+-- `replace` meets its contract: a write at a place is a `set`.
 use borrow.Author.Needs.{needs}
 use Rattle.instance_table.proofs.LaidOut.{replaced}
 use Rattle.instance_table.proofs.replace.Statement.{statement}
 use Rattle.instance_table.proofs.replace.Tie as tie
-
-put-instance-requires : tie.Need-put-instance-requires
-put-instance-requires c κs = search needs
-
-same-length : tie.Need-same-length
-same-length c = search needs
 
 returns : tie.Need-returns
 returns c =
@@ -17,4 +11,4 @@ returns c =
     replaced (a .t .now) (p .last .0) (a .i) (a .x) (p .ensures) (search needs) (c .before .before .before .before .before .pre .0)
 
 pub replace-spec : {M : Type 1} → statement M
-replace-spec = tie.close (tie.spec put-instance-requires same-length returns)
+replace-spec = tie.close (tie.spec (λ c κs. search needs) (λ c. search needs) returns)

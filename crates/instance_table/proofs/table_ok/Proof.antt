@@ -1,4 +1,4 @@
--- `table_ok` meets its contract: the first part of the test that fails makes the whole fail. Assumes nothing.
+-- `table_ok` meets its contract: the first part of the test that fails makes the whole fail.
 use mathlib.Core.Path.{refl, sym, _∙_}
 use borrow.Author.Needs.{needs}
 use borrow.Author.Tests.{le-leb, lt-leb, not-true, not-false}
@@ -12,20 +12,11 @@ returns c =
     let a = c .before .before .args in
     table-by (a .places) (a .count) (a .next) (a .t .now) (lt-leb _ _ (c .if1 .taken)) refl refl refl refl
 
-mul-zero-from : tie.Need-mul-zero-from
-mul-zero-from c = search needs
-
-zero-from-requires : tie.Need-zero-from-requires
-zero-from-requires c κs = search needs
-
 returns-2 : tie.Need-returns-2
 returns-2 c =
     let b = c .before .before .before .before in
     table-by (b .args .places) (b .args .count) (b .args .next) (b .args .t .now)
     (le-leb _ _ (c .before .before .if1 .left)) (sym (c .before .zero-from .ensures) ∙ not-true _ (c .if2 .taken)) refl refl refl
-
-records-ok-requires : tie.Need-records-ok-requires
-records-ok-requires c κs = search needs
 
 returns-3 : tie.Need-returns-3
 returns-3 c =
@@ -34,9 +25,6 @@ returns-3 c =
     table-by (b .args .places) (b .args .count) (b .args .next) (b .args .t .now)
     (le-leb _ _ (d .before .before .if1 .left)) (sym (d .before .zero-from .ensures) ∙ not-false _ (d .if2 .left))
     (sym (c .before .records-ok .ensures) ∙ not-true _ (c .if3 .taken)) refl refl
-
-keys-rise-requires : tie.Need-keys-rise-requires
-keys-rise-requires c κs = search needs
 
 returns-4 : tie.Need-returns-4
 returns-4 c =
@@ -47,9 +35,6 @@ returns-4 c =
     (le-leb _ _ (d .before .before .if1 .left)) (sym (d .before .zero-from .ensures) ∙ not-false _ (d .if2 .left))
     (sym (e .before .records-ok .ensures) ∙ not-false _ (e .if3 .left))
     (sym (rise-read (b .args .count) (b .args .t .now)) ∙ sym (c .before .keys-rise .ensures) ∙ not-true _ (c .if4 .taken)) refl
-
-handles-ok-requires : tie.Need-handles-ok-requires
-handles-ok-requires c κs = search needs
 
 returns-5 : tie.Need-returns-5
 returns-5 c =
@@ -66,14 +51,5 @@ returns-5 c =
 pub table-ok-spec : {M : Type 1} → statement M
 table-ok-spec =
     tie.close
-    (tie.spec
-    returns
-    mul-zero-from
-    zero-from-requires
-    returns-2
-    records-ok-requires
-    returns-3
-    keys-rise-requires
-    returns-4
-    handles-ok-requires
-    returns-5)
+    (tie.spec returns (λ c. search needs) (λ c κs. search needs) returns-2 (λ c κs. search needs) returns-3
+    (λ c κs. search needs) returns-4 (λ c κs. search needs) returns-5)

@@ -1,4 +1,4 @@
--- `used` meets its contract: the records passed, and those used from there on, are those used. Assumes nothing.
+-- `used` meets its contract: the records passed, and those used from there on, are those used.
 use Prim.Native.Nat.{_+_, _-_, _*_, _≤_}
 use mathlib.Core.Path.{_≡_, sym, _∙_}
 use native.Mathlib.Omega.{arith}
@@ -17,20 +17,11 @@ abbrev μ-loop : tie.MeasureT-loop
 loop-holds : tie.Need-loop-holds Inv-loop μ-loop
 loop-holds c = let a = c .before .args in (omega arith, used-start (a .t .now) (a .places))
 
-number-at-requires : tie.Need-number-at-requires Inv-loop μ-loop
-number-at-requires c κs = omega arith
-
 returns : tie.Need-returns Inv-loop μ-loop
 returns c =
     let a = c .before .before .before .before .before .args in
     let l = c .before .before .before .loop in
     omega (arith, l .inv .1, used-stop (a .t .now) (a .places) (l .i) (omega arith) (sym (c .before .number-at .ensures) ∙ c .if1 .taken))
-
-add-i : tie.Need-add-i Inv-loop μ-loop
-add-i c = omega arith
-
-loop-less : tie.Need-loop-less Inv-loop μ-loop
-loop-less c = omega arith
 
 loop-again : tie.Need-loop-again Inv-loop μ-loop
 loop-again c =
@@ -47,4 +38,5 @@ returns-2 c =
     omega (arith, l .inv .1, used-all (a .t .now) (a .places) (l .i) (omega arith))
 
 pub used-spec : {M : Type 1} → statement M
-used-spec = tie.close (tie.spec Inv-loop μ-loop loop-holds number-at-requires returns add-i loop-less loop-again returns-2)
+used-spec = tie.close (tie.spec Inv-loop μ-loop loop-holds (λ c κs. omega arith) returns (λ c. omega arith) (λ c. omega arith)
+    loop-again returns-2)

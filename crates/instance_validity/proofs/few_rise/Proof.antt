@@ -1,4 +1,4 @@
--- `few_rise` meets its contract: what is left rises where all do. The measure is how many are left. Assumes nothing.
+-- `few_rise` meets its contract: what is left rises where all do. The measure is how many are left.
 use Prim.Native.Nat.{_+_, _*_}
 use mathlib.Core.Path.{_≡_, refl, sym, _∙_}
 use native.Mathlib.Omega.{arith}
@@ -16,33 +16,12 @@ Inv-loop s from n at₀ left₀ at left = (at + left * 16 ≡ from + n * 16) × 
 abbrev μ-loop : tie.MeasureT-loop
 μ-loop s from n at₀ left₀ at left = left
 
-loop-holds : tie.Need-loop-holds Inv-loop μ-loop
-loop-holds c = (omega arith, refl)
-
-add-get-u64 : tie.Need-add-get-u64 Inv-loop μ-loop
-add-get-u64 c = omega arith
-
-get-u64-requires : tie.Need-get-u64-requires Inv-loop μ-loop
-get-u64-requires c κs = omega arith
-
-next-beside-requires : tie.Need-next-beside-requires Inv-loop μ-loop
-next-beside-requires c κs = (omega arith, c .get-u64 .ensures)
-
 returns : tie.Need-returns Inv-loop μ-loop
 returns c =
     let l = c .before .before .before .before .before in
     let a = l .before .before .args in
     let n = l .loop in
     sym (n .inv .1 ∙ rise-stop (a .s .now) 1 (n .left) (n .at) (omega arith) (rise-next (a .s .now) (n .at) ∙ sym (c .before .before .next-beside .ensures .0) ∙ not-true _ (c .if1 .taken)))
-
-add-at : tie.Need-add-at Inv-loop μ-loop
-add-at c = omega arith
-
-sub-left : tie.Need-sub-left Inv-loop μ-loop
-sub-left c = omega arith
-
-loop-less : tie.Need-loop-less Inv-loop μ-loop
-loop-less c = omega arith
 
 loop-again : tie.Need-loop-again Inv-loop μ-loop
 loop-again c =
@@ -61,16 +40,6 @@ returns-2 c =
 pub few-rise-spec : {M : Type 1} → statement M
 few-rise-spec =
     tie.close
-    (tie.spec
-    Inv-loop
-    μ-loop
-    loop-holds
-    add-get-u64
-    get-u64-requires
-    next-beside-requires
-    returns
-    add-at
-    sub-left
-    loop-less
-    loop-again
-    returns-2)
+    (tie.spec Inv-loop μ-loop (λ c. (omega arith, refl)) (λ c. omega arith) (λ c κs. omega arith)
+    (λ c κs. (omega arith, c .get-u64 .ensures)) returns (λ c. omega arith) (λ c. omega arith) (λ c. omega arith)
+    loop-again returns-2)

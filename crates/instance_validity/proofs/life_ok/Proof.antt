@@ -1,18 +1,12 @@
--- `life_ok` meets its contract: its callees' equations say so. Assumes nothing.
+-- `life_ok` meets its contract: its callees' equations say so.
 use Rattle.model.specs.WellFormed.{lifeOk}
 use borrow.Author.Needs.{needs}
 use Rattle.instance_validity.proofs.life_ok.Statement.{statement}
 use Rattle.instance_validity.proofs.life_ok.Tie as tie
-
-get-u32-requires : tie.Need-get-u32-requires
-get-u32-requires c κs = search needs
-
-get-u32-requires-2 : tie.Need-get-u32-requires-2
-get-u32-requires-2 c κs = search needs
 
 returns : tie.Need-returns
 unfolding lifeOk
 returns c = rw (c .get-u322 .ensures, c .before .get-u32 .ensures)
 
 pub life-ok-spec : {M : Type 1} → statement M
-life-ok-spec = tie.close (tie.spec get-u32-requires get-u32-requires-2 returns)
+life-ok-spec = tie.close (tie.spec (λ c κs. search needs) (λ c κs. search needs) returns)

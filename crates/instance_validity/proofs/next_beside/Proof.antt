@@ -1,4 +1,4 @@
--- `next_beside` meets its contract: the high halves decide where they differ, else the low ones. Assumes nothing.
+-- `next_beside` meets its contract: the high halves decide where they differ, else the low ones.
 use Prim.Native.Nat.{ℕ}
 use mathlib.Core.Path.{_≡_, sym, _∙_}
 use native.Mathlib.Omega.{arith}
@@ -7,15 +7,6 @@ use Rattle.instance_validity.proofs.Rise.{next-high, next-low}
 use borrow.Author.Needs.{needs}
 use Rattle.instance_validity.proofs.next_beside.Statement.{statement}
 use Rattle.instance_validity.proofs.next_beside.Tie as tie
-
-get-u64-requires : tie.Need-get-u64-requires
-get-u64-requires c κs = search needs
-
-add-get-u64 : tie.Need-add-get-u64
-add-get-u64 c = search needs
-
-get-u64-requires-2 : tie.Need-get-u64-requires-2
-get-u64-requires-2 c κs = search needs
 
 returns : tie.Need-returns
 returns c =
@@ -26,12 +17,6 @@ returns c =
       λ e. let z : _≡_ {A = ℕ} 0 1 = cc in absurd (omega arith),
     )
 
-add-get-u64-2 : tie.Need-add-get-u64-2
-add-get-u64-2 c = search needs
-
-get-u64-requires-3 : tie.Need-get-u64-requires-3
-get-u64-requires-3 c κs = search needs
-
 returns-2 : tie.Need-returns-2
 returns-2 c =
     let g = c .before .before .before .before .get-u64 in
@@ -41,12 +26,6 @@ returns-2 c =
       sym (next-high (a .s .now) (λ i. omega (arith, c .before .before .before .before .before .shared-slice-known .given i)) (a .at) (g .result) (h .result) (g .ensures) (h .ensures) n ∙ lt-ltb (g .result) (h .result) (omega (arith, n))),
       λ e. c .get-u643 .ensures,
     )
-
-add-get-u64-3 : tie.Need-add-get-u64-3
-add-get-u64-3 c = search needs
-
-get-u64-requires-4 : tie.Need-get-u64-requires-4
-get-u64-requires-4 c κs = search needs
 
 returns-3 : tie.Need-returns-3
 returns-3 c =
@@ -73,15 +52,5 @@ returns-4 c =
 pub next-beside-spec : {M : Type 1} → statement M
 next-beside-spec =
     tie.close
-    (tie.spec
-    get-u64-requires
-    add-get-u64
-    get-u64-requires-2
-    returns
-    add-get-u64-2
-    get-u64-requires-3
-    returns-2
-    add-get-u64-3
-    get-u64-requires-4
-    returns-3
-    returns-4)
+    (tie.spec (λ c κs. search needs) (λ c. search needs) (λ c κs. search needs) returns (λ c. search needs)
+    (λ c κs. search needs) returns-2 (λ c. search needs) (λ c κs. search needs) returns-3 returns-4)

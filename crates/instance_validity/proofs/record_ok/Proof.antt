@@ -1,16 +1,10 @@
--- `record_ok` meets its contract: the first part that is not well formed makes the whole fail. Assumes nothing.
+-- `record_ok` meets its contract: the first part that is not well formed makes the whole fail.
 use mathlib.Core.Path.{refl, sym, _∙_}
 use borrow.Author.Tests.{not-true, not-false}
 use Rattle.instance_validity.proofs.Valid.{record-by}
 use borrow.Author.Needs.{needs}
 use Rattle.instance_validity.proofs.record_ok.Statement.{statement}
 use Rattle.instance_validity.proofs.record_ok.Tie as tie
-
-get-u16-requires : tie.Need-get-u16-requires
-get-u16-requires c κs = search needs
-
-life-ok-requires : tie.Need-life-ok-requires
-life-ok-requires c κs = search needs
 
 returns : tie.Need-returns
 returns c =
@@ -22,9 +16,6 @@ returns c =
     refl
     refl
 
-times-ok-requires : tie.Need-times-ok-requires
-times-ok-requires c κs = search needs
-
 returns-2 : tie.Need-returns-2
 returns-2 c =
     let f = c .before .before .before .before in
@@ -34,9 +25,6 @@ returns-2 c =
     refl
     refl
     refl
-
-owner-ok-requires : tie.Need-owner-ok-requires
-owner-ok-requires c κs = search needs
 
 returns-3 : tie.Need-returns-3
 returns-3 c =
@@ -48,9 +36,6 @@ returns-3 c =
     refl
     refl
 
-holder-ok-requires : tie.Need-holder-ok-requires
-holder-ok-requires c κs = search needs
-
 returns-4 : tie.Need-returns-4
 returns-4 c =
     let f = c .before .before .before .before .before .before .before .before in
@@ -60,9 +45,6 @@ returns-4 c =
     (sym (c .before .before .before .owner-ok .ensures) ∙ not-false _ (c .before .before .if3 .left))
     (sym (c .before .holder-ok .ensures) ∙ not-true _ (c .if4 .taken))
     refl
-
-set-ok-requires : tie.Need-set-ok-requires
-set-ok-requires c κs = search needs
 
 returns-5 : tie.Need-returns-5
 returns-5 c =
@@ -77,15 +59,5 @@ returns-5 c =
 pub record-ok-spec : {M : Type 1} → statement M
 record-ok-spec =
     tie.close
-    (tie.spec
-    get-u16-requires
-    life-ok-requires
-    returns
-    times-ok-requires
-    returns-2
-    owner-ok-requires
-    returns-3
-    holder-ok-requires
-    returns-4
-    set-ok-requires
-    returns-5)
+    (tie.spec (λ c κs. search needs) (λ c κs. search needs) returns (λ c κs. search needs) returns-2
+    (λ c κs. search needs) returns-3 (λ c κs. search needs) returns-4 (λ c κs. search needs) returns-5)

@@ -1,4 +1,4 @@
--- `set_ok` meets its contract: the test of the length decides what is asked. Assumes nothing.
+-- `set_ok` meets its contract: the test of the length decides what is asked.
 use Prim.Native.Nat.{_%_}
 use mathlib.Core.Path.{sym, _∙_}
 use lib.ListN.{drop}
@@ -11,15 +11,9 @@ use borrow.Author.Needs.{needs}
 use Rattle.instance_validity.proofs.set_ok.Statement.{statement}
 use Rattle.instance_validity.proofs.set_ok.Tie as tie
 
-cast-n : tie.Need-cast-n
-cast-n c = search needs
-
 returns : tie.Need-returns
 unfolding setOk
 returns c = rw (lt-leb _ _ (c .if1 .taken))
-
-set-rises-requires : tie.Need-set-rises-requires
-set-rises-requires c κs = search needs
 
 returns-2 : tie.Need-returns-2
 unfolding setOk
@@ -27,15 +21,6 @@ returns-2 c =
     let a = c .before .before .before .before .args in
     let few = c .before .before .if1 .left in
     rw (le-leb _ _ few, take-read guidOf 16 (a .f % 32) 16 (drop 256 (a .s .now)) few, sym (c .before .set-rises .ensures) ∙ not-true _ (c .if2 .taken))
-
-mul-zero-from : tie.Need-mul-zero-from
-mul-zero-from c = search needs
-
-add-zero-from : tie.Need-add-zero-from
-add-zero-from c = search needs
-
-zero-from-requires : tie.Need-zero-from-requires
-zero-from-requires c κs = search needs
 
 returns-3 : tie.Need-returns-3
 unfolding setOk
@@ -54,12 +39,5 @@ returns-3 c =
 pub set-ok-spec : {M : Type 1} → statement M
 set-ok-spec =
     tie.close
-    (tie.spec
-    cast-n
-    returns
-    set-rises-requires
-    returns-2
-    mul-zero-from
-    add-zero-from
-    zero-from-requires
-    returns-3)
+    (tie.spec (λ c. search needs) returns (λ c κs. search needs) returns-2 (λ c. search needs) (λ c. search needs)
+    (λ c κs. search needs) returns-3)

@@ -1,4 +1,4 @@
--- `set_rises` meets its contract: what is left rises where all do. The measure is how many are left. Assumes nothing.
+-- `set_rises` meets its contract: what is left rises where all do. The measure is how many are left.
 use Prim.Native.Nat.{_+_, _*_, _≤_}
 use mathlib.Core.Path.{_≡_, refl, sym, _∙_}
 use native.Mathlib.Omega.{arith}
@@ -16,26 +16,11 @@ Inv-loop s n at₀ left₀ at left = (left ≤ n) × (at + left * 16 ≡ 256 + n
 abbrev μ-loop : tie.MeasureT-loop
 μ-loop s n at₀ left₀ at left = left
 
-loop-holds : tie.Need-loop-holds Inv-loop μ-loop
-loop-holds c = (omega arith, omega arith, refl)
-
-six-rise-requires : tie.Need-six-rise-requires Inv-loop μ-loop
-six-rise-requires c κs = omega arith
-
 returns : tie.Need-returns Inv-loop μ-loop
 returns c =
     let a = c .before .before .before .before .before .args in
     let l = c .before .before .before .loop in
     sym (l .inv .2 ∙ rise-stop (a .s .now) 5 (l .left) (l .at) (omega arith) (sym (c .before .six-rise .ensures) ∙ not-true _ (c .if1 .taken)))
-
-add-at : tie.Need-add-at Inv-loop μ-loop
-add-at c = omega arith
-
-sub-left : tie.Need-sub-left Inv-loop μ-loop
-sub-left c = omega arith
-
-loop-less : tie.Need-loop-less Inv-loop μ-loop
-loop-less c = omega arith
 
 loop-again : tie.Need-loop-again Inv-loop μ-loop
 loop-again c =
@@ -46,24 +31,9 @@ loop-again c =
       l .inv .2 ∙ rise-turn (a .s .now) 5 (l .left) (l .at) (omega arith) (sym (c .before .six-rise .ensures) ∙ not-false _ (c .if1 .left)),
     )
 
-few-rise-requires : tie.Need-few-rise-requires Inv-loop μ-loop
-few-rise-requires c κs = omega arith
-
-returns-2 : tie.Need-returns-2 Inv-loop μ-loop
-returns-2 c = c .few-rise .ensures ∙ sym (c .before .before .loop .inv .2)
-
 pub set-rises-spec : {M : Type 1} → statement M
 set-rises-spec =
     tie.close
-    (tie.spec
-    Inv-loop
-    μ-loop
-    loop-holds
-    six-rise-requires
-    returns
-    add-at
-    sub-left
-    loop-less
-    loop-again
-    few-rise-requires
-    returns-2)
+    (tie.spec Inv-loop μ-loop (λ c. (omega arith, omega arith, refl)) (λ c κs. omega arith) returns (λ c. omega arith)
+    (λ c. omega arith) (λ c. omega arith) loop-again (λ c κs. omega arith)
+    (λ c. c .few-rise .ensures ∙ sym (c .before .before .loop .inv .2)))

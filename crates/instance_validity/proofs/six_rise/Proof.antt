@@ -1,4 +1,4 @@
--- `six_rise` meets its contract: the first GUID that is not below the next makes the whole fail. Assumes nothing.
+-- `six_rise` meets its contract: the first GUID that is not below the next makes the whole fail.
 use mathlib.Core.Path.{_≡_, refl, sym, ap, _∙_}
 use Prim.Native.Nat.{_+_}
 use native.Mathlib.Omega.{arith}
@@ -9,15 +9,6 @@ use borrow.Author.Needs.{needs}
 use Rattle.instance_validity.proofs.six_rise.Statement.{statement}
 use Rattle.instance_validity.proofs.six_rise.Tie as tie
 
-add-get-u64 : tie.Need-add-get-u64
-add-get-u64 c = search needs
-
-get-u64-requires : tie.Need-get-u64-requires
-get-u64-requires c κs = search needs
-
-next-beside-requires : tie.Need-next-beside-requires
-next-beside-requires c κs = search needs
-
 returns : tie.Need-returns
 returns c =
     let a = c .before .before .before .before .before .args in
@@ -27,9 +18,6 @@ returns c =
     refl
     refl
     refl
-
-add-next-beside : tie.Need-add-next-beside
-add-next-beside c = search needs
 
 next-beside-requires-2 : tie.Need-next-beside-requires-2
 next-beside-requires-2 c κs =
@@ -47,9 +35,6 @@ returns-2 c =
     refl
     refl
 
-add-next-beside-2 : tie.Need-add-next-beside-2
-add-next-beside-2 c = search needs
-
 next-beside-requires-3 : tie.Need-next-beside-requires-3
 next-beside-requires-3 c κs =
     let a = c .before .before .before .before .before .before .before .before .args in
@@ -66,9 +51,6 @@ returns-3 c =
     refl
     refl
 
-add-next-beside-3 : tie.Need-add-next-beside-3
-add-next-beside-3 c = search needs
-
 next-beside-requires-4 : tie.Need-next-beside-requires-4
 next-beside-requires-4 c κs =
     let a = c .before .before .before .before .before .before .before .before .before .before .before .args in
@@ -84,9 +66,6 @@ returns-4 c =
     (sym (c .before .before .before .before .before .next-beside3 .ensures .0) ∙ not-false _ (c .before .before .before .if3 .left))
     (sym (c .before .before .next-beside4 .ensures .0) ∙ not-true _ (c .if4 .taken))
     refl
-
-add-next-beside-4 : tie.Need-add-next-beside-4
-add-next-beside-4 c = search needs
 
 next-beside-requires-5 : tie.Need-next-beside-requires-5
 next-beside-requires-5 c κs =
@@ -107,20 +86,6 @@ returns-5 c =
 pub six-rise-spec : {M : Type 1} → statement M
 six-rise-spec =
     tie.close
-    (tie.spec
-    add-get-u64
-    get-u64-requires
-    next-beside-requires
-    returns
-    add-next-beside
-    next-beside-requires-2
-    returns-2
-    add-next-beside-2
-    next-beside-requires-3
-    returns-3
-    add-next-beside-3
-    next-beside-requires-4
-    returns-4
-    add-next-beside-4
-    next-beside-requires-5
-    returns-5)
+    (tie.spec (λ c. search needs) (λ c κs. search needs) (λ c κs. search needs) returns (λ c. search needs)
+    next-beside-requires-2 returns-2 (λ c. search needs) next-beside-requires-3 returns-3 (λ c. search needs)
+    next-beside-requires-4 returns-4 (λ c. search needs) next-beside-requires-5 returns-5)

@@ -1,13 +1,10 @@
--- `times_ok` meets its contract: the first time that is not valid makes the whole fail. Assumes nothing.
+-- `times_ok` meets its contract: the first time that is not valid makes the whole fail.
 use mathlib.Core.Path.{refl, sym, _∙_}
 use borrow.Author.Tests.{not-true, not-false}
 use Rattle.instance_validity.proofs.Valid.{times-by}
 use borrow.Author.Needs.{needs}
 use Rattle.instance_validity.proofs.times_ok.Statement.{statement}
 use Rattle.instance_validity.proofs.times_ok.Tie as tie
-
-time-ok-requires : tie.Need-time-ok-requires
-time-ok-requires c κs = search needs
 
 returns : tie.Need-returns
 returns c =
@@ -20,9 +17,6 @@ returns c =
     refl
     refl
 
-time-ok-requires-2 : tie.Need-time-ok-requires-2
-time-ok-requires-2 c κs = search needs
-
 returns-2 : tie.Need-returns-2
 returns-2 c =
     let a = c .before .before .before .before .before .args in
@@ -33,9 +27,6 @@ returns-2 c =
     refl
     refl
     refl
-
-time-ok-requires-3 : tie.Need-time-ok-requires-3
-time-ok-requires-3 c κs = search needs
 
 returns-3 : tie.Need-returns-3
 returns-3 c =
@@ -48,9 +39,6 @@ returns-3 c =
     refl
     refl
 
-time-ok-requires-4 : tie.Need-time-ok-requires-4
-time-ok-requires-4 c κs = search needs
-
 returns-4 : tie.Need-returns-4
 returns-4 c =
     let a = c .before .before .before .before .before .before .before .before .before .args in
@@ -62,9 +50,6 @@ returns-4 c =
     refl
     refl
 
-time-ok-requires-5 : tie.Need-time-ok-requires-5
-time-ok-requires-5 c κs = search needs
-
 returns-5 : tie.Need-returns-5
 returns-5 c =
     let a = c .before .before .before .before .before .before .before .before .before .before .before .args in
@@ -75,9 +60,6 @@ returns-5 c =
     (sym (c .before .before .before .time-ok4 .ensures) ∙ not-false _ (c .before .before .if4 .left))
     (sym (c .before .time-ok5 .ensures) ∙ not-true _ (c .if5 .taken))
     refl
-
-time-ok-requires-6 : tie.Need-time-ok-requires-6
-time-ok-requires-6 c κs = search needs
 
 returns-6 : tie.Need-returns-6
 returns-6 c =
@@ -93,16 +75,5 @@ returns-6 c =
 pub times-ok-spec : {M : Type 1} → statement M
 times-ok-spec =
     tie.close
-    (tie.spec
-    time-ok-requires
-    returns
-    time-ok-requires-2
-    returns-2
-    time-ok-requires-3
-    returns-3
-    time-ok-requires-4
-    returns-4
-    time-ok-requires-5
-    returns-5
-    time-ok-requires-6
-    returns-6)
+    (tie.spec (λ c κs. search needs) returns (λ c κs. search needs) returns-2 (λ c κs. search needs) returns-3
+    (λ c κs. search needs) returns-4 (λ c κs. search needs) returns-5 (λ c κs. search needs) returns-6)

@@ -1,6 +1,6 @@
 -- `instance_walker::step` meets its contract: a walk of its MIR, by hand. The borrow is opened, the table and the position are read and passed to
 -- `step_by_value`, the new position is written beside the table, and the borrow is closed at the struct with it. Of `step_by_value` the proof knows
--- only its contract. Assumes nothing.
+-- only its contract.
 use mathlib.Core.Path.{_≡_, refl, ap}
 use Prim.Native.Nat.{ℕ, _<_, _^_}
 use mathlib.Core.List.{[], _∷_, List}

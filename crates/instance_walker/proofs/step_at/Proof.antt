@@ -1,6 +1,6 @@
 -- `instance_walker::step_at` meets its contract: a walk of its MIR, by hand. The struct is made in a local of the table and the
 -- position passed. The local is lent to `step` for a lifetime that is made for the call, within the table's; the lifetime is ended,
--- the local is taken back at its last value, and its position is read. Assumes nothing.
+-- the local is taken back at its last value, and its position is read.
 use mathlib.Core.Path.{_≡_, refl, ap}
 use Prim.Native.Nat.{ℕ, _<_, _^_}
 use mathlib.Core.List.{[], _∷_, List}

@@ -1,22 +1,10 @@
--- `instance_walker::step_by_value` meets its contract, by the case of the answer. Assumes nothing.
+-- `instance_walker::step_by_value` meets its contract, by the case of the answer.
 use mathlib.Core.Path.{sym, _∙_}
 use native.Mathlib.Omega.{arith}
 use borrow.Author.Needs.{needs}
 use Rattle.instance_walker.proofs.Steps.{inside, step-refused, step-none, step-given}
 use Rattle.instance_walker.proofs.step_by_value.Statement.{statement}
 use Rattle.instance_walker.proofs.step_by_value.Tie as tie
-
-handle-at-position-requires : tie.Need-handle-at-position-requires
-handle-at-position-requires c κs = search needs
-
-enum-told : tie.Need-enum-told
-enum-told c = search needs
-
-enum-told-2 : tie.Need-enum-told-2
-enum-told-2 c = search needs
-
-enum-told-3 : tie.Need-enum-told-3
-enum-told-3 c = search needs
 
 add-next : tie.Need-add-next
 add-next c =
@@ -42,12 +30,5 @@ returns-3 c =
 pub step-by-value-spec : {M : Type 1} → statement M
 step-by-value-spec =
     tie.close
-    (tie.spec
-    handle-at-position-requires
-    enum-told
-    enum-told-2
-    enum-told-3
-    add-next
-    returns
-    returns-2
-    returns-3)
+    (tie.spec (λ c κs. search needs) (λ c. search needs) (λ c. search needs) (λ c. search needs) add-next returns
+    returns-2 returns-3)

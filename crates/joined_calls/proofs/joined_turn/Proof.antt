@@ -1,12 +1,9 @@
--- `joined_calls::joined_turn` meets its contract: the law of each call, with what it asks of the state. Assumes nothing.
+-- `joined_calls::joined_turn` meets its contract: the law of each call, with what it asks of the state.
 use Rattle.model.specs.Call.{lentOf}
 use Rattle.joined_calls.proofs.Entering.{entered-parts, entered-held, entered-losable}
 use borrow.Author.Needs.{needs}
 use Rattle.joined_calls.proofs.joined_turn.Statement.{statement}
 use Rattle.joined_calls.proofs.joined_turn.Tie as tie
-
-enum-told : tie.Need-enum-told
-enum-told c = search needs
 
 admit-requires : tie.Need-admit-requires
 admit-requires c κs =
@@ -14,9 +11,6 @@ admit-requires c κs =
     let a = start .args in
     let p = entered-parts (a .places) (lentOf (a .head) (a .pens .now) (a .writers .now) (a .lost .now) (a .out .now)) (start .pre .1) in
     record { few = start .pre .0; size = start .pre .1 .pens; formed = p .pens }
-
-enum-told-2 : tie.Need-enum-told-2
-enum-told-2 c = search needs
 
 lapse-requires : tie.Need-lapse-requires
 lapse-requires c κs =
@@ -29,9 +23,6 @@ lapse-requires c κs =
       entered-parts (a .places) l (start .pre .1) .lost,
     )
 
-enum-told-3 : tie.Need-enum-told-3
-enum-told-3 c = search needs
-
 leave-requires : tie.Need-leave-requires
 leave-requires c κs =
     let start = c .before .before .before .before .before .before .before .before .before in
@@ -39,18 +30,12 @@ leave-requires c κs =
     let l = lentOf (a .head) (a .pens .now) (a .writers .now) (a .lost .now) (a .out .now) in
     (entered-held (a .places) l (start .pre .1), entered-losable (a .places) l (start .pre .1) (start .pre .0))
 
-enum-told-4 : tie.Need-enum-told-4
-enum-told-4 c = search needs
-
 leave-requires-2 : tie.Need-leave-requires-2
 leave-requires-2 c κs =
     let start = c .before .before .before .before .before .before .before .before .before in
     let a = start .args in
     let l = lentOf (a .head) (a .pens .now) (a .writers .now) (a .lost .now) (a .out .now) in
     (entered-held (a .places) l (start .pre .1), entered-losable (a .places) l (start .pre .1) (start .pre .0))
-
-same-length : tie.Need-same-length
-same-length c = search needs
 
 returns : tie.Need-returns
 returns c =
@@ -60,18 +45,6 @@ returns c =
     let a = start .args in
     rw (arm .enum-told .given .1) (call .admit .ensures (a .writers .now) (a .lost .now) (a .out .now) (start .pre .1))
 
-same-length-2 : tie.Need-same-length-2
-same-length-2 c = search needs
-
-same-length-3 : tie.Need-same-length-3
-same-length-3 c = search needs
-
-same-length-4 : tie.Need-same-length-4
-same-length-4 c = search needs
-
-same-length-5 : tie.Need-same-length-5
-same-length-5 c = search needs
-
 returns-2 : tie.Need-returns-2
 returns-2 c =
     let call = c .before .before .before .before .before .before .before .before in
@@ -80,15 +53,6 @@ returns-2 c =
     let a = start .args in
     rw (arm .enum-told2 .given .1) (call .lapse .ensures (a .places) (start .pre .1))
 
-same-length-6 : tie.Need-same-length-6
-same-length-6 c = search needs
-
-same-length-7 : tie.Need-same-length-7
-same-length-7 c = search needs
-
-same-length-8 : tie.Need-same-length-8
-same-length-8 c = search needs
-
 returns-3 : tie.Need-returns-3
 returns-3 c =
     let call = c .before .before .before .before .before .before in
@@ -96,15 +60,6 @@ returns-3 c =
     let start = arm .before .before .before .before .before .before in
     let a = start .args in
     rw (arm .enum-told3 .given .1) (call .leave .ensures (a .places) (a .lost .now) (start .pre .1))
-
-same-length-9 : tie.Need-same-length-9
-same-length-9 c = search needs
-
-same-length-10 : tie.Need-same-length-10
-same-length-10 c = search needs
-
-same-length-11 : tie.Need-same-length-11
-same-length-11 c = search needs
 
 returns-4 : tie.Need-returns-4
 returns-4 c =
@@ -117,27 +72,7 @@ returns-4 c =
 pub joined-turn-spec : {M : Type 1} → statement M
 joined-turn-spec =
     tie.close
-    (tie.spec
-    enum-told
-    admit-requires
-    enum-told-2
-    lapse-requires
-    enum-told-3
-    leave-requires
-    enum-told-4
-    leave-requires-2
-    same-length
-    returns
-    same-length-2
-    same-length-3
-    same-length-4
-    same-length-5
-    returns-2
-    same-length-6
-    same-length-7
-    same-length-8
-    returns-3
-    same-length-9
-    same-length-10
-    same-length-11
-    returns-4)
+    (tie.spec (λ c. search needs) admit-requires (λ c. search needs) lapse-requires (λ c. search needs) leave-requires
+    (λ c. search needs) leave-requires-2 (λ c. search needs) returns (λ c. search needs) (λ c. search needs)
+    (λ c. search needs) (λ c. search needs) returns-2 (λ c. search needs) (λ c. search needs) (λ c. search needs)
+    returns-3 (λ c. search needs) (λ c. search needs) (λ c. search needs) returns-4)

@@ -1,4 +1,4 @@
--- `joined_calls::lapse` meets its contract. Assumes nothing.
+-- `joined_calls::lapse` meets its contract.
 use mathlib.Core.Path.{sym, _∙_}
 use Rattle.model.specs.declared.JoinedCall.the-variants.{Lapse}
 use Rattle.joined_calls.proofs.Entering.{sheet-refused}
@@ -7,26 +7,11 @@ use borrow.Author.Needs.{needs}
 use Rattle.joined_calls.proofs.lapse.Statement.{statement}
 use Rattle.joined_calls.proofs.lapse.Tie as tie
 
-lapse-refusal-requires : tie.Need-lapse-refusal-requires
-lapse-refusal-requires c κs = search needs
-
-refused-requires : tie.Need-refused-requires
-refused-requires c κs = search needs
-
 returns : tie.Need-returns
 returns c =
     let a = c .before .before .before .before .before .before .before .args in
     λ places e. sheet-refused Lapse (a .s) (a .head) (c .before .before .lapse-refusal .result) (c .refused .result) (c .before .before .lapse-refusal .ensures)
     (c .before .if1 .taken) (c .refused .ensures) places (a .pens .now) (a .writers .now) (a .lost .now) (a .out .now)
-
-expire-requires : tie.Need-expire-requires
-expire-requires c κs = search needs
-
-same-length : tie.Need-same-length
-same-length c = search needs
-
-same-length-2 : tie.Need-same-length-2
-same-length-2 c = search needs
 
 returns-2 : tie.Need-returns-2
 returns-2 c =
@@ -55,18 +40,6 @@ lose-expired-requires c κs =
       m .1,
     )
 
-same-length-3 : tie.Need-same-length-3
-same-length-3 c = search needs
-
-same-length-4 : tie.Need-same-length-4
-same-length-4 c = search needs
-
-same-length-5 : tie.Need-same-length-5
-same-length-5 c = search needs
-
-same-length-6 : tie.Need-same-length-6
-same-length-6 c = search needs
-
 returns-3 : tie.Need-returns-3
 returns-3 c =
     let lost = c .before .before .before .before in
@@ -82,17 +55,6 @@ returns-3 c =
 pub lapse-spec : {M : Type 1} → statement M
 lapse-spec =
     tie.close
-    (tie.spec
-    lapse-refusal-requires
-    refused-requires
-    returns
-    expire-requires
-    same-length
-    same-length-2
-    returns-2
-    lose-expired-requires
-    same-length-3
-    same-length-4
-    same-length-5
-    same-length-6
-    returns-3)
+    (tie.spec (λ c κs. search needs) (λ c κs. search needs) returns (λ c κs. search needs) (λ c. search needs)
+    (λ c. search needs) returns-2 lose-expired-requires (λ c. search needs) (λ c. search needs) (λ c. search needs)
+    (λ c. search needs) returns-3)

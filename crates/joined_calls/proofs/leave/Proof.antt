@@ -1,18 +1,12 @@
--- `joined_calls::leave` meets its contract. Assumes nothing.
+-- `joined_calls::leave` meets its contract.
 use mathlib.Core.Path.{sym, _∙_}
 use Rattle.joined_calls.proofs.Entering.{sheet-refused}
 use Rattle.joined_calls.proofs.Losing.{kept-losable, leave-left, leave-number}
-use Rattle.writer_turns.specs.WriterCalls.{leaving}
+use Rattle.writer_counts.specs.WriterCalls.{leaving}
 use Rattle.joined_calls.specs.Losses.{departing}
 use borrow.Author.Needs.{needs}
 use Rattle.joined_calls.proofs.leave.Statement.{statement}
 use Rattle.joined_calls.proofs.leave.Tie as tie
-
-leave-refusal-requires : tie.Need-leave-refusal-requires
-leave-refusal-requires c κs = search needs
-
-refused-requires : tie.Need-refused-requires
-refused-requires c κs = search needs
 
 returns : tie.Need-returns
 returns c =
@@ -22,9 +16,6 @@ returns c =
     λ places lost e. sheet-refused (departing (a .lost)) (a .s) (a .head) (k .leave-refusal .result) (c .refused .result) (λ st. leave-number (a .s) (a .lost) st _ (k .leave-refusal .ensures st))
     (c .before .if1 .taken) (c .refused .ensures) places (a .pens .now) (a .writers .now) lost (a .out .now)
 
-leave-requires : tie.Need-leave-requires
-leave-requires c κs = search needs
-
 lose-writer-requires : tie.Need-lose-writer-requires
 lose-writer-requires c κs =
     let called = c .before .before .before .before in
@@ -32,15 +23,6 @@ lose-writer-requires c κs =
     let a = start .args in
     kept-losable (leaving (a .lost)) (a .s) (a .head) (a .pens .now) (a .writers .now) (a .out .now) (called .leave .result)
     (called .leave .last .1 .1 .1 .0) (called .leave .ensures) (start .pre .1)
-
-same-length : tie.Need-same-length
-same-length c = search needs
-
-same-length-2 : tie.Need-same-length-2
-same-length-2 c = search needs
-
-same-length-3 : tie.Need-same-length-3
-same-length-3 c = search needs
 
 returns-2 : tie.Need-returns-2
 returns-2 c =
@@ -56,13 +38,5 @@ returns-2 c =
 pub leave-spec : {M : Type 1} → statement M
 leave-spec =
     tie.close
-    (tie.spec
-    leave-refusal-requires
-    refused-requires
-    returns
-    leave-requires
-    lose-writer-requires
-    same-length
-    same-length-2
-    same-length-3
-    returns-2)
+    (tie.spec (λ c κs. search needs) (λ c κs. search needs) returns (λ c κs. search needs) lose-writer-requires
+    (λ c. search needs) (λ c. search needs) (λ c. search needs) returns-2)

@@ -1,18 +1,9 @@
--- `joined_calls::lose` meets its contract: what a pass leaves. Assumes nothing.
+-- `joined_calls::lose` meets its contract: what a pass leaves.
 use native.Mathlib.Omega.{arith}
 use Rattle.joined_calls.proofs.Losing.{loss-few, loss-passed}
 use borrow.Author.Needs.{needs}
 use Rattle.joined_calls.proofs.lose.Statement.{statement}
 use Rattle.joined_calls.proofs.lose.Tie as tie
-
-cast-lose-writers : tie.Need-cast-lose-writers
-cast-lose-writers c = search needs
-
-if-present-requires : tie.Need-if-present-requires
-if-present-requires c κs = search needs
-
-lose-writers-requires : tie.Need-lose-writers-requires
-lose-writers-requires c κs = search needs
 
 cast-with-list : tie.Need-cast-with-list
 cast-with-list c =
@@ -32,15 +23,6 @@ cast-with-list-2 c =
     (c .before .before .before .before .before .before .before .if-present .result) (c .before .before .before .before .before .before .before .if-present .ensures) (p .ensures) (start .pre .1) (start .pre .0) in
     omega (arith, w .listed)
 
-with-list-requires : tie.Need-with-list-requires
-with-list-requires c κs = search needs
-
-same-length : tie.Need-same-length
-same-length c = search needs
-
-same-length-2 : tie.Need-same-length-2
-same-length-2 c = search needs
-
 returns : tie.Need-returns
 returns c =
     let a = c .before .before .before .before .before .before .before .before .before .before .before .before .before .before .before .before .before .before .args in
@@ -51,13 +33,5 @@ returns c =
 pub lose-spec : {M : Type 1} → statement M
 lose-spec =
     tie.close
-    (tie.spec
-    cast-lose-writers
-    if-present-requires
-    lose-writers-requires
-    cast-with-list
-    cast-with-list-2
-    with-list-requires
-    same-length
-    same-length-2
-    returns)
+    (tie.spec (λ c. search needs) (λ c κs. search needs) (λ c κs. search needs) cast-with-list cast-with-list-2
+    (λ c κs. search needs) (λ c. search needs) (λ c. search needs) returns)

@@ -1,4 +1,4 @@
--- `key_hash::padded_or_hashed` meets its contract. Assumes nothing.
+-- `key_hash::padded_or_hashed` meets its contract.
 use native.Mathlib.Omega.{arith}
 use borrow.Author.Tests.{le-leb, lt-leb}
 use Rattle.key_hash.specs.KeyHash.{paddedOrHashed}
@@ -6,19 +6,13 @@ use borrow.Author.Needs.{needs}
 use Rattle.key_hash.proofs.padded_or_hashed.Statement.{statement}
 use Rattle.key_hash.proofs.padded_or_hashed.Tie as tie
 
-padded-requires : tie.Need-padded-requires
-padded-requires c κs = search needs
-
 returns : tie.Need-returns
 unfolding paddedOrHashed
 returns c = rw (le-leb (c .before .before .before .args .largest) 16 (omega arith)) (c .padded .ensures)
-
-md5-requires : tie.Need-md5-requires
-md5-requires c κs = search needs
 
 returns-2 : tie.Need-returns-2
 unfolding paddedOrHashed
 returns-2 c = rw (lt-leb (c .before .before .before .args .largest) 16 (omega arith)) (c .md5 .ensures)
 
 pub padded-or-hashed-spec : {M : Type 1} → statement M
-padded-or-hashed-spec = tie.close (tie.spec padded-requires returns md5-requires returns-2)
+padded-or-hashed-spec = tie.close (tie.spec (λ c κs. search needs) returns (λ c κs. search needs) returns-2)

@@ -1,4 +1,4 @@
--- `key_hash::refusal` meets its contract. Assumes nothing.
+-- `key_hash::refusal` meets its contract.
 use native.Mathlib.Omega.{arith}
 use borrow.Author.Tests.{lt-ltb, le-ltb}
 use lib.ListN.{length}

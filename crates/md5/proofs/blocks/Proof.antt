@@ -1,4 +1,4 @@
--- `md5::blocks` meets its contract: after i turns, i blocks. Assumes nothing.
+-- `md5::blocks` meets its contract: after i turns, i blocks.
 use Prim.Native.Nat.{_-_, _≤_}
 use mathlib.Core.Path.{_≡_, refl, ap, _∙_}
 use native.Mathlib.Numerals.{add-one}
@@ -17,18 +17,6 @@ loop-holds : tie.Need-loop-holds Inv-loop μ-loop
 unfolding blocks
 loop-holds c = (omega arith, refl)
 
-mul-block : tie.Need-mul-block Inv-loop μ-loop
-mul-block c = omega arith
-
-block-requires : tie.Need-block-requires Inv-loop μ-loop
-block-requires c κs = omega arith
-
-add-i : tie.Need-add-i Inv-loop μ-loop
-add-i c = omega arith
-
-loop-less : tie.Need-loop-less Inv-loop μ-loop
-loop-less c = omega arith
-
 loop-again : tie.Need-loop-again Inv-loop μ-loop
 unfolding blocks
 loop-again c = (omega arith, rw add-one (c .block .ensures ∙ ap (block _) (c .before .before .loop .inv .1)))
@@ -41,13 +29,5 @@ returns c =
 pub blocks-spec : {M : Type 1} → statement M
 blocks-spec =
     tie.close
-    (tie.spec
-    Inv-loop
-    μ-loop
-    loop-holds
-    mul-block
-    block-requires
-    add-i
-    loop-less
-    loop-again
-    returns)
+    (tie.spec Inv-loop μ-loop loop-holds (λ c. omega arith) (λ c κs. omega arith) (λ c. omega arith)
+    (λ c. omega arith) loop-again returns)

@@ -1,44 +1,8 @@
--- `md5::digest` meets its contract: four words, written end to end. Assumes nothing.
+-- `md5::digest` meets its contract: four words, written end to end.
 use Rattle.md5.proofs.Writing.{digest-written}
 use borrow.Author.Needs.{needs}
 use Rattle.md5.proofs.digest.Statement.{statement}
 use Rattle.md5.proofs.digest.Tie as tie
-
-slice-aggregate-store : tie.Need-slice-aggregate-store
-slice-aggregate-store c = search needs
-
-cast-store : tie.Need-cast-store
-cast-store c = search needs
-
-store-requires : tie.Need-store-requires
-store-requires c κs = search needs
-
-slice-aggregate-store-2 : tie.Need-slice-aggregate-store-2
-slice-aggregate-store-2 c = search needs
-
-cast-store-2 : tie.Need-cast-store-2
-cast-store-2 c = search needs
-
-store-requires-2 : tie.Need-store-requires-2
-store-requires-2 c κs = search needs
-
-slice-aggregate-store-3 : tie.Need-slice-aggregate-store-3
-slice-aggregate-store-3 c = search needs
-
-cast-store-3 : tie.Need-cast-store-3
-cast-store-3 c = search needs
-
-store-requires-3 : tie.Need-store-requires-3
-store-requires-3 c κs = search needs
-
-slice-aggregate-store-4 : tie.Need-slice-aggregate-store-4
-slice-aggregate-store-4 c = search needs
-
-cast-store-4 : tie.Need-cast-store-4
-cast-store-4 c = search needs
-
-store-requires-4 : tie.Need-store-requires-4
-store-requires-4 c κs = search needs
 
 returns : tie.Need-returns
 returns c =
@@ -51,17 +15,6 @@ returns c =
 pub digest-spec : {M : Type 1} → statement M
 digest-spec =
     tie.close
-    (tie.spec
-    slice-aggregate-store
-    cast-store
-    store-requires
-    slice-aggregate-store-2
-    cast-store-2
-    store-requires-2
-    slice-aggregate-store-3
-    cast-store-3
-    store-requires-3
-    slice-aggregate-store-4
-    cast-store-4
-    store-requires-4
-    returns)
+    (tie.spec (λ c. search needs) (λ c. search needs) (λ c κs. search needs) (λ c. search needs) (λ c. search needs)
+    (λ c κs. search needs) (λ c. search needs) (λ c. search needs) (λ c κs. search needs) (λ c. search needs)
+    (λ c. search needs) (λ c κs. search needs) returns)

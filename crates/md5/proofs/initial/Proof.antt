@@ -1,4 +1,4 @@
--- `md5::initial` meets its contract. Assumes nothing.
+-- `md5::initial` meets its contract.
 use mathlib.Core.Path.{refl}
 use Rattle.md5.specs.Md5.{initial}
 use Rattle.md5.proofs.initial.Statement.{statement}

@@ -1,30 +1,9 @@
--- `md5::md5` meets its contract. Assumes nothing.
+-- `md5::md5` meets its contract.
 use mathlib.Core.Path.{_∙_}
 use Rattle.md5.proofs.Tails.{digested}
 use borrow.Author.Needs.{needs}
 use Rattle.md5.proofs.md5.Statement.{statement}
 use Rattle.md5.proofs.md5.Tie as tie
-
-initial-requires : tie.Need-initial-requires
-initial-requires c κs = search needs
-
-blocks-requires : tie.Need-blocks-requires
-blocks-requires c κs = search needs
-
-tail-requires : tie.Need-tail-requires
-tail-requires c κs = search needs
-
-slice-aggregate-blocks : tie.Need-slice-aggregate-blocks
-slice-aggregate-blocks c = search needs
-
-tail-blocks-requires : tie.Need-tail-blocks-requires
-tail-blocks-requires c κs = search needs
-
-blocks-requires-2 : tie.Need-blocks-requires-2
-blocks-requires-2 c κs = search needs
-
-digest-requires : tie.Need-digest-requires
-digest-requires c κs = search needs
 
 returns : tie.Need-returns
 returns c =
@@ -39,12 +18,5 @@ returns c =
 pub md5-spec : {M : Type 1} → statement M
 md5-spec =
     tie.close
-    (tie.spec
-    initial-requires
-    blocks-requires
-    tail-requires
-    slice-aggregate-blocks
-    tail-blocks-requires
-    blocks-requires-2
-    digest-requires
-    returns)
+    (tie.spec (λ c κs. search needs) (λ c κs. search needs) (λ c κs. search needs) (λ c. search needs)
+    (λ c κs. search needs) (λ c κs. search needs) (λ c κs. search needs) returns)

@@ -1,20 +1,8 @@
--- `md5::mixed` meets its contract, round by round. Assumes nothing.
+-- `md5::mixed` meets its contract, round by round.
 use borrow.Author.Needs.{needs}
 use Rattle.md5.specs.Md5.{mixed}
 use Rattle.md5.proofs.mixed.Statement.{statement}
 use Rattle.md5.proofs.mixed.Tie as tie
-
-enum-told : tie.Need-enum-told
-enum-told c = search needs
-
-enum-told-2 : tie.Need-enum-told-2
-enum-told-2 c = search needs
-
-enum-told-3 : tie.Need-enum-told-3
-enum-told-3 c = search needs
-
-enum-told-4 : tie.Need-enum-told-4
-enum-told-4 c = search needs
 
 returns : tie.Need-returns
 unfolding mixed
@@ -35,4 +23,5 @@ returns-4 c = rw (c .enum-told4 .given .1)
 pub mixed-spec : {M : Type 1} → statement M
 mixed-spec =
     tie.close
-    (tie.spec enum-told enum-told-2 enum-told-3 enum-told-4 returns returns-2 returns-3 returns-4)
+    (tie.spec (λ c. search needs) (λ c. search needs) (λ c. search needs) (λ c. search needs) returns returns-2
+    returns-3 returns-4)

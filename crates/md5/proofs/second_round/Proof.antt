@@ -1,4 +1,4 @@
--- `md5::second_round` meets its contract: its operations are those of round 2. Assumes nothing.
+-- `md5::second_round` meets its contract: its operations are those of round 2.
 use borrow.Author.Needs.{needs}
 use Rattle.md5.specs.Md5.{sines, order, shifts, before, step, steps}
 use Rattle.md5.proofs.second_round.Statement.{statement}
@@ -44,9 +44,7 @@ returns c =
 pub second-round-spec : {M : Type 1} → statement M
 second-round-spec =
     tie.close
-    (tie.spec
-    (λ c κs. search needs) (λ c κs. search needs) (λ c κs. search needs) (λ c κs. search needs)
-    (λ c κs. search needs) (λ c κs. search needs) (λ c κs. search needs) (λ c κs. search needs)
-    (λ c κs. search needs) (λ c κs. search needs) (λ c κs. search needs) (λ c κs. search needs)
-    (λ c κs. search needs) (λ c κs. search needs) (λ c κs. search needs) (λ c κs. search needs)
-    returns)
+    (tie.spec (λ c κs. search needs) (λ c κs. search needs) (λ c κs. search needs) (λ c κs. search needs)
+    (λ c κs. search needs) (λ c κs. search needs) (λ c κs. search needs) (λ c κs. search needs) (λ c κs. search needs)
+    (λ c κs. search needs) (λ c κs. search needs) (λ c κs. search needs) (λ c κs. search needs) (λ c κs. search needs)
+    (λ c κs. search needs) (λ c κs. search needs) returns)

@@ -1,5 +1,4 @@
--- `md5::store` meets its contract: with i bytes written, writing what is left of x gives what was to be written. Assumes
--- nothing.
+-- `md5::store` meets its contract: with i bytes written, writing what is left of x gives what was to be written.
 use Prim.Native.Nat.{suc, _+_, _-_, _≤_}
 use mathlib.Core.Path.{_≡_, refl, sym, _∙_}
 use native.Mathlib.Nat.{add-zero}
@@ -23,21 +22,6 @@ loop-holds c =
     let e : c .args .k - 0 ≡ c .args .k = omega arith in
     (omega arith, (refl, rw (add-zero (c .args .at), e)))
 
-cast-bytes : tie.Need-cast-bytes Inv-loop μ-loop
-cast-bytes c = omega arith
-
-add-bytes : tie.Need-add-bytes Inv-loop μ-loop
-add-bytes c = omega arith
-
-slice-write-bytes : tie.Need-slice-write-bytes Inv-loop μ-loop
-slice-write-bytes c = omega arith
-
-add-i : tie.Need-add-i Inv-loop μ-loop
-add-i c = omega arith
-
-loop-less : tie.Need-loop-less Inv-loop μ-loop
-loop-less c = omega arith
-
 loop-again : tie.Need-loop-again Inv-loop μ-loop
 loop-again c =
     let a = c .before .before .args in
@@ -46,9 +30,6 @@ loop-again c =
     let e : a .k - l .i ≡ suc m = omega arith in
     let o : a .at + (l .i + 1) ≡ a .at + l .i + 1 = omega arith in
     (omega arith, (simp length-set (l .inv .1 .0), rw o (low-first-turn (l .bytes) (a .at + l .i) m (l .x) (omega arith) ∙ (rw e at (l .inv .1 .1)))))
-
-same-length : tie.Need-same-length Inv-loop μ-loop
-same-length c = omega arith
 
 returns : tie.Need-returns Inv-loop μ-loop
 returns c =
@@ -60,15 +41,5 @@ returns c =
 pub store-spec : {M : Type 1} → statement M
 store-spec =
     tie.close
-    (tie.spec
-    Inv-loop
-    μ-loop
-    loop-holds
-    cast-bytes
-    add-bytes
-    slice-write-bytes
-    add-i
-    loop-less
-    loop-again
-    same-length
-    returns)
+    (tie.spec Inv-loop μ-loop loop-holds (λ c. omega arith) (λ c. omega arith) (λ c. omega arith) (λ c. omega arith)
+    (λ c. omega arith) loop-again (λ c. omega arith) returns)

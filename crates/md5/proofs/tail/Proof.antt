@@ -1,4 +1,4 @@
--- `md5::tail` meets its contract. Assumes nothing.
+-- `md5::tail` meets its contract.
 use mathlib.Core.Path.{refl, _∙_}
 use native.Mathlib.Omega.{arith}
 use lib.ListN.{length-set}
@@ -6,36 +6,6 @@ use Rattle.md5.proofs.Tails.{tail-built}
 use borrow.Author.Needs.{needs}
 use Rattle.md5.proofs.tail.Statement.{statement}
 use Rattle.md5.proofs.tail.Tie as tie
-
-sub-copy : tie.Need-sub-copy
-sub-copy c = search needs
-
-slice-aggregate-copy : tie.Need-slice-aggregate-copy
-slice-aggregate-copy c = search needs
-
-copy-requires : tie.Need-copy-requires
-copy-requires c κs = search needs
-
-array-write-bytes : tie.Need-array-write-bytes
-array-write-bytes c = search needs
-
-tail-blocks-requires : tie.Need-tail-blocks-requires
-tail-blocks-requires c κs = search needs
-
-mul-end : tie.Need-mul-end
-mul-end c = search needs
-
-sub-end : tie.Need-sub-end
-sub-end c = search needs
-
-slice-aggregate-store : tie.Need-slice-aggregate-store
-slice-aggregate-store c = search needs
-
-bit-length-requires : tie.Need-bit-length-requires
-bit-length-requires c κs = search needs
-
-store-requires : tie.Need-store-requires
-store-requires c κs = simp length-set (omega arith)
 
 returns : tie.Need-returns
 returns c =
@@ -49,15 +19,6 @@ returns c =
 pub tail-spec : {M : Type 1} → statement M
 tail-spec =
     tie.close
-    (tie.spec
-    sub-copy
-    slice-aggregate-copy
-    copy-requires
-    array-write-bytes
-    tail-blocks-requires
-    mul-end
-    sub-end
-    slice-aggregate-store
-    bit-length-requires
-    store-requires
-    returns)
+    (tie.spec (λ c. search needs) (λ c. search needs) (λ c κs. search needs) (λ c. search needs)
+    (λ c κs. search needs) (λ c. search needs) (λ c. search needs) (λ c. search needs) (λ c κs. search needs)
+    (λ c κs. simp length-set (omega arith)) returns)

@@ -1,4 +1,4 @@
--- `md5::third_round` meets its contract: its operations are those of round 3. Assumes nothing.
+-- `md5::third_round` meets its contract: its operations are those of round 3.
 use borrow.Author.Needs.{needs}
 use Rattle.md5.specs.Md5.{sines, order, shifts, before, step, steps}
 use Rattle.md5.proofs.third_round.Statement.{statement}
@@ -44,9 +44,7 @@ returns c =
 pub third-round-spec : {M : Type 1} → statement M
 third-round-spec =
     tie.close
-    (tie.spec
-    (λ c κs. search needs) (λ c κs. search needs) (λ c κs. search needs) (λ c κs. search needs)
-    (λ c κs. search needs) (λ c κs. search needs) (λ c κs. search needs) (λ c κs. search needs)
-    (λ c κs. search needs) (λ c κs. search needs) (λ c κs. search needs) (λ c κs. search needs)
-    (λ c κs. search needs) (λ c κs. search needs) (λ c κs. search needs) (λ c κs. search needs)
-    returns)
+    (tie.spec (λ c κs. search needs) (λ c κs. search needs) (λ c κs. search needs) (λ c κs. search needs)
+    (λ c κs. search needs) (λ c κs. search needs) (λ c κs. search needs) (λ c κs. search needs) (λ c κs. search needs)
+    (λ c κs. search needs) (λ c κs. search needs) (λ c κs. search needs) (λ c κs. search needs) (λ c κs. search needs)
+    (λ c κs. search needs) (λ c κs. search needs) returns)

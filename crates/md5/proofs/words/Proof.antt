@@ -1,4 +1,4 @@
--- `md5::words` meets its contract: after j turns, j words. Assumes nothing.
+-- `md5::words` meets its contract: after j turns, j words.
 use Prim.Native.Nat.{ℕ, _-_, _≤_}
 use mathlib.Core.Path.{_≡_, refl, sym, _∙_}
 use native.Mathlib.Numerals.{add-one}
@@ -19,27 +19,6 @@ loop-holds : tie.Need-loop-holds Inv-loop μ-loop
 unfolding words
 loop-holds c = (omega arith, length-replicate {A = ℕ} 16 0, refl)
 
-mul-word : tie.Need-mul-word Inv-loop μ-loop
-mul-word c = omega arith
-
-add-word : tie.Need-add-word Inv-loop μ-loop
-add-word c = omega arith
-
-word-requires : tie.Need-word-requires Inv-loop μ-loop
-word-requires c κs = omega arith
-
-mul-x : tie.Need-mul-x Inv-loop μ-loop
-mul-x c = omega arith
-
-array-write-x : tie.Need-array-write-x Inv-loop μ-loop
-array-write-x c = omega arith
-
-add-j : tie.Need-add-j Inv-loop μ-loop
-add-j c = omega arith
-
-loop-less : tie.Need-loop-less Inv-loop μ-loop
-loop-less c = omega arith
-
 loop-again : tie.Need-loop-again Inv-loop μ-loop
 unfolding words
 loop-again c =
@@ -55,16 +34,5 @@ returns c =
 pub words-spec : {M : Type 1} → statement M
 words-spec =
     tie.close
-    (tie.spec
-    Inv-loop
-    μ-loop
-    loop-holds
-    mul-word
-    add-word
-    word-requires
-    mul-x
-    array-write-x
-    add-j
-    loop-less
-    loop-again
-    returns)
+    (tie.spec Inv-loop μ-loop loop-holds (λ c. omega arith) (λ c. omega arith) (λ c κs. omega arith)
+    (λ c. omega arith) (λ c. omega arith) (λ c. omega arith) (λ c. omega arith) loop-again returns)

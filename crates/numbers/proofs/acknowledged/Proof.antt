@@ -1,4 +1,4 @@
--- `numbers::acknowledged` meets its contract: the difference fits, and each part is read back as it was. Assumes nothing.
+-- `numbers::acknowledged` meets its contract: the difference fits, and each part is read back as it was.
 use mathlib.Core.Path.{ap₂}
 use native.Mathlib.Omega.{arith}
 use lib.IntN.{_-ℤ_}
@@ -9,9 +9,6 @@ use Rattle.numbers.proofs.Signs.{difference-fits}
 use Rattle.numbers.proofs.Signed.{fits-as, back, wide}
 use Rattle.numbers.proofs.acknowledged.Statement.{statement}
 use Rattle.numbers.proofs.acknowledged.Tie as tie
-
-cast-result : tie.Need-cast-result
-cast-result c = search needs
 
 cast-result-2 : tie.Need-cast-result-2
 cast-result-2 c = fits-as (toZ-ofZ (c .fits .change)) (sfits-widen tt (c .fits .change))
@@ -27,4 +24,4 @@ returns c =
     (difference-fits _ _ (c .fits .count .fits) (c .fits .change))
 
 pub acknowledged-spec : {M : Type 1} → statement M
-acknowledged-spec = tie.close (tie.spec cast-result cast-result-2 sub-result returns)
+acknowledged-spec = tie.close (tie.spec (λ c. search needs) cast-result-2 sub-result returns)

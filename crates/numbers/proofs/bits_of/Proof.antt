@@ -1,5 +1,4 @@
 -- `numbers::bits_of` meets its contract: the number plus 2^31 is its raised bits, and bits raised twice are as they were.
--- Assumes nothing.
 use Prim.Native.Nat.{_^_, _<_}
 use mathlib.Core.Path.{_≡_, ap, _∙_}
 use native.Mathlib.Omega.{arith}
@@ -20,22 +19,14 @@ small c = fits-ofZ (c .fits .s) .fits
 raised-fits : (c : tie.Start) → SFits w64 (pos (raised (ofZ w32 (c .args .s))))
 raised-fits c = record { sfits = omega arith }
 
-add-i64-requires : tie.Need-add-i64-requires
-add-i64-requires c κs = fits-as (raised-sum (small c)) (raised-fits c)
-
 -- the sum is the raised bits
 read : (c : tie.After-add-i64) → toZ w64 (ofZ w64 (c .add-i64 .result)) ≡ pos (raised (ofZ w32 (c .before .args .s)))
 read c = back (c .add-i64 .ensures ∙ raised-sum (small (c .before))) (raised-fits (c .before))
-
-cast-raise : tie.Need-cast-raise
-cast-raise c = cast-as (read c) (omega arith)
-
-raise-requires : tie.Need-raise-requires
-raise-requires c κs = search needs
 
 returns : tie.Need-returns
 returns c =
     c .raise .ensures ∙ ap (λ (z : ℤ). raised (natAbs z)) (read (c .before)) ∙ raised-raised _ (small (c .before .before))
 
 pub bits-of-spec : {M : Type 1} → statement M
-bits-of-spec = tie.close (tie.spec add-i64-requires cast-raise raise-requires returns)
+bits-of-spec = tie.close (tie.spec (λ c κs. fits-as (raised-sum (small c)) (raised-fits c)) (λ c. cast-as (read c) (omega arith))
+    (λ c κs. search needs) returns)

@@ -1,4 +1,4 @@
--- `numbers::change_of` meets its contract: the difference fits 32 bits, so 64 too. Assumes nothing.
+-- `numbers::change_of` meets its contract: the difference fits 32 bits, so 64 too.
 use mathlib.Core.Path.{_≡_, ap₂}
 use native.Mathlib.Omega.{arith}
 use lib.IntN.{pos, _-ℤ_}
@@ -14,17 +14,7 @@ use Rattle.numbers.proofs.change_of.Tie as tie
 read : (c : tie.Start) → toZ w64 (c .args .count) -ℤ toZ w64 (ofZ w64 (c .args .acknowledged)) ≡ pos (c .args .count) -ℤ c .args .acknowledged
 read c = ap₂ _-ℤ_ (toZ-pos w64 (omega arith)) (toZ-ofZ (c .fits .acknowledged))
 
-cast-result : tie.Need-cast-result
-cast-result c = search needs
-
-sub-result : tie.Need-sub-result
-sub-result c = fits-as (read c) (sfits-widen tt (c .pre))
-
-cast-result-2 : tie.Need-cast-result-2
-cast-result-2 c = fits-as (back (read c) (sfits-widen tt (c .pre))) (c .pre)
-
-returns : tie.Need-returns
-returns c = back (back (read c) (sfits-widen tt (c .pre))) (c .pre)
-
 pub change-of-spec : {M : Type 1} → statement M
-change-of-spec = tie.close (tie.spec cast-result sub-result cast-result-2 returns)
+change-of-spec = tie.close (tie.spec (λ c. search needs) (λ c. fits-as (read c) (sfits-widen tt (c .pre)))
+    (λ c. fits-as (back (read c) (sfits-widen tt (c .pre))) (c .pre))
+    (λ c. back (back (read c) (sfits-widen tt (c .pre))) (c .pre)))

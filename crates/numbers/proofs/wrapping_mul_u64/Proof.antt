@@ -1,4 +1,4 @@
--- `numbers::wrapping_mul_u64` meets its contract, by the law of a product from halves. Assumes nothing.
+-- `numbers::wrapping_mul_u64` meets its contract, by the law of a product from halves.
 use mathlib.Core.Path.{_∙_}
 use native.Mathlib.Omega.{arith}
 use borrow.Author.Needs.{needs}
@@ -6,35 +6,12 @@ use Rattle.numbers.proofs.Products.{product, halves-fit}
 use Rattle.numbers.proofs.wrapping_mul_u64.Statement.{statement}
 use Rattle.numbers.proofs.wrapping_mul_u64.Tie as tie
 
-mul-wrapping-add-u64 : tie.Need-mul-wrapping-add-u64
-mul-wrapping-add-u64 c = record { fits = halves-fit (omega arith) (omega arith) }
-
-mul-wrapping-add-u64-2 : tie.Need-mul-wrapping-add-u64-2
-mul-wrapping-add-u64-2 c = record { fits = halves-fit (omega arith) (omega arith) }
-
-wrapping-add-u64-requires : tie.Need-wrapping-add-u64-requires
-wrapping-add-u64-requires c κs = search needs
-
-mul-wrapping-add-u64-3 : tie.Need-mul-wrapping-add-u64-3
-mul-wrapping-add-u64-3 c = search needs
-
-mul-wrapping-add-u64-4 : tie.Need-mul-wrapping-add-u64-4
-mul-wrapping-add-u64-4 c = record { fits = halves-fit (omega arith) (omega arith) }
-
-wrapping-add-u64-requires-2 : tie.Need-wrapping-add-u64-requires-2
-wrapping-add-u64-requires-2 c κs = search needs
-
 returns : tie.Need-returns
 returns c = c .wrapping-add-u642 .ensures ∙ rw (c .before .wrapping-add-u64 .ensures) (product (c .before .before .args .a) (c .before .before .args .b))
 
 pub wrapping-mul-u64-spec : {M : Type 1} → statement M
 wrapping-mul-u64-spec =
     tie.close
-    (tie.spec
-    mul-wrapping-add-u64
-    mul-wrapping-add-u64-2
-    wrapping-add-u64-requires
-    mul-wrapping-add-u64-3
-    mul-wrapping-add-u64-4
-    wrapping-add-u64-requires-2
-    returns)
+    (tie.spec (λ c. record { fits = halves-fit (omega arith) (omega arith) })
+    (λ c. record { fits = halves-fit (omega arith) (omega arith) }) (λ c κs. search needs) (λ c. search needs)
+    (λ c. record { fits = halves-fit (omega arith) (omega arith) }) (λ c κs. search needs) returns)

@@ -1,25 +1,10 @@
--- `low_8` meets its contract: its two halves are read, the lower first. Assumes nothing.
+-- `low_8` meets its contract: its two halves are read, the lower first.
 use mathlib.Core.Path.{sym, _∙_}
 use Rattle.octets.proofs.Laws.{be-halves}
 use Rattle.octets.proofs.SwapLaws.{swap-8}
 use borrow.Author.Needs.{needs}
 use Rattle.octets.proofs.low_8.Statement.{statement}
 use Rattle.octets.proofs.low_8.Tie as tie
-
-low-4-requires : tie.Need-low-4-requires
-low-4-requires c κs = search needs
-
-add-low-4 : tie.Need-add-low-4
-add-low-4 c = search needs
-
-low-4-requires-2 : tie.Need-low-4-requires-2
-low-4-requires-2 c κs = search needs
-
-mul-result : tie.Need-mul-result
-mul-result c = search needs
-
-add-result : tie.Need-add-result
-add-result c = search needs
 
 returns : tie.Need-returns
 returns c =
@@ -31,4 +16,5 @@ returns c =
 pub low-8-spec : {M : Type 1} → statement M
 low-8-spec =
     tie.close
-    (tie.spec low-4-requires add-low-4 low-4-requires-2 mul-result add-result returns)
+    (tie.spec (λ c κs. search needs) (λ c. search needs) (λ c κs. search needs) (λ c. search needs)
+    (λ c. search needs) returns)

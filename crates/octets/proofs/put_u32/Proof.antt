@@ -1,21 +1,9 @@
--- `put_u32` meets its contract: what is swapped here is swapped back as it is written. Assumes nothing.
+-- `put_u32` meets its contract: what is swapped here is swapped back as it is written.
 use native.Mathlib.Omega.{arith}
 use Rattle.octets.proofs.SwapLaws.{back-4}
 use borrow.Author.Needs.{needs}
 use Rattle.octets.proofs.put_u32.Statement.{statement}
 use Rattle.octets.proofs.put_u32.Tie as tie
-
-swapped-4-requires : tie.Need-swapped-4-requires
-swapped-4-requires c κs = search needs
-
-cast-put-low-4 : tie.Need-cast-put-low-4
-cast-put-low-4 c = search needs
-
-put-low-4-requires : tie.Need-put-low-4-requires
-put-low-4-requires c κs = search needs
-
-same-length : tie.Need-same-length
-same-length c = search needs
 
 returns : tie.Need-returns
 returns c =
@@ -24,4 +12,4 @@ returns c =
 
 pub put-u32-spec : {M : Type 1} → statement M
 put-u32-spec =
-    tie.close (tie.spec swapped-4-requires cast-put-low-4 put-low-4-requires same-length returns)
+    tie.close (tie.spec (λ c κs. search needs) (λ c. search needs) (λ c κs. search needs) (λ c. search needs) returns)

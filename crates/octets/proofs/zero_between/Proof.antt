@@ -1,5 +1,4 @@
 -- `zero_between` meets its contract: the bytes passed and the bytes left are all 0 where the whole part is.
--- Assumes nothing.
 use Prim.Native.Nat.{_-_, _≤_}
 use mathlib.Core.Path.{_≡_, refl, _∙_}
 use mathlib.Core.Bool.{_&&_}
@@ -17,18 +16,6 @@ Inv-loop b from end acc₀ i₀ acc i = (i ≤ end) × ((eqb acc 0 && allZero (t
 abbrev μ-loop : tie.MeasureT-loop
 μ-loop b from end acc₀ i₀ acc i = end - i
 
-loop-holds : tie.Need-loop-holds Inv-loop μ-loop
-loop-holds c = (omega arith, refl)
-
-shared-slice-read-acc : tie.Need-shared-slice-read-acc Inv-loop μ-loop
-shared-slice-read-acc c = omega arith
-
-add-i : tie.Need-add-i Inv-loop μ-loop
-add-i c = omega arith
-
-loop-less : tie.Need-loop-less Inv-loop μ-loop
-loop-less c = omega arith
-
 loop-again : tie.Need-loop-again Inv-loop μ-loop
 loop-again c =
     let a = c .before .before .before .args in
@@ -44,4 +31,5 @@ returns c =
 pub zero-between-spec : {M : Type 1} → statement M
 zero-between-spec =
     tie.close
-    (tie.spec Inv-loop μ-loop loop-holds shared-slice-read-acc add-i loop-less loop-again returns)
+    (tie.spec Inv-loop μ-loop (λ c. (omega arith, refl)) (λ c. omega arith) (λ c. omega arith) (λ c. omega arith)
+    loop-again returns)

@@ -1,28 +1,19 @@
--- `sample_time::deadline_missed` meets its contract, by what it calls ensures. Assumes nothing.
+-- `sample_time::deadline_missed` meets its contract, by what it calls ensures.
 use mathlib.Core.Path.{ap, _∙_}
 use lib.IntN.{ℤ}
 use borrow.Author.Needs.{needs}
-use Rattle.model.specs.Times.{nanosOf, reaches, deadlineMissed}
+use Rattle.model.specs.Times.{timeValue, reaches, deadlineMissed}
 use Rattle.sample_time.proofs.Values.{gap-asked, gap-read}
 use Rattle.sample_time.proofs.deadline_missed.Statement.{statement}
 use Rattle.sample_time.proofs.deadline_missed.Tie as tie
-
-nanos-requires : tie.Need-nanos-requires
-nanos-requires c κs = search needs
-
-nanos-requires-2 : tie.Need-nanos-requires-2
-nanos-requires-2 c κs = search needs
 
 gap-requires : tie.Need-gap-requires
 gap-requires c κs =
     let a = c .before .before .before .args in
     gap-asked (a .owner-at) (a .now) (search needs) (search needs) (search needs) (search needs) (c .before .nanos .ensures) (c .nanos2 .ensures)
 
-reaches-requires : tie.Need-reaches-requires
-reaches-requires c κs = search needs
-
 returns : tie.Need-returns
-unfolding deadlineMissed nanosOf
+unfolding deadlineMissed timeValue
 returns c =
     let g = c .before in
     let h = g .before .before in
@@ -38,4 +29,4 @@ returns-2 c = rw (c .if1 .left)
 
 pub deadline-missed-spec : {M : Type 1} → statement M
 deadline-missed-spec =
-    tie.close (tie.spec nanos-requires nanos-requires-2 gap-requires reaches-requires returns returns-2)
+    tie.close (tie.spec (λ c κs. search needs) (λ c κs. search needs) gap-requires (λ c κs. search needs) returns returns-2)

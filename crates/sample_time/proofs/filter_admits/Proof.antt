@@ -1,4 +1,4 @@
--- `sample_time::filter_admits` meets its contract, by what it calls ensures. Assumes nothing.
+-- `sample_time::filter_admits` meets its contract, by what it calls ensures.
 use mathlib.Core.Path.{_∙_}
 use borrow.Author.Needs.{needs}
 use Rattle.model.specs.Times.{filterAdmits}
@@ -9,12 +9,6 @@ use Rattle.sample_time.proofs.filter_admits.Tie as tie
 returns : tie.Need-returns
 unfolding filterAdmits
 returns c = rw (c .if1 .taken)
-
-nanos-requires : tie.Need-nanos-requires
-nanos-requires c κs = search needs
-
-nanos-requires-2 : tie.Need-nanos-requires-2
-nanos-requires-2 c κs = search needs
 
 gap-passes-requires : tie.Need-gap-passes-requires
 gap-passes-requires c κs =
@@ -31,4 +25,4 @@ returns-2 c =
     ∙ passes-read (a .last) (a .candidate) (search needs) (search needs) (search needs) (search needs) (h .nanos .ensures) (c .before .nanos2 .ensures) (a .separation))
 
 pub filter-admits-spec : {M : Type 1} → statement M
-filter-admits-spec = tie.close (tie.spec returns nanos-requires nanos-requires-2 gap-passes-requires returns-2)
+filter-admits-spec = tie.close (tie.spec returns (λ c κs. search needs) (λ c κs. search needs) gap-passes-requires returns-2)

@@ -1,4 +1,4 @@
--- `sample_time::gap_passes` meets its contract, by its test and what it calls ensures. Assumes nothing.
+-- `sample_time::gap_passes` meets its contract, by its test and what it calls ensures.
 use mathlib.Core.Bool.{Bool, _||_}
 use mathlib.Core.Path.{_≡_, sym, ap, ap₂, _∙_}
 use lib.IntN.{ℤ}
@@ -21,12 +21,6 @@ returns c =
     let a = c .before .args in
     ap (λ (b : Bool). b || reaches (gap (a .last) (a .candidate)) (a .separation)) (sym (c .if1 .taken) ∙ read (c .before))
 
-gap-requires : tie.Need-gap-requires
-gap-requires c κs = search needs
-
-reaches-requires : tie.Need-reaches-requires
-reaches-requires c κs = search needs
-
 returns-2 : tie.Need-returns-2
 returns-2 c =
     let a = c .before .before .before in
@@ -36,4 +30,4 @@ returns-2 c =
     (back (c .before .gap .ensures ∙ ap₂ gap (toZ-ofZ (a .fits .last)) (toZ-ofZ (a .fits .candidate))) (a .pre)))
 
 pub gap-passes-spec : {M : Type 1} → statement M
-gap-passes-spec = tie.close (tie.spec returns gap-requires reaches-requires returns-2)
+gap-passes-spec = tie.close (tie.spec returns (λ c κs. search needs) (λ c κs. search needs) returns-2)

@@ -1,4 +1,4 @@
--- `sample_time::is_later` meets its contract: each value is read back as it was. Assumes nothing.
+-- `sample_time::is_later` meets its contract: each value is read back as it was.
 use mathlib.Core.Path.{ap₂}
 use lib.Signed.{ltZ}
 use mir.Facts.{toZ-ofZ}

@@ -1,4 +1,4 @@
--- `sample_time::order_admits` meets its contract, by what it calls ensures. Assumes nothing.
+-- `sample_time::order_admits` meets its contract, by what it calls ensures.
 use mathlib.Core.Path.{_∙_}
 use borrow.Author.Needs.{needs}
 use Rattle.model.specs.Times.{orderAdmits}
@@ -10,15 +10,6 @@ returns : tie.Need-returns
 unfolding orderAdmits
 returns c = rw (c .if1 .taken)
 
-nanos-requires : tie.Need-nanos-requires
-nanos-requires c κs = search needs
-
-nanos-requires-2 : tie.Need-nanos-requires-2
-nanos-requires-2 c κs = search needs
-
-is-later-requires : tie.Need-is-later-requires
-is-later-requires c κs = search needs
-
 returns-2 : tie.Need-returns-2
 unfolding orderAdmits
 returns-2 c =
@@ -29,4 +20,4 @@ returns-2 c =
     ∙ later-read (a .last) (a .candidate) (search needs) (search needs) (search needs) (search needs) (h .nanos .ensures) (c .before .nanos2 .ensures))
 
 pub order-admits-spec : {M : Type 1} → statement M
-order-admits-spec = tie.close (tie.spec returns nanos-requires nanos-requires-2 is-later-requires returns-2)
+order-admits-spec = tie.close (tie.spec returns (λ c κs. search needs) (λ c κs. search needs) (λ c κs. search needs) returns-2)

@@ -1,9 +1,9 @@
--- `sample_time::purge_due` meets its contract, by its tests and what it calls ensures. Assumes nothing.
+-- `sample_time::purge_due` meets its contract, by its tests and what it calls ensures.
 use mathlib.Core.Path.{ap, _∙_}
 use lib.Dec.{leb}
 use borrow.Author.Needs.{needs}
 use borrow.Author.Tests.{eq-eqb, ne-eqb}
-use Rattle.model.specs.Times.{nanosOf, elapsed, purgeDue}
+use Rattle.model.specs.Times.{timeValue, elapsed, purgeDue}
 use Rattle.sample_time.proofs.Values.{gap-asked, gap-read}
 use Rattle.sample_time.proofs.purge_due.Statement.{statement}
 use Rattle.sample_time.proofs.purge_due.Tie as tie
@@ -12,22 +12,13 @@ returns : tie.Need-returns
 unfolding purgeDue
 returns c = rw (c .before .if1 .taken, eq-eqb _ _ (c .if2 .taken))
 
-nanos-requires : tie.Need-nanos-requires
-nanos-requires c κs = search needs
-
-nanos-requires-2 : tie.Need-nanos-requires-2
-nanos-requires-2 c κs = search needs
-
 gap-requires : tie.Need-gap-requires
 gap-requires c κs =
     let a = c .before .before .before .before .args in
     gap-asked (a .since) (a .now) (search needs) (search needs) (search needs) (search needs) (c .before .nanos .ensures) (c .nanos2 .ensures)
 
-elapsed-requires : tie.Need-elapsed-requires
-elapsed-requires c κs = search needs
-
 returns-2 : tie.Need-returns-2
-unfolding purgeDue nanosOf
+unfolding purgeDue timeValue
 returns-2 c =
     let g = c .before in
     let h = g .before .before in
@@ -45,4 +36,5 @@ returns-3 c = rw (c .if1 .left)
 pub purge-due-spec : {M : Type 1} → statement M
 purge-due-spec =
     tie.close
-    (tie.spec returns nanos-requires nanos-requires-2 gap-requires elapsed-requires returns-2 returns-3)
+    (tie.spec returns (λ c κs. search needs) (λ c κs. search needs) gap-requires (λ c κs. search needs) returns-2
+    returns-3)

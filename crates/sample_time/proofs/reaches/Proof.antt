@@ -1,4 +1,4 @@
--- `sample_time::reaches` meets its contract, by the sign of the gap. Assumes nothing.
+-- `sample_time::reaches` meets its contract, by the sign of the gap.
 use mir.Facts.{toZ-ofZ}
 use Rattle.sample_time.proofs.Gaps.{unreached, reached, cast-fits}
 use Rattle.sample_time.proofs.reaches.Statement.{statement}

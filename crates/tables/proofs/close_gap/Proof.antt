@@ -1,4 +1,4 @@
--- `close_gap` meets its contract. Assumes nothing.
+-- `close_gap` meets its contract.
 use Prim.Native.Nat.{_+_, _-_, _*_}
 use mathlib.Core.Path.{_≡_, sym}
 use native.Mathlib.Omega.{arith}
@@ -16,55 +16,16 @@ end s =
     let e : s .args .count - 1 + 1 ≡ s .args .count = omega arith in
     rw e at (sym (place-next (s .args .size) (s .args .count - 1)))
 
-mul-move-down : tie.Need-mul-move-down
-mul-move-down c = omega (arith, rest (c .before .before))
-
-mul-move-down-2 : tie.Need-mul-move-down-2
-mul-move-down-2 c = omega (arith, rest (c .before .before))
-
-add-move-down : tie.Need-add-move-down
-add-move-down c = omega (arith, rest (c .before .before))
-
-add-move-down-2 : tie.Need-add-move-down-2
-add-move-down-2 c = search needs
-
-sub-move-down : tie.Need-sub-move-down
-sub-move-down c = search needs
-
-mul-move-down-3 : tie.Need-mul-move-down-3
-mul-move-down-3 c = omega (arith, rest (c .before .before))
-
-move-down-requires : tie.Need-move-down-requires
-move-down-requires c κs = omega (arith, rest (c .before .before))
-
-sub-clear : tie.Need-sub-clear
-sub-clear c = search needs
-
 mul-clear : tie.Need-mul-clear
 mul-clear c = omega (arith, end (c .before .before .before .before .before .before))
 
 clear-requires : tie.Need-clear-requires
 clear-requires c κs = omega (arith, end (c .before .before .before .before .before .before))
 
-same-length : tie.Need-same-length
-same-length c = search needs
-
-returns : tie.Need-returns
-returns c = cc
-
 pub close-gap-spec : {M : Type 1} → statement M
 close-gap-spec =
     tie.close
-    (tie.spec
-    mul-move-down
-    mul-move-down-2
-    add-move-down
-    add-move-down-2
-    sub-move-down
-    mul-move-down-3
-    move-down-requires
-    sub-clear
-    mul-clear
-    clear-requires
-    same-length
-    returns)
+    (tie.spec (λ c. omega (arith, rest (c .before .before))) (λ c. omega (arith, rest (c .before .before)))
+    (λ c. omega (arith, rest (c .before .before))) (λ c. search needs) (λ c. search needs)
+    (λ c. omega (arith, rest (c .before .before))) (λ c κs. omega (arith, rest (c .before .before)))
+    (λ c. search needs) mul-clear clear-requires (λ c. search needs) (λ c. cc))

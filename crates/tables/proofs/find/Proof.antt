@@ -1,4 +1,4 @@
--- `find` meets its contract: the key stands at its lower bound or nowhere. Assumes nothing.
+-- `find` meets its contract: the key stands at its lower bound or nowhere.
 use Prim.Native.Nat.{_+_, _*_, _≤_}
 use mathlib.Core.Path.{sym, _∙_}
 use native.Mathlib.Omega.{arith}
@@ -12,18 +12,6 @@ use Rattle.tables.proofs.find.Tie as tie
 room : (c : tie.Then1)
     → (let a = c .before .before .before .args in c .before .lower-bound .result * a .size + a .size ≤ length (a .t .now))
 room c = omega (arith, record-le (c .before .before .before .args .size) (c .if1 .taken))
-
-lower-bound-requires : tie.Need-lower-bound-requires
-lower-bound-requires c κs = search needs
-
-mul-guid-at : tie.Need-mul-guid-at
-mul-guid-at c = omega (arith, room c)
-
-guid-at-requires : tie.Need-guid-at-requires
-guid-at-requires c κs = omega (arith, room c)
-
-is-same-requires : tie.Need-is-same-requires
-is-same-requires c κs = search needs
 
 returns : tie.Need-returns
 returns c =
@@ -51,11 +39,5 @@ returns-3 c =
 pub find-spec : {M : Type 1} → statement M
 find-spec =
     tie.close
-    (tie.spec
-    lower-bound-requires
-    mul-guid-at
-    guid-at-requires
-    is-same-requires
-    returns
-    returns-2
-    returns-3)
+    (tie.spec (λ c κs. search needs) (λ c. omega (arith, room c)) (λ c κs. omega (arith, room c))
+    (λ c κs. search needs) returns returns-2 returns-3)

@@ -1,4 +1,4 @@
--- `keys_rise` meets its contract: the first i keys rise, and the last of them is at hand. Assumes nothing.
+-- `keys_rise` meets its contract: the first i keys rise, and the last of them is at hand.
 use Prim.Native.Nat.{_+_, _-_, _*_, _≤_}
 use mathlib.Core.Path.{_≡_, refl, sym, ap₂, _∙_}
 use mathlib.Core.Bool.{true}
@@ -40,26 +40,11 @@ loop-holds c =
     let e : (1 - 1) * c .before .before .before .args .size ≡ 0 = omega arith in
     (omega arith, omega arith, rw e (c .guid-at .ensures), refl)
 
-mul-guid-at : tie.Need-mul-guid-at Inv-loop μ-loop
-mul-guid-at c = omega (arith, room c)
-
-guid-at-requires-2 : tie.Need-guid-at-requires-2 Inv-loop μ-loop
-guid-at-requires-2 c κs = omega (arith, room c)
-
-is-less-requires : tie.Need-is-less-requires Inv-loop μ-loop
-is-less-requires c κs = tt
-
 returns-2 : tie.Need-returns-2 Inv-loop μ-loop
 returns-2 c =
     let a = c .before .before .before .before .before .before .before .before .args in
     let l = c .before .before .before .before .loop in
     rise-stop (a .size) (a .count) (a .t .now) (l .i) (omega arith) (omega arith) (test (c .before) ∙ not-true _ (c .if2 .taken))
-
-add-i : tie.Need-add-i Inv-loop μ-loop
-add-i c = omega arith
-
-loop-less : tie.Need-loop-less Inv-loop μ-loop
-loop-less c = omega arith
 
 loop-again : tie.Need-loop-again Inv-loop μ-loop
 loop-again c =
@@ -80,17 +65,5 @@ returns-3 c =
 pub keys-rise-spec : {M : Type 1} → statement M
 keys-rise-spec =
     tie.close
-    (tie.spec
-    Inv-loop
-    μ-loop
-    returns
-    guid-at-requires
-    loop-holds
-    mul-guid-at
-    guid-at-requires-2
-    is-less-requires
-    returns-2
-    add-i
-    loop-less
-    loop-again
-    returns-3)
+    (tie.spec Inv-loop μ-loop returns guid-at-requires loop-holds (λ c. omega (arith, room c))
+    (λ c κs. omega (arith, room c)) (λ c κs. tt) returns-2 (λ c. omega arith) (λ c. omega arith) loop-again returns-3)

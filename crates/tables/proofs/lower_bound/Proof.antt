@@ -1,4 +1,4 @@
--- `lower_bound` meets its contract: lo and hi close in on the place. Assumes nothing.
+-- `lower_bound` meets its contract: lo and hi close in on the place.
 use Prim.Native.Nat.{ℕ, _+_, _-_, _*_, _/_, _≤_, _<_}
 use mathlib.Core.List.{List}
 use mathlib.Core.Path.{_≡_, sym, ap, _∙_}
@@ -27,12 +27,6 @@ many : (s : tie.Start Inv-loop μ-loop) → length (K s) ≡ s .args .count
 many s = length-keys (s .args .size) (s .args .count) (s .args .t .now)
 
 -- 128 records at most
-cast-hi : tie.Need-cast-hi Inv-loop μ-loop
-cast-hi c = omega arith
-
-loop-holds : tie.Need-loop-holds Inv-loop μ-loop
-loop-holds c = bracket-start _ _ _ (many (c .before))
-
 -- the middle of a turn, which is a place
 abbrev Mid : tie.In-loop Inv-loop μ-loop → ℕ
 Mid c = (c .before .loop .lo + c .before .loop .hi) / 2
@@ -49,44 +43,17 @@ key-is c =
     let a = c .before .before .before .before .args in
     getD-keys (a .size) (a .count) (a .t .now) (Mid (c .before)) (mid-lt (c .before)) ∙ sym (ap num (c .guid-at .ensures))
 
-add-mid : tie.Need-add-mid Inv-loop μ-loop
-add-mid c = omega (arith, many (c .before .before .before))
-
-cast-guid-at : tie.Need-cast-guid-at Inv-loop μ-loop
-cast-guid-at c = omega (arith, mid-lt c)
-
-mul-guid-at : tie.Need-mul-guid-at Inv-loop μ-loop
-mul-guid-at c = omega (arith, room c)
-
-guid-at-requires : tie.Need-guid-at-requires Inv-loop μ-loop
-guid-at-requires c κs = omega (arith, room c)
-
-is-less-requires : tie.Need-is-less-requires Inv-loop μ-loop
-is-less-requires c κs = tt
-
-add-lo : tie.Need-add-lo Inv-loop μ-loop
-add-lo c = omega (arith, mid-lt (c .before .before .before))
-
-loop-less : tie.Need-loop-less Inv-loop μ-loop
-loop-less c = omega arith
-
 loop-again : tie.Need-loop-again Inv-loop μ-loop
 loop-again c =
     let i = c .before .before .before in
     bracket-up (i .before .before .before .pre .3) (i .before .loop .inv) (Mid i) (omega arith) (omega arith)
     (rw (key-is (c .before .before)) (ltb-true _ _ (sym (c .before .is-less .ensures) ∙ c .if1 .taken)))
 
-loop-less-2 : tie.Need-loop-less-2 Inv-loop μ-loop
-loop-less-2 c = omega arith
-
 loop-again-2 : tie.Need-loop-again-2 Inv-loop μ-loop
 loop-again-2 c =
     let i = c .before .before .before in
     bracket-down (i .before .before .before .pre .3) (i .before .loop .inv) (Mid i) (omega arith) (omega arith)
     (rw (key-is (c .before .before)) (ltb-false _ _ (sym (c .before .is-less .ensures) ∙ c .if1 .left)))
-
-cast-result : tie.Need-cast-result Inv-loop μ-loop
-cast-result c = omega (arith, many (c .before .before .before))
 
 returns : tie.Need-returns Inv-loop μ-loop
 returns c =
@@ -96,20 +63,8 @@ returns c =
 pub lower-bound-spec : {M : Type 1} → statement M
 lower-bound-spec =
     tie.close
-    (tie.spec
-    Inv-loop
-    μ-loop
-    cast-hi
-    loop-holds
-    add-mid
-    cast-guid-at
-    mul-guid-at
-    guid-at-requires
-    is-less-requires
-    add-lo
-    loop-less
-    loop-again
-    loop-less-2
-    loop-again-2
-    cast-result
-    returns)
+    (tie.spec Inv-loop μ-loop (λ c. omega arith) (λ c. bracket-start _ _ _ (many (c .before)))
+    (λ c. omega (arith, many (c .before .before .before))) (λ c. omega (arith, mid-lt c)) (λ c. omega (arith, room c))
+    (λ c κs. omega (arith, room c)) (λ c κs. tt) (λ c. omega (arith, mid-lt (c .before .before .before)))
+    (λ c. omega arith) loop-again (λ c. omega arith) loop-again-2
+    (λ c. omega (arith, many (c .before .before .before))) returns)

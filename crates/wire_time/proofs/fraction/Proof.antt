@@ -1,4 +1,4 @@
--- `wire_time::fraction` meets its contract: at whole milliseconds the table agrees with the conversion. Assumes nothing.
+-- `wire_time::fraction` meets its contract: at whole milliseconds the table agrees with the conversion.
 use mathlib.Core.Path.{refl, sym, ap, _∙_}
 use native.Mathlib.Omega.{arith}
 use Rattle.wire_time.specs.WireTime.{fractionOf}
@@ -6,20 +6,8 @@ use Rattle.wire_time.proofs.WireLaws.{whole-milliseconds}
 use Rattle.wire_time.proofs.fraction.Statement.{statement}
 use Rattle.wire_time.proofs.fraction.Tie as tie
 
-entry-requires : tie.Need-entry-requires
-entry-requires c κs = omega arith
-
 returns : tie.Need-returns
 returns c = c .entry .ensures ∙ sym (whole-milliseconds _) ∙ ap fractionOf (omega arith)
 
-mul-result : tie.Need-mul-result
-mul-result c = omega arith
-
-cast-result : tie.Need-cast-result
-cast-result c = omega arith
-
-returns-2 : tie.Need-returns-2
-returns-2 c = refl
-
 pub fraction-spec : {M : Type 1} → statement M
-fraction-spec = tie.close (tie.spec entry-requires returns mul-result cast-result returns-2)
+fraction-spec = tie.close (tie.spec (λ c κs. omega arith) returns (λ c. omega arith) (λ c. omega arith) (λ c. refl))

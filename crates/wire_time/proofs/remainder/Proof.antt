@@ -1,17 +1,8 @@
--- `wire_time::remainder` meets its contract. Assumes nothing.
+-- `wire_time::remainder` meets its contract.
 use mathlib.Core.Path.{refl}
 use native.Mathlib.Omega.{arith}
 use Rattle.wire_time.proofs.remainder.Statement.{statement}
 use Rattle.wire_time.proofs.remainder.Tie as tie
 
-mul-result : tie.Need-mul-result
-mul-result c = omega arith
-
-cast-result : tie.Need-cast-result
-cast-result c = omega arith
-
-returns : tie.Need-returns
-returns c = refl
-
 pub remainder-spec : {M : Type 1} → statement M
-remainder-spec = tie.close (tie.spec mul-result cast-result returns)
+remainder-spec = tie.close (tie.spec (λ c. omega arith) (λ c. omega arith) (λ c. refl))

@@ -1,4 +1,4 @@
--- `wire_time::wire_fraction` meets its contract. Assumes nothing.
+-- `wire_time::wire_fraction` meets its contract.
 use Prim.Native.Nat.{_^_}
 use mathlib.Core.Path.{refl}
 use native.Mathlib.Omega.{arith}
@@ -12,12 +12,6 @@ returns : tie.Need-returns
 unfolding wireFractionOf
 returns c = rw (le-ltb (c .before .args .nanosec) (10 ^ 9) (omega arith)) refl
 
-fraction-requires : tie.Need-fraction-requires
-fraction-requires c κs = omega arith
-
-remainder-requires : tie.Need-remainder-requires
-remainder-requires c κs = search needs
-
 returns-2 : tie.Need-returns-2
 unfolding wireFractionOf
 returns-2 c =
@@ -25,4 +19,4 @@ returns-2 c =
     rw (lt-ltb (f .before .before .args .nanosec) (10 ^ 9) (omega arith), f .fraction .ensures, c .remainder .ensures)
 
 pub wire-fraction-spec : {M : Type 1} → statement M
-wire-fraction-spec = tie.close (tie.spec returns fraction-requires remainder-requires returns-2)
+wire-fraction-spec = tie.close (tie.spec returns (λ c κs. omega arith) (λ c κs. search needs) returns-2)

@@ -1,29 +1,13 @@
--- `writer_calls::acknowledge_ok` meets its contract: each arm by itself. Assumes nothing.
+-- `writer_calls::acknowledge_ok` meets its contract: each arm by itself.
 use borrow.Author.Needs.{needs}
 use Rattle.writer_calls.proofs.acknowledge_ok.Statement.{statement}
 use Rattle.writer_calls.proofs.acknowledge_ok.Tie as tie
-
-enum-told : tie.Need-enum-told
-enum-told c = search needs
-
-enum-told-2 : tie.Need-enum-told-2
-enum-told-2 c = search needs
-
-enum-told-3 : tie.Need-enum-told-3
-enum-told-3 c = search needs
-
-acknowledge-ok-requires : tie.Need-acknowledge-ok-requires
-acknowledge-ok-requires c κs = search needs
-
-returns : tie.Need-returns
-returns c = λ pens writers lost. rw (c .enum-told .given .1)
-
-returns-2 : tie.Need-returns-2
-returns-2 c = λ pens writers lost. rw (c .enum-told2 .given .1)
 
 returns-3 : tie.Need-returns-3
 returns-3 c = λ pens writers lost. rw (c .before .enum-told3 .given .1) (c .acknowledge-ok .ensures pens writers lost)
 
 pub acknowledge-ok-spec : {M : Type 1} → statement M
 acknowledge-ok-spec =
-    tie.close (tie.spec enum-told enum-told-2 enum-told-3 acknowledge-ok-requires returns returns-2 returns-3)
+    tie.close (tie.spec (λ c. search needs) (λ c. search needs) (λ c. search needs) (λ c κs. search needs)
+    (λ c. λ pens writers lost. rw (c .enum-told .given .1)) (λ c. λ pens writers lost. rw (c .enum-told2 .given .1))
+    returns-3)

@@ -1,17 +1,11 @@
--- `writer_calls::tracker_refusal` meets its contract: one law a link of the chain. Assumes nothing.
+-- `writer_calls::tracker_refusal` meets its contract: one law a link of the chain.
 use mathlib.Core.Path.{sym, _∙_}
 use borrow.Author.Tests.{not-true, not-false}
 use Rattle.writer_calls.proofs.Sheets.{tracker-5, tracker-7, tracker-8, tracker-none}
-use Rattle.writer_turns.specs.WriterCalls.{heldBy}
+use Rattle.writer_counts.specs.WriterCalls.{heldBy}
 use borrow.Author.Needs.{needs}
 use Rattle.writer_calls.proofs.tracker_refusal.Statement.{statement}
 use Rattle.writer_calls.proofs.tracker_refusal.Tie as tie
-
-tracker-rule-requires : tie.Need-tracker-rule-requires
-tracker-rule-requires c κs = search needs
-
-clocks-ok-requires : tie.Need-clocks-ok-requires
-clocks-ok-requires c κs = search needs
 
 returns : tie.Need-returns
 returns c =
@@ -20,9 +14,6 @@ returns c =
     λ pens writers lost. tracker-5 (x .args .c) (x .args .s) (heldBy (x .args .head) pens writers lost) (k .tracker-rule .result) (k .tracker-rule .ensures)
     (sym (c .before .clocks-ok .ensures) ∙ not-true _ (c .if1 .taken))
 
-kind-ok-requires : tie.Need-kind-ok-requires
-kind-ok-requires c κs = search needs
-
 returns-2 : tie.Need-returns-2
 returns-2 c =
     let k = c .before .before .before .before in
@@ -30,9 +21,6 @@ returns-2 c =
     λ pens writers lost. tracker-7 (x .args .c) (x .args .s) (heldBy (x .args .head) pens writers lost) (k .tracker-rule .result) (k .tracker-rule .ensures)
     (sym (c .before .before .before .clocks-ok .ensures) ∙ not-false _ (c .before .before .if1 .left))
     (sym (c .before .kind-ok .ensures) ∙ not-true _ (c .if2 .taken))
-
-acknowledge-ok-requires : tie.Need-acknowledge-ok-requires
-acknowledge-ok-requires c κs = search needs
 
 returns-3 : tie.Need-returns-3
 returns-3 c =
@@ -57,12 +45,5 @@ returns-4 c =
 pub tracker-refusal-spec : {M : Type 1} → statement M
 tracker-refusal-spec =
     tie.close
-    (tie.spec
-    tracker-rule-requires
-    clocks-ok-requires
-    returns
-    kind-ok-requires
-    returns-2
-    acknowledge-ok-requires
-    returns-3
-    returns-4)
+    (tie.spec (λ c κs. search needs) (λ c κs. search needs) returns (λ c κs. search needs) returns-2
+    (λ c κs. search needs) returns-3 returns-4)

@@ -1,15 +1,9 @@
--- `writer_calls::tracker_turn` meets its contract: what the sheet decides, then the call. Assumes nothing.
+-- `writer_calls::tracker_turn` meets its contract: what the sheet decides, then the call.
 use mathlib.Core.Path.{sym, _∙_}
 use Rattle.writer_calls.proofs.Leaving.{refuses-judged}
 use borrow.Author.Needs.{needs}
 use Rattle.writer_calls.proofs.tracker_turn.Statement.{statement}
 use Rattle.writer_calls.proofs.tracker_turn.Tie as tie
-
-tracker-refusal-requires : tie.Need-tracker-refusal-requires
-tracker-refusal-requires c κs = search needs
-
-refused-requires : tie.Need-refused-requires
-refused-requires c κs = search needs
 
 returns : tie.Need-returns
 returns c =
@@ -18,8 +12,8 @@ returns c =
     refuses-judged (x .args .c) (x .args .s) (x .args .head) (x .args .writers .now) (x .args .lost .now) (x .args .out .now)
     (k .tracker-refusal .result) (k .tracker-refusal .ensures) (c .before .if1 .taken) (c .refused .result) (c .refused .ensures)
 
-turn-requires : tie.Need-turn-requires
-turn-requires c κs =
+turn-writers-requires : tie.Need-turn-writers-requires
+turn-writers-requires c κs =
     let x = c .before .before .before .before .before .before .before .before in (
       x .pre .0,
       x .pre .1,
@@ -29,27 +23,8 @@ turn-requires c κs =
           lost,
     )
 
-same-length : tie.Need-same-length
-same-length c = search needs
-
-same-length-2 : tie.Need-same-length-2
-same-length-2 c = search needs
-
-same-length-3 : tie.Need-same-length-3
-same-length-3 c = search needs
-
-returns-2 : tie.Need-returns-2
-returns-2 c = search needs
-
 pub tracker-turn-spec : {M : Type 1} → statement M
 tracker-turn-spec =
     tie.close
-    (tie.spec
-    tracker-refusal-requires
-    refused-requires
-    returns
-    turn-requires
-    same-length
-    same-length-2
-    same-length-3
-    returns-2)
+    (tie.spec (λ c κs. search needs) (λ c κs. search needs) returns turn-writers-requires (λ c. search needs)
+    (λ c. search needs) (λ c. search needs) (λ c. search needs))

@@ -1,21 +1,12 @@
--- `writer_effects::covers` meets its contract. Assumes nothing.
+-- `writer_effects::covers` meets its contract.
 use borrow.Author.Needs.{needs}
 use Rattle.model.specs.Writers.{covers}
 use Rattle.writer_effects.proofs.covers.Statement.{statement}
 use Rattle.writer_effects.proofs.covers.Tie as tie
 
-names-requires : tie.Need-names-requires
-names-requires c κs = search needs
-
 returns : tie.Need-returns
 unfolding covers
 returns c = rw (← (c .before .names .ensures), (c .if1 .taken))
-
-same-prefix-requires : tie.Need-same-prefix-requires
-same-prefix-requires c κs = search needs
-
-covers-kind-requires : tie.Need-covers-kind-requires
-covers-kind-requires c κs = search needs
 
 returns-2 : tie.Need-returns-2
 unfolding covers
@@ -34,4 +25,4 @@ returns-3 c =
 pub covers-spec : {M : Type 1} → statement M
 covers-spec =
     tie.close
-    (tie.spec names-requires returns same-prefix-requires covers-kind-requires returns-2 returns-3)
+    (tie.spec (λ c κs. search needs) returns (λ c κs. search needs) (λ c κs. search needs) returns-2 returns-3)

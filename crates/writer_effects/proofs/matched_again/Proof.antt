@@ -1,18 +1,9 @@
--- `writer_effects::matched_again` meets its contract. Assumes nothing.
+-- `writer_effects::matched_again` meets its contract.
 use mathlib.Core.Path.{sym, _∙_}
 use borrow.Author.Needs.{needs}
 use Rattle.writer_effects.proofs.Laws.{from-tracked, from-departed}
 use Rattle.writer_effects.proofs.matched_again.Statement.{statement}
 use Rattle.writer_effects.proofs.matched_again.Tie as tie
-
-is-tracked-requires : tie.Need-is-tracked-requires
-is-tracked-requires c κs = search needs
-
-matched-as-requires : tie.Need-matched-as-requires
-matched-as-requires c κs = search needs
-
-matched-as-requires-2 : tie.Need-matched-as-requires-2
-matched-as-requires-2 c κs = search needs
 
 returns : tie.Need-returns
 returns c =
@@ -29,4 +20,4 @@ returns-2 c =
 pub matched-again-spec : {M : Type 1} → statement M
 matched-again-spec =
     tie.close
-    (tie.spec is-tracked-requires matched-as-requires matched-as-requires-2 returns returns-2)
+    (tie.spec (λ c κs. search needs) (λ c κs. search needs) (λ c κs. search needs) returns returns-2)

@@ -1,12 +1,9 @@
--- `writer_effects::renews` meets its contract. Assumes nothing.
+-- `writer_effects::renews` meets its contract.
 use borrow.Author.Needs.{needs}
 use borrow.Author.Tests.{not-true, not-false, lt-ltb, le-ltb, eq-eqb, ne-eqb}
 use Rattle.model.specs.Writers.{renews}
 use Rattle.writer_effects.proofs.renews.Statement.{statement}
 use Rattle.writer_effects.proofs.renews.Tie as tie
-
-is-tracked-requires : tie.Need-is-tracked-requires
-is-tracked-requires c κs = search needs
 
 returns : tie.Need-returns
 unfolding renews
@@ -17,9 +14,6 @@ unfolding renews
 returns-2 c =
     let k = c .before .before .before .before in
     rw (← (k .is-tracked .ensures), not-false (k .is-tracked .result) (c .before .before .before .if1 .left), lt-ltb _ _ (c .if2 .taken))
-
-is-not-alive-requires : tie.Need-is-not-alive-requires
-is-not-alive-requires c κs = search needs
 
 returns-3 : tie.Need-returns-3
 unfolding renews
@@ -40,4 +34,4 @@ returns-4 c =
 pub renews-spec : {M : Type 1} → statement M
 renews-spec =
     tie.close
-    (tie.spec is-tracked-requires returns returns-2 is-not-alive-requires returns-3 returns-4)
+    (tie.spec (λ c κs. search needs) returns returns-2 (λ c κs. search needs) returns-3 returns-4)

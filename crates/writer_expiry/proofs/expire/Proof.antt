@@ -1,15 +1,12 @@
--- `writer_expiry::expire` meets its contract. Assumes nothing.
+-- `writer_expiry::expire` meets its contract.
 use mathlib.Core.Path.{ap}
 use native.Mathlib.Omega.{arith}
 use borrow.Author.Needs.{needs}
 use Rattle.model.specs.declared.Called.{Called}
-use Rattle.writer_turns.proofs.Holding.{good}
+use Rattle.writer_counts.proofs.Holding.{good}
 use Rattle.writer_expiry.proofs.Expiring.{lost-few, gone-room, expire-full}
 use Rattle.writer_expiry.proofs.expire.Statement.{statement}
 use Rattle.writer_expiry.proofs.expire.Tie as tie
-
-cast-count : tie.Need-cast-count
-cast-count c = search needs
 
 find-dues-requires : tie.Need-find-dues-requires
 find-dues-requires c κs =
@@ -24,12 +21,6 @@ add-if1 c =
     omega
     (arith, lost-few (a .args .head .«lost_count») (a .args .lost .now) (a .pre .2), gone-room (a .args .sheet) (a .args .head) (a .args .writers .now) (a .args .lost .now) (λ j. (k .slice-known .given) j .fits) (a .pre .0) (λ j. (c .before .before .before .before .before .slice-known2 .given) j .fits) (a .pre .1) (a .pre .2) (d .result) (d .ensures))
 
-refused-requires : tie.Need-refused-requires
-refused-requires c κs = search needs
-
-same-length : tie.Need-same-length
-same-length c = search needs
-
 returns : tie.Need-returns
 returns c =
     let k = c .before .before .before .before in
@@ -40,29 +31,8 @@ returns c =
     (λ j. (l .slice-known2 .given) j .fits) (a .pre .1) (a .pre .2) (k .find-dues .result) (k .find-dues .ensures) (c .before .if1 .taken)
     (c .refused .result) (ap (λ (r : Called). r .answer) (c .refused .ensures)) (ap (λ (r : Called). r .head) (c .refused .ensures))
 
-expire-within-requires : tie.Need-expire-within-requires
-expire-within-requires c κs = search needs
-
-same-length-2 : tie.Need-same-length-2
-same-length-2 c = search needs
-
-same-length-3 : tie.Need-same-length-3
-same-length-3 c = search needs
-
-returns-2 : tie.Need-returns-2
-returns-2 c = search needs
-
 pub expire-spec : {M : Type 1} → statement M
 expire-spec =
     tie.close
-    (tie.spec
-    cast-count
-    find-dues-requires
-    add-if1
-    refused-requires
-    same-length
-    returns
-    expire-within-requires
-    same-length-2
-    same-length-3
-    returns-2)
+    (tie.spec (λ c. search needs) find-dues-requires add-if1 (λ c κs. search needs) (λ c. search needs) returns
+    (λ c κs. search needs) (λ c. search needs) (λ c. search needs) (λ c. search needs))

@@ -1,19 +1,13 @@
--- `writer_expiry::expire_within` meets its contract. Assumes nothing.
+-- `writer_expiry::expire_within` meets its contract.
 use Prim.Native.Nat.{_+_}
 use mathlib.Core.Path.{_∙_, ap}
 use Rattle.writer_pass.specs.declared.Dues.{Dues}
-use Rattle.writer_turns.proofs.Holding.{good}
-use Rattle.writer_turns.specs.Turns.{settledHead}
+use Rattle.writer_counts.proofs.Holding.{good}
+use Rattle.writer_counts.specs.Turns.{settledHead}
 use Rattle.writer_expiry.proofs.Expiring.{lost-laid, gone-alive, gone-room, gone-fits, expire-leaves}
 use borrow.Author.Needs.{needs}
 use Rattle.writer_expiry.proofs.expire_within.Statement.{statement}
 use Rattle.writer_expiry.proofs.expire_within.Tie as tie
-
-cast-count : tie.Need-cast-count
-cast-count c = search needs
-
-cast-declare : tie.Need-cast-declare
-cast-declare c = search needs
 
 declare-requires : tie.Need-declare-requires
 declare-requires c κs =
@@ -40,26 +34,14 @@ tally-of-requires c κs =
           (a .args .dues) (a .pre .3),
     )
 
-add-settle : tie.Need-add-settle
-add-settle c = search needs
-
-settle-requires : tie.Need-settle-requires
-settle-requires c κs =
+settle-head-requires : tie.Need-settle-head-requires
+settle-head-requires c κs =
     let m = c .before .before .before .before .before .before .before .before .before .before in
     let n = m .before in
     let a = n .before in
     gone-fits (a .args .sheet) (a .args .head) (a .args .writers .now) (a .args .lost .now) (λ j. (n .slice-known .given) j .fits) (a .pre .0)
     (λ j. (m .slice-known2 .given) j .fits) (a .pre .1) (a .pre .2)
     (a .args .dues) (a .pre .3) (c .before .before .before .before .before .declare .result) (c .tally-of .result) (c .tally-of .ensures)
-
-saying-due-requires : tie.Need-saying-due-requires
-saying-due-requires c κs = search needs
-
-same-length : tie.Need-same-length
-same-length c = search needs
-
-same-length-2 : tie.Need-same-length-2
-same-length-2 c = search needs
 
 returns : tie.Need-returns
 returns c =
@@ -70,20 +52,11 @@ returns c =
     expire-leaves (a .args .sheet) (a .args .head) (a .args .writers .now) (a .args .lost .now) (λ j. (n .slice-known .given) j .fits) (a .pre .0)
     (λ j. (m .slice-known2 .given) j .fits) (a .pre .1) (a .pre .2)
     (a .args .dues) (a .pre .3) (a .pre .4) (d .declare .last .0) (d .declare .last .1 .1 .1 .0) (d .declare .result) _ (d .declare .ensures .0)
-    (d .declare .ensures .1) (d .declare .ensures .2) (c .saying-due .ensures) ((c .before .settle .ensures) ∙
+    (d .declare .ensures .1) (d .declare .ensures .2) (c .saying-due .ensures) ((c .before .settle-head .ensures) ∙
     ap (settledHead (a .args .head) (a .args .head .«writer_count») ((a .args .head .«lost_count») + (a .args .dues .gone))) (c .before .before .tally-of .ensures))
 
 pub expire-within-spec : {M : Type 1} → statement M
 expire-within-spec =
     tie.close
-    (tie.spec
-    cast-count
-    cast-declare
-    declare-requires
-    tally-of-requires
-    add-settle
-    settle-requires
-    saying-due-requires
-    same-length
-    same-length-2
-    returns)
+    (tie.spec (λ c. search needs) (λ c. search needs) declare-requires tally-of-requires (λ c. search needs)
+    settle-head-requires (λ c κs. search needs) (λ c. search needs) (λ c. search needs) returns)

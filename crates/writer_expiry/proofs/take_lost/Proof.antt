@@ -1,4 +1,4 @@
--- `writer_expiry::take_lost` meets its contract. Assumes nothing.
+-- `writer_expiry::take_lost` meets its contract.
 use mathlib.Core.Path.{_∙_}
 use native.Mathlib.Omega.{arith}
 use borrow.Author.Needs.{needs}
@@ -11,26 +11,11 @@ use Rattle.writer_expiry.proofs.Taking.{take-leaves}
 use Rattle.writer_expiry.proofs.take_lost.Statement.{statement}
 use Rattle.writer_expiry.proofs.take_lost.Tie as tie
 
-cast-size : tie.Need-cast-size
-cast-size c = search needs
-
-mul-size : tie.Need-mul-size
-mul-size c = search needs
-
 copy-requires : tie.Need-copy-requires
 copy-requires c κs = (omega (arith, lost-few (c .before .before .before .before .args .head .«lost_count») (c .before .before .before .before .args .lost .now) (c .before .before .before .before .pre .1), (c .before .before .before .before .pre .0)), omega (arith, lost-few (c .before .before .before .before .args .head .«lost_count») (c .before .before .before .before .args .lost .now) (c .before .before .before .before .pre .1), (c .before .before .before .before .pre .2)))
 
 clear-requires : tie.Need-clear-requires
 clear-requires c κs = omega (arith, lost-few (c .before .before .before .before .before .before .before .before .args .head .«lost_count») (c .before .before .before .before .before .before .before .before .args .lost .now) (c .before .before .before .before .before .before .before .before .pre .1), (c .before .before .before .before .before .before .before .before .pre .0))
-
-listing-requires : tie.Need-listing-requires
-listing-requires c κs = search needs
-
-with-changes-requires : tie.Need-with-changes-requires
-with-changes-requires c κs = search needs
-
-same-length : tie.Need-same-length
-same-length c = search needs
 
 same-length-2 : tie.Need-same-length-2
 same-length-2 c = c .before .before .before .before .before .before .before .before .before .before .copy .kept .1 .1 .0
@@ -58,13 +43,5 @@ returns c =
 pub take-lost-spec : {M : Type 1} → statement M
 take-lost-spec =
     tie.close
-    (tie.spec
-    cast-size
-    mul-size
-    copy-requires
-    clear-requires
-    listing-requires
-    with-changes-requires
-    same-length
-    same-length-2
-    returns)
+    (tie.spec (λ c. search needs) (λ c. search needs) copy-requires clear-requires (λ c κs. search needs)
+    (λ c κs. search needs) (λ c. search needs) same-length-2 returns)

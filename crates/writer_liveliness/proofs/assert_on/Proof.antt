@@ -1,8 +1,8 @@
--- `writer_liveliness::assert_on` meets its contract. Assumes nothing.
+-- `writer_liveliness::assert_on` meets its contract.
 use Prim.Native.Nat.{ℕ}
 use mathlib.Core.Path.{_≡_, ap, _∙_}
-use Rattle.writer_turns.specs.Turns.{calledBy}
-use Rattle.writer_turns.proofs.Calling.{room-pass}
+use Rattle.writer_counts.specs.Turns.{calledBy}
+use Rattle.writer_counts.proofs.Calling.{room-pass}
 use Rattle.writer_pass.specs.declared.Counts.{Counts}
 use Rattle.writer_effects.specs.Acts.{assertionOf}
 use Rattle.model.proofs.RowLaws.{length-read}
@@ -29,9 +29,6 @@ called-requires c κs =
     (k .assert-writers .result) (writersIn (a .args .count) (a .args .writers .now))
     (rw (length-read writerOf 40 (a .args .count) (a .args .writers .now)) (a .pre .sound .few)) (k .assert-writers .ensures .1)
 
-same-length : tie.Need-same-length
-same-length c = search needs
-
 returns : tie.Need-returns
 returns c =
     let k = c .before .before .before in
@@ -39,4 +36,4 @@ returns c =
     ((k .assert-writers .ensures .0), (c .called .ensures) ∙ ap (calledBy (a .args .head) (a .args .count)) (k .assert-writers .ensures .1))
 
 pub assert-on-spec : {M : Type 1} → statement M
-assert-on-spec = tie.close (tie.spec assert-writers-requires called-requires same-length returns)
+assert-on-spec = tie.close (tie.spec assert-writers-requires called-requires (λ c. search needs) returns)

@@ -1,11 +1,11 @@
--- `writer_liveliness::departed_at` meets its contract. Assumes nothing.
+-- `writer_liveliness::departed_at` meets its contract.
 use Prim.Native.Nat.{_*_}
 use mathlib.Core.Path.{ap, _∙_}
 use native.Mathlib.Omega.{arith}
 use borrow.Author.Needs.{needs}
-use Rattle.writer_turns.specs.Turns.{calledBy, departsTally}
-use Rattle.writer_turns.proofs.Calling.{alive-there, room-departs, both-few}
-use Rattle.writer_turns.proofs.Holding.{good, few-not-alive}
+use Rattle.writer_counts.specs.Turns.{calledBy, departsTally}
+use Rattle.writer_counts.proofs.Calling.{alive-there, room-departs, both-few}
+use Rattle.writer_counts.proofs.Holding.{good, few-not-alive}
 use Rattle.octets.specs.Patch.{patch}
 use Rattle.model.specs.WriterRecord.{writerBytes}
 use Rattle.model.specs.Writers.{departed}
@@ -18,9 +18,6 @@ writer-at-requires c κs =
     let a = c .before .before in
     let g = good (a .args .head) (a .args .writers .now) (λ j. (c .before .slice-known .given) j .fits) (a .pre .0) in
     omega (arith, g .ready .sound .room, (a .pre .1))
-
-departed-requires : tie.Need-departed-requires
-departed-requires c κs = search needs
 
 put-writer-requires : tie.Need-put-writer-requires
 put-writer-requires c κs =
@@ -51,9 +48,6 @@ called-requires c κs =
     (alive-there (a .args .head) (a .args .writers .now) (good (a .args .head) (a .args .writers .now) (λ j. (l .slice-known .given) j .fits) (a .pre .0)) (a .args .i) (k .writer-at .result) (a .pre .1) (k .writer-at .ensures))
     (both-few (a .args .head) (a .args .writers .now) g) (c .departs .ensures)
 
-same-length : tie.Need-same-length
-same-length c = search needs
-
 returns : tie.Need-returns
 returns c =
     let k = c .before .before .before .before .before in
@@ -69,11 +63,5 @@ returns c =
 pub departed-at-spec : {M : Type 1} → statement M
 departed-at-spec =
     tie.close
-    (tie.spec
-    writer-at-requires
-    departed-requires
-    put-writer-requires
-    departs-requires
-    called-requires
-    same-length
-    returns)
+    (tie.spec writer-at-requires (λ c κs. search needs) put-writer-requires departs-requires called-requires
+    (λ c. search needs) returns)

@@ -1,16 +1,13 @@
--- `writer_liveliness::leave` meets its contract. Assumes nothing.
+-- `writer_liveliness::leave` meets its contract.
 use mathlib.Core.Path.{sym, refl, _∙_}
 use native.Mathlib.Omega.{arith}
 use borrow.Author.Needs.{needs}
-use Rattle.writer_turns.specs.Turns.{stillTally}
-use Rattle.writer_turns.proofs.Calling.{find-rises, room-still}
-use Rattle.writer_turns.proofs.Calls.{leave-missing}
-use Rattle.writer_turns.proofs.Holding.{good}
+use Rattle.writer_counts.specs.Turns.{stillTally}
+use Rattle.writer_counts.proofs.Calling.{find-rises, room-still}
+use Rattle.writer_counts.proofs.Calls.{leave-missing}
+use Rattle.writer_counts.proofs.Holding.{good}
 use Rattle.writer_liveliness.proofs.leave.Statement.{statement}
 use Rattle.writer_liveliness.proofs.leave.Tie as tie
-
-cast-count : tie.Need-cast-count
-cast-count c = search needs
 
 find-requires : tie.Need-find-requires
 find-requires c κs =
@@ -18,16 +15,10 @@ find-requires c κs =
     let g = good (a .args .head) (a .args .writers .now) (λ j. (c .before .before .before .slice-known .given) j .fits) (a .pre) in
     (omega arith, g .ready .sound .few, g .ready .sound .room, find-rises (a .args .head) (a .args .writers .now) g)
 
-enum-known-i : tie.Need-enum-known-i
-enum-known-i c = search needs
-
 leave-at-requires : tie.Need-leave-at-requires
 leave-at-requires c κs =
     let a = c .before .before .before .before .before .before .before .before .before in
     ((a .pre), sym (c .before .before .before .before .find .ensures) ∙ (c .before .before .i .given .1))
-
-enum-told : tie.Need-enum-told
-enum-told c = search needs
 
 kept-requires : tie.Need-kept-requires
 kept-requires c κs =
@@ -35,15 +26,6 @@ kept-requires c κs =
     let a = k .before in
     room-still (a .args .head) (a .args .head .«writer_count») (a .args .writers .now)
     ((good (a .args .head) (a .args .writers .now) (λ j. (k .slice-known .given) j .fits) (a .pre)) .ready) (stillTally (a .args .head)) refl
-
-same-length : tie.Need-same-length
-same-length c = search needs
-
-returns : tie.Need-returns
-returns c = search needs
-
-same-length-2 : tie.Need-same-length-2
-same-length-2 c = search needs
 
 returns-2 : tie.Need-returns-2
 returns-2 c =
@@ -55,14 +37,5 @@ returns-2 c =
 pub leave-spec : {M : Type 1} → statement M
 leave-spec =
     tie.close
-    (tie.spec
-    cast-count
-    find-requires
-    enum-known-i
-    leave-at-requires
-    enum-told
-    kept-requires
-    same-length
-    returns
-    same-length-2
-    returns-2)
+    (tie.spec (λ c. search needs) find-requires (λ c. search needs) leave-at-requires (λ c. search needs)
+    kept-requires (λ c. search needs) (λ c. search needs) (λ c. search needs) returns-2)

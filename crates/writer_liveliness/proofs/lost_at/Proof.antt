@@ -1,9 +1,9 @@
--- `writer_liveliness::lost_at` meets its contract. Assumes nothing.
+-- `writer_liveliness::lost_at` meets its contract.
 use mathlib.Core.Path.{sym, _∙_}
 use native.Mathlib.Omega.{arith}
 use borrow.Author.Needs.{needs}
-use Rattle.writer_turns.proofs.Calls.{lost-gone, lost-departs, place-of}
-use Rattle.writer_turns.proofs.Holding.{good}
+use Rattle.writer_counts.proofs.Calls.{lost-gone, lost-departs, place-of}
+use Rattle.writer_counts.proofs.Holding.{good}
 use Rattle.writer_liveliness.proofs.lost_at.Statement.{statement}
 use Rattle.writer_liveliness.proofs.lost_at.Tie as tie
 
@@ -14,9 +14,6 @@ writer-at-requires c κs =
     omega
     (arith, g .ready .sound .room, place-of (a .args .sheet) (a .args .head) (a .args .writers .now) (λ j. (c .before .slice-known .given) j .fits) (a .pre .0) (a .args .i) (a .pre .1))
 
-state-number-requires : tie.Need-state-number-requires
-state-number-requires c κs = search needs
-
 removed-requires : tie.Need-removed-requires
 removed-requires c κs =
     let k = c .before .before .before .before .before .before in
@@ -24,9 +21,6 @@ removed-requires c κs =
       a .pre .0,
       place-of (a .args .sheet) (a .args .head) (a .args .writers .now) (λ j. (k .slice-known .given) j .fits) (a .pre .0) (a .args .i) (a .pre .1),
     )
-
-same-length : tie.Need-same-length
-same-length c = search needs
 
 returns : tie.Need-returns
 returns c =
@@ -47,9 +41,6 @@ departed-at-requires c κs =
       place-of (a .args .sheet) (a .args .head) (a .args .writers .now) (λ j. (k .slice-known .given) j .fits) (a .pre .0) (a .args .i) (a .pre .1),
     )
 
-same-length-2 : tie.Need-same-length-2
-same-length-2 c = search needs
-
 returns-2 : tie.Need-returns-2
 returns-2 c =
     let k = c .before .before in
@@ -64,12 +55,5 @@ returns-2 c =
 pub lost-at-spec : {M : Type 1} → statement M
 lost-at-spec =
     tie.close
-    (tie.spec
-    writer-at-requires
-    state-number-requires
-    removed-requires
-    same-length
-    returns
-    departed-at-requires
-    same-length-2
-    returns-2)
+    (tie.spec writer-at-requires (λ c κs. search needs) removed-requires (λ c. search needs) returns
+    departed-at-requires (λ c. search needs) returns-2)

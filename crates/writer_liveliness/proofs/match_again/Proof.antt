@@ -1,12 +1,12 @@
--- `writer_liveliness::match_again` meets its contract. Assumes nothing.
+-- `writer_liveliness::match_again` meets its contract.
 use Prim.Native.Nat.{_*_}
 use mathlib.Core.Path.{sym, ap, refl, _∙_}
 use native.Mathlib.Omega.{arith}
 use borrow.Author.Needs.{needs}
-use Rattle.writer_turns.specs.Turns.{stillTally}
-use Rattle.writer_turns.proofs.Calling.{room-still}
-use Rattle.writer_turns.proofs.Calls.{place-of, again-ready, again-tracked, again-after}
-use Rattle.writer_turns.proofs.Holding.{good}
+use Rattle.writer_counts.specs.Turns.{stillTally}
+use Rattle.writer_counts.proofs.Calling.{room-still}
+use Rattle.writer_counts.proofs.Calls.{place-of, again-ready, again-tracked, again-after}
+use Rattle.writer_counts.proofs.Holding.{good}
 use Rattle.octets.specs.Patch.{patch}
 use Rattle.model.proofs.Fits.{FitsGuid}
 use Rattle.model.specs.WriterRecord.{writerBytes}
@@ -21,9 +21,6 @@ writer-at-requires c κs =
     omega
     (arith, g .ready .sound .room, place-of (a .args .sheet) (a .args .head) (a .args .writers .now) (λ j. (c .before .slice-known .given) j .fits) (a .pre .0) (a .args .i) (a .pre .2))
 
-matched-again-requires : tie.Need-matched-again-requires
-matched-again-requires c κs = search needs
-
 put-writer-requires : tie.Need-put-writer-requires
 put-writer-requires c κs =
     let k = c .before .before .before .before in
@@ -32,18 +29,12 @@ put-writer-requires c κs =
     omega
     (arith, g .ready .sound .room, place-of (a .args .sheet) (a .args .head) (a .args .writers .now) (λ j. (k .slice-known .given) j .fits) (a .pre .0) (a .args .i) (a .pre .2))
 
-is-tracked-requires : tie.Need-is-tracked-requires
-is-tracked-requires c κs = search needs
-
 kept-requires : tie.Need-kept-requires
 kept-requires c κs =
     let k = c .before .before .before .before .before .before .before .before .before .before in
     let a = k .before in
     room-still (a .args .head) (a .args .head .«writer_count») (a .args .writers .now)
     ((good (a .args .head) (a .args .writers .now) (λ j. (k .slice-known .given) j .fits) (a .pre .0)) .ready) (stillTally (a .args .head)) refl
-
-same-length : tie.Need-same-length
-same-length c = search needs
 
 returns : tie.Need-returns
 returns c =
@@ -70,9 +61,6 @@ match-asserts-requires c κs =
     (m .writer-at .result) (m .writer-at .ensures) fits (a .pre .1) (k .put-writer .last .0)
     ((k .put-writer .ensures) ∙ ap (λ (z : Writer). patch (a .args .writers .now) ((a .args .i) * 40) 40 (writerBytes z)) (l .matched-again .ensures))
 
-same-length-2 : tie.Need-same-length-2
-same-length-2 c = search needs
-
 returns-2 : tie.Need-returns-2
 returns-2 c =
     let k = c .before .before in
@@ -92,14 +80,5 @@ returns-2 c =
 pub match-again-spec : {M : Type 1} → statement M
 match-again-spec =
     tie.close
-    (tie.spec
-    writer-at-requires
-    matched-again-requires
-    put-writer-requires
-    is-tracked-requires
-    kept-requires
-    same-length
-    returns
-    match-asserts-requires
-    same-length-2
-    returns-2)
+    (tie.spec writer-at-requires (λ c κs. search needs) put-writer-requires (λ c κs. search needs) kept-requires
+    (λ c. search needs) returns match-asserts-requires (λ c. search needs) returns-2)

@@ -1,26 +1,14 @@
--- `writer_liveliness::match_asserts` meets its contract. Assumes nothing.
+-- `writer_liveliness::match_asserts` meets its contract.
 use mathlib.Core.Bool.{true, false}
 use mathlib.Core.Path.{_≡_, sym, ap, refl, _∙_}
 use borrow.Author.Needs.{needs}
-use Rattle.writer_turns.specs.Turns.{calledBy}
-use Rattle.writer_turns.proofs.Calling.{room-still}
-use Rattle.writer_turns.proofs.Calls.{asserting, not-asserting}
-use Rattle.writer_turns.specs.WriterCalls.{automatic}
+use Rattle.writer_counts.specs.Turns.{calledBy}
+use Rattle.writer_counts.proofs.Calling.{room-still}
+use Rattle.writer_counts.proofs.Calls.{asserting, not-asserting}
+use Rattle.writer_counts.specs.WriterCalls.{automatic}
 use Rattle.model.specs.Writers.{isAutomatic}
 use Rattle.writer_liveliness.proofs.match_asserts.Statement.{statement}
 use Rattle.writer_liveliness.proofs.match_asserts.Tie as tie
-
-kind-numbered-requires : tie.Need-kind-numbered-requires
-kind-numbered-requires c κs = search needs
-
-is-automatic-requires : tie.Need-is-automatic-requires
-is-automatic-requires c κs = search needs
-
-assert-on-requires : tie.Need-assert-on-requires
-assert-on-requires c κs = search needs
-
-same-length : tie.Need-same-length
-same-length c = search needs
 
 returns : tie.Need-returns
 returns c =
@@ -32,9 +20,6 @@ returns c =
     (c .before .before .before .before .if1 .taken) in
     asserting (automatic (a .args .sheet)) _ _ _ (k .assert-on .result) (a .args .head) (a .args .count) _ _ b (k .assert-on .ensures .0)
     (k .assert-on .ensures .1)
-
-still-requires : tie.Need-still-requires
-still-requires c κs = search needs
 
 called-requires : tie.Need-called-requires
 called-requires c κs =
@@ -53,12 +38,5 @@ returns-2 c =
 pub match-asserts-spec : {M : Type 1} → statement M
 match-asserts-spec =
     tie.close
-    (tie.spec
-    kind-numbered-requires
-    is-automatic-requires
-    assert-on-requires
-    same-length
-    returns
-    still-requires
-    called-requires
-    returns-2)
+    (tie.spec (λ c κs. search needs) (λ c κs. search needs) (λ c κs. search needs) (λ c. search needs) returns
+    (λ c κs. search needs) called-requires returns-2)

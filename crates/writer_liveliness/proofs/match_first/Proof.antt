@@ -1,4 +1,4 @@
--- `writer_liveliness::match_first` meets its contract. Assumes nothing.
+-- `writer_liveliness::match_first` meets its contract.
 use Prim.Native.Nat.{ℕ, _*_}
 use mathlib.Core.List.{List}
 use mathlib.Core.Option.{none}
@@ -6,7 +6,7 @@ use mathlib.Core.Path.{ap, _∙_}
 use native.Mathlib.Omega.{arith}
 use borrow.Author.Needs.{needs}
 use Rattle.model.specs.declared.Called.{Called}
-use Rattle.writer_turns.proofs.Calls.{first-within, first-full, first-ready, first-after}
+use Rattle.writer_counts.proofs.Calls.{first-within, first-full, first-ready, first-after}
 use Rattle.octets.specs.Patch.{patch}
 use Rattle.model.proofs.Fits.{FitsGuid}
 use Rattle.model.specs.WriterRecord.{writerBytes}
@@ -15,18 +15,12 @@ use Rattle.model.specs.declared.Writer.{Writer}
 use Rattle.writer_liveliness.proofs.match_first.Statement.{statement}
 use Rattle.writer_liveliness.proofs.match_first.Tie as tie
 
-refused-requires : tie.Need-refused-requires
-refused-requires c κs = search needs
-
 returns : tie.Need-returns
 returns c =
     let a = c .before .before .before in
     let fits : FitsGuid (a .args .sheet .guid) = record { high = omega (arith, (a .good .0)); low = omega (arith, (a .good .0)) } in
     first-full (a .args .sheet) (a .args .head) (a .args .writers .now) (λ j. (c .before .before .slice-known .given) j .fits) (a .pre .0)
     (a .args .i) (a .pre .2) fits (a .pre .1) (c .before .if1 .taken) (c .refused .result) (ap (λ (r : Called). r .answer) (c .refused .ensures)) (ap (λ (r : Called). r .head) (c .refused .ensures))
-
-cast-open-gap : tie.Need-cast-open-gap
-cast-open-gap c = search needs
 
 open-gap-requires : tie.Need-open-gap-requires
 open-gap-requires c κs =
@@ -37,9 +31,6 @@ open-gap-requires c κs =
       omega (arith, (a .pre .0 .long), (c .before .if1 .left)),
     )
 
-first-matched-requires : tie.Need-first-matched-requires
-first-matched-requires c κs = search needs
-
 put-writer-requires : tie.Need-put-writer-requires
 put-writer-requires c κs =
     let k = c .before .before .before .before .before .before in
@@ -48,9 +39,6 @@ put-writer-requires c κs =
     let fits : FitsGuid (a .args .sheet .guid) = record { high = omega (arith, (a .good .0)); low = omega (arith, (a .good .0)) } in
     omega
     (arith, (a .pre .0 .long), (k .if1 .left), first-within (a .args .sheet) (a .args .head) (a .args .writers .now) (λ j. (l .slice-known .given) j .fits) (a .pre .0) (a .args .i) (a .pre .2) fits (a .pre .1), (c .before .before .before .before .open-gap .kept .0))
-
-add-match-asserts : tie.Need-add-match-asserts
-add-match-asserts c = search needs
 
 match-asserts-requires : tie.Need-match-asserts-requires
 match-asserts-requires c κs =
@@ -63,9 +51,6 @@ match-asserts-requires c κs =
     first-ready (a .args .sheet) (a .args .head) (a .args .writers .now) (λ j. (n .slice-known .given) j .fits) (a .pre .0) (a .args .i) (a .pre .2)
     fits (a .pre .1) (m .if1 .left) (k .put-writer .last .0)
     ((k .put-writer .ensures) ∙ ap (λ (z : Writer). patch (l .open-gap .last .0) ((a .args .i) * 40) 40 (writerBytes z)) (c .before .before .before .before .first-matched .ensures) ∙ ap (λ (z : List ℕ). patch z ((a .args .i) * 40) 40 (writerBytes (matchedWriter (a .args .sheet) none))) (l .open-gap .ensures))
-
-same-length : tie.Need-same-length
-same-length c = search needs
 
 returns-2 : tie.Need-returns-2
 returns-2 c =
@@ -85,14 +70,5 @@ returns-2 c =
 pub match-first-spec : {M : Type 1} → statement M
 match-first-spec =
     tie.close
-    (tie.spec
-    refused-requires
-    returns
-    cast-open-gap
-    open-gap-requires
-    first-matched-requires
-    put-writer-requires
-    add-match-asserts
-    match-asserts-requires
-    same-length
-    returns-2)
+    (tie.spec (λ c κs. search needs) returns (λ c. search needs) open-gap-requires (λ c κs. search needs)
+    put-writer-requires (λ c. search needs) match-asserts-requires (λ c. search needs) returns-2)

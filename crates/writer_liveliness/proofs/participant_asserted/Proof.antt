@@ -1,7 +1,7 @@
--- `writer_liveliness::participant_asserted` meets its contract. Assumes nothing.
+-- `writer_liveliness::participant_asserted` meets its contract.
 use borrow.Author.Needs.{needs}
-use Rattle.writer_turns.proofs.Calls.{participant-asserts}
-use Rattle.writer_turns.proofs.Holding.{good}
+use Rattle.writer_counts.proofs.Calls.{participant-asserts}
+use Rattle.writer_counts.proofs.Holding.{good}
 use Rattle.writer_liveliness.proofs.participant_asserted.Statement.{statement}
 use Rattle.writer_liveliness.proofs.participant_asserted.Tie as tie
 
@@ -9,9 +9,6 @@ assert-on-requires : tie.Need-assert-on-requires
 assert-on-requires c κs =
     let a = c .before .before .before in
     (good (a .args .head) (a .args .writers .now) (λ j. (c .before .before .slice-known .given) j .fits) (a .pre)) .ready
-
-same-length : tie.Need-same-length
-same-length c = search needs
 
 returns : tie.Need-returns
 returns c =
@@ -22,4 +19,4 @@ returns c =
     (k .assert-on .result) (k .assert-on .last .1 .0) (k .assert-on .ensures .0) (k .assert-on .ensures .1)
 
 pub participant-asserted-spec : {M : Type 1} → statement M
-participant-asserted-spec = tie.close (tie.spec assert-on-requires same-length returns)
+participant-asserted-spec = tie.close (tie.spec assert-on-requires (λ c. search needs) returns)

@@ -1,11 +1,11 @@
--- `writer_liveliness::removed` meets its contract. Assumes nothing.
+-- `writer_liveliness::removed` meets its contract.
 use Prim.Native.Nat.{_-_}
 use mathlib.Core.Path.{ap, _∙_}
 use native.Mathlib.Omega.{arith}
 use borrow.Author.Needs.{needs}
-use Rattle.writer_turns.specs.Turns.{calledBy, goneTally}
-use Rattle.writer_turns.proofs.Calling.{alive-there, not-alive-there, room-gone}
-use Rattle.writer_turns.proofs.Holding.{good}
+use Rattle.writer_counts.specs.Turns.{calledBy, goneTally}
+use Rattle.writer_counts.proofs.Calling.{alive-there, not-alive-there, room-gone}
+use Rattle.writer_counts.proofs.Holding.{good}
 use Rattle.writer_liveliness.proofs.removed.Statement.{statement}
 use Rattle.writer_liveliness.proofs.removed.Tie as tie
 
@@ -14,9 +14,6 @@ writer-at-requires c κs =
     let a = c .before .before in
     let g = good (a .args .head) (a .args .writers .now) (λ j. (c .before .slice-known .given) j .fits) (a .pre .0) in
     omega (arith, g .ready .sound .room, (a .pre .1))
-
-cast-close-gap : tie.Need-cast-close-gap
-cast-close-gap c = search needs
 
 close-gap-requires : tie.Need-close-gap-requires
 close-gap-requires c κs =
@@ -37,9 +34,6 @@ gone-requires c κs =
           (a .pre .1) (k .writer-at .ensures),
     )
 
-sub-called : tie.Need-sub-called
-sub-called c = search needs
-
 called-requires : tie.Need-called-requires
 called-requires c κs =
     let k = c .before .before .before .before .before in
@@ -48,9 +42,6 @@ called-requires c κs =
     room-gone (a .args .head) (a .args .head .«writer_count») (a .args .writers .now)
     ((good (a .args .head) (a .args .writers .now) (λ j. (l .slice-known .given) j .fits) (a .pre .0)) .ready) (c .gone .result)
     (k .writer-at .result) (c .gone .ensures)
-
-same-length : tie.Need-same-length
-same-length c = search needs
 
 returns : tie.Need-returns
 returns c =
@@ -64,12 +55,5 @@ returns c =
 pub removed-spec : {M : Type 1} → statement M
 removed-spec =
     tie.close
-    (tie.spec
-    writer-at-requires
-    cast-close-gap
-    close-gap-requires
-    gone-requires
-    sub-called
-    called-requires
-    same-length
-    returns)
+    (tie.spec writer-at-requires (λ c. search needs) close-gap-requires gone-requires (λ c. search needs)
+    called-requires (λ c. search needs) returns)

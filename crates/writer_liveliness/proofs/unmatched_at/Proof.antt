@@ -1,11 +1,11 @@
--- `writer_liveliness::unmatched_at` meets its contract. Assumes nothing.
+-- `writer_liveliness::unmatched_at` meets its contract.
 use mathlib.Core.Path.{sym, refl, _∙_}
 use native.Mathlib.Omega.{arith}
 use borrow.Author.Needs.{needs}
-use Rattle.writer_turns.specs.Turns.{stillTally}
-use Rattle.writer_turns.proofs.Calling.{room-still}
-use Rattle.writer_turns.proofs.Calls.{unmatched-gone, unmatched-stays, place-of}
-use Rattle.writer_turns.proofs.Holding.{good}
+use Rattle.writer_counts.specs.Turns.{stillTally}
+use Rattle.writer_counts.proofs.Calling.{room-still}
+use Rattle.writer_counts.proofs.Calls.{unmatched-gone, unmatched-stays, place-of}
+use Rattle.writer_counts.proofs.Holding.{good}
 use Rattle.writer_liveliness.proofs.unmatched_at.Statement.{statement}
 use Rattle.writer_liveliness.proofs.unmatched_at.Tie as tie
 
@@ -16,9 +16,6 @@ writer-at-requires c κs =
     omega
     (arith, g .ready .sound .room, place-of (a .args .sheet) (a .args .head) (a .args .writers .now) (λ j. (c .before .slice-known .given) j .fits) (a .pre .0) (a .args .i) (a .pre .1))
 
-is-tracked-requires : tie.Need-is-tracked-requires
-is-tracked-requires c κs = search needs
-
 removed-requires : tie.Need-removed-requires
 removed-requires c κs =
     let k = c .before .before .before .before .before .before in
@@ -26,9 +23,6 @@ removed-requires c κs =
       a .pre .0,
       place-of (a .args .sheet) (a .args .head) (a .args .writers .now) (λ j. (k .slice-known .given) j .fits) (a .pre .0) (a .args .i) (a .pre .1),
     )
-
-same-length : tie.Need-same-length
-same-length c = search needs
 
 returns : tie.Need-returns
 returns c =
@@ -48,9 +42,6 @@ kept-requires c κs =
     room-still (a .args .head) (a .args .head .«writer_count») (a .args .writers .now)
     ((good (a .args .head) (a .args .writers .now) (λ j. (k .slice-known .given) j .fits) (a .pre .0)) .ready) (stillTally (a .args .head)) refl
 
-same-length-2 : tie.Need-same-length-2
-same-length-2 c = search needs
-
 returns-2 : tie.Need-returns-2
 returns-2 c =
     let k = c .before .before .before .before in
@@ -63,12 +54,5 @@ returns-2 c =
 pub unmatched-at-spec : {M : Type 1} → statement M
 unmatched-at-spec =
     tie.close
-    (tie.spec
-    writer-at-requires
-    is-tracked-requires
-    removed-requires
-    same-length
-    returns
-    kept-requires
-    same-length-2
-    returns-2)
+    (tie.spec writer-at-requires (λ c κs. search needs) removed-requires (λ c. search needs) returns kept-requires
+    (λ c. search needs) returns-2)

@@ -1,30 +1,15 @@
--- `writer_pass::assert_at` meets its contract. Assumes nothing.
+-- `writer_pass::assert_at` meets its contract.
 use borrow.Author.Tests.{not-true, not-false}
 use Rattle.writer_pass.proofs.Asserting.{part-touched, part-kept}
 use borrow.Author.Needs.{needs}
 use Rattle.writer_pass.proofs.assert_at.Statement.{statement}
 use Rattle.writer_pass.proofs.assert_at.Tie as tie
 
-asserts-requires : tie.Need-asserts-requires
-asserts-requires c κs = search needs
-
 returns : tie.Need-returns
 returns c =
     let a = c .before .before .before .args in
     let y = c .before .asserts in
     part-kept (a .a) (a .w) (a .t .now) (a .i) (y .result) (y .ensures) (not-true _ (c .if1 .taken))
-
-with-state-requires : tie.Need-with-state-requires
-with-state-requires c κs = search needs
-
-put-writer-requires : tie.Need-put-writer-requires
-put-writer-requires c κs = search needs
-
-counts-alive-requires : tie.Need-counts-alive-requires
-counts-alive-requires c κs = search needs
-
-same-length : tie.Need-same-length
-same-length c = search needs
 
 returns-2 : tie.Need-returns-2
 returns-2 c =
@@ -38,11 +23,5 @@ returns-2 c =
 pub assert-at-spec : {M : Type 1} → statement M
 assert-at-spec =
     tie.close
-    (tie.spec
-    asserts-requires
-    returns
-    with-state-requires
-    put-writer-requires
-    counts-alive-requires
-    same-length
-    returns-2)
+    (tie.spec (λ c κs. search needs) returns (λ c κs. search needs) (λ c κs. search needs) (λ c κs. search needs)
+    (λ c. search needs) returns-2)

@@ -1,4 +1,4 @@
--- `writer_pass::assert_writers` meets its contract. Assumes nothing.
+-- `writer_pass::assert_writers` meets its contract.
 use Prim.Native.Nat.{_-_}
 use mathlib.Core.Path.{sym, ap, _∙_}
 use native.Mathlib.Omega.{arith}
@@ -18,9 +18,6 @@ Inv-loop t₀ count a named tally₀ i₀ t tally i = Asserting a (tally₀ .las
 
 abbrev μ-loop : tie.MeasureT-loop
 μ-loop t₀ count a named tally₀ i₀ t tally i = count - i
-
-first-of-requires : tie.Need-first-of-requires Inv-loop μ-loop
-first-of-requires c κs = search needs
 
 lower-bound-requires : tie.Need-lower-bound-requires Inv-loop μ-loop
 lower-bound-requires c κs =
@@ -44,9 +41,6 @@ writer-at-requires c κs =
     let l = c .before .before in
     let a = l .before .before .before .before .before .before in
     omega (arith, (a .pre .0), (l .loop .inv .amid))
-
-same-prefix-requires : tie.Need-same-prefix-requires Inv-loop μ-loop
-same-prefix-requires c κs = search needs
 
 same-length : tie.Need-same-length Inv-loop μ-loop
 same-length c = omega (arith, (c .before .before .before .before .before .before .loop .inv .amid))
@@ -85,9 +79,6 @@ add-i c =
     let n = c .before .before .before .before .before .before .before .before .before .before .before in
     omega (arith, (n .before .before .before .before .before .before .pre .0))
 
-loop-less : tie.Need-loop-less Inv-loop μ-loop
-loop-less c = omega arith
-
 loop-again : tie.Need-loop-again Inv-loop μ-loop
 loop-again c =
     let d = c .before .before .before in
@@ -102,9 +93,6 @@ loop-again c =
     (n .tally) (n .i) (n .inv) (omega arith) w (m .writer-at .ensures) (d .assert-at .last .0) (c .if2 .tally) (d .assert-at .ensures .0)
     (⊎-elim (λ x. x .2 ∙ x .1 .ensures ∙ tally-moved (a .args .a) w (n .tally) (sym e ∙ x .0 .taken)) (λ x. x .1 ∙ tally-stays (a .args .a) w (n .tally) (sym e ∙ x .0 .left)) (c .if2 .came))
 
-same-length-2 : tie.Need-same-length-2 Inv-loop μ-loop
-same-length-2 c = omega (arith, (c .before .loop .inv .amid))
-
 returns-2 : tie.Need-returns-2 Inv-loop μ-loop
 returns-2 c =
     let l = c .before .before in
@@ -117,20 +105,6 @@ returns-2 c =
 pub assert-writers-spec : {M : Type 1} → statement M
 assert-writers-spec =
     tie.close
-    (tie.spec
-    Inv-loop
-    μ-loop
-    first-of-requires
-    lower-bound-requires
-    loop-holds
-    writer-at-requires
-    same-prefix-requires
-    same-length
-    returns
-    assert-at-requires
-    raise-requires
-    add-i
-    loop-less
-    loop-again
-    same-length-2
-    returns-2)
+    (tie.spec Inv-loop μ-loop (λ c κs. search needs) lower-bound-requires loop-holds writer-at-requires
+    (λ c κs. search needs) same-length returns assert-at-requires raise-requires add-i (λ c. omega arith) loop-again
+    (λ c. omega (arith, (c .before .loop .inv .amid))) returns-2)

@@ -1,19 +1,11 @@
--- `writer_pass::asserts` meets its contract. Assumes nothing.
+-- `writer_pass::asserts` meets its contract.
 use borrow.Author.Needs.{needs}
 use Rattle.writer_pass.proofs.asserts.Statement.{statement}
 use Rattle.writer_pass.proofs.asserts.Tie as tie
 
-covers-requires : tie.Need-covers-requires
-covers-requires c κs = search needs
-
-renews-requires : tie.Need-renews-requires
-renews-requires c κs = search needs
-
 returns : tie.Need-returns
 returns c = rw (← (c .before .before .covers .ensures), (c .before .if1 .taken)) (c .renews .ensures)
 
-returns-2 : tie.Need-returns-2
-returns-2 c = rw (← (c .before .covers .ensures), (c .if1 .left))
-
 pub asserts-spec : {M : Type 1} → statement M
-asserts-spec = tie.close (tie.spec covers-requires renews-requires returns returns-2)
+asserts-spec = tie.close (tie.spec (λ c κs. search needs) (λ c κs. search needs) returns
+    (λ c. rw (← (c .before .covers .ensures), (c .if1 .left))))

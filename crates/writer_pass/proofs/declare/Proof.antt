@@ -1,4 +1,4 @@
--- `writer_pass::declare` meets its contract. Assumes nothing.
+-- `writer_pass::declare` meets its contract.
 use Prim.Native.Nat.{_-_}
 use mathlib.Core.Path.{sym, _∙_}
 use native.Mathlib.Omega.{arith}
@@ -28,9 +28,6 @@ loop-holds c =
     declaring-start (a .args .t .now) (a .args .count) (a .args .clock) (a .args .lost .now) (a .args .n) (a .args .last) (λ j. (k .slice-known .given) j .fits) (a .pre .0)
     (a .pre .1) (a .pre .2) (omega (arith, (a .pre .3), (a .pre .4)))
 
-add-i : tie.Need-add-i Inv-loop μ-loop
-add-i c = omega arith
-
 expires-at-requires : tie.Need-expires-at-requires Inv-loop μ-loop
 expires-at-requires c κs =
     let l = c .before .before .loop in
@@ -58,12 +55,6 @@ declare-at-requires c κs =
           (l .t) (l .lost) (l .newest) (l .at) (l .i) (l .inv) (omega arith) e,
     )
 
-add-at : tie.Need-add-at Inv-loop μ-loop
-add-at c = omega arith
-
-loop-less : tie.Need-loop-less Inv-loop μ-loop
-loop-less c = omega arith
-
 loop-again : tie.Need-loop-again Inv-loop μ-loop
 loop-again c =
     let d = c .before .before .before .before in
@@ -77,9 +68,6 @@ loop-again c =
     (l .loop .t) (l .loop .lost) (l .loop .newest) (l .loop .at) (l .loop .i) (l .loop .inv) (omega arith) e (d .declare-at .last .0)
     (d .declare-at .last .1 .1 .0) (d .declare-at .result) (d .declare-at .ensures .0) (d .declare-at .ensures .1) (d .declare-at .ensures .2)
 
-loop-less-2 : tie.Need-loop-less-2 Inv-loop μ-loop
-loop-less-2 c = omega arith
-
 loop-again-2 : tie.Need-loop-again-2 Inv-loop μ-loop
 loop-again-2 c =
     let e = sym (c .before .expires-at .ensures) ∙ (c .if2 .left) in
@@ -89,12 +77,6 @@ loop-again-2 c =
     passed (a .args .t .now) (a .args .count) (a .args .clock) (a .args .lost .now) (a .args .n) (a .args .last) (λ j. (k .slice-known .given) j .fits) (a .pre .0)
     (a .pre .1) (a .pre .2) (omega (arith, (a .pre .3), (a .pre .4)))
     (l .loop .t) (l .loop .lost) (l .loop .newest) (l .loop .at) (l .loop .i) (l .loop .inv) (omega arith) e
-
-same-length : tie.Need-same-length Inv-loop μ-loop
-same-length c = omega (arith, (c .before .loop .inv .amid))
-
-same-length-2 : tie.Need-same-length-2 Inv-loop μ-loop
-same-length-2 c = omega arith
 
 returns-2 : tie.Need-returns-2 Inv-loop μ-loop
 returns-2 c =
@@ -107,19 +89,6 @@ returns-2 c =
 pub declare-spec : {M : Type 1} → statement M
 declare-spec =
     tie.close
-    (tie.spec
-    Inv-loop
-    μ-loop
-    returns
-    loop-holds
-    add-i
-    expires-at-requires
-    declare-at-requires
-    add-at
-    loop-less
-    loop-again
-    loop-less-2
-    loop-again-2
-    same-length
-    same-length-2
-    returns-2)
+    (tie.spec Inv-loop μ-loop returns loop-holds (λ c. omega arith) expires-at-requires declare-at-requires
+    (λ c. omega arith) (λ c. omega arith) loop-again (λ c. omega arith) loop-again-2
+    (λ c. omega (arith, (c .before .loop .inv .amid))) (λ c. omega arith) returns-2)

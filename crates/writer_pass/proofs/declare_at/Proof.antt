@@ -1,35 +1,16 @@
--- `writer_pass::declare_at` meets its contract. Assumes nothing.
+-- `writer_pass::declare_at` meets its contract.
 use Prim.Native.Nat.{_*_}
 use mathlib.Core.Path.{ap, _∙_}
+use native.Mathlib.Omega.{arith}
 use Rattle.octets.specs.Patch.{patch}
 use Rattle.model.specs.declared.Guid.{Guid}
 use Rattle.model.specs.declared.LastWriter.the-variants.{Is}
 use Rattle.model.specs.Guids.{guidBytes}
+use Rattle.guid.proofs.Laws.{guid-patch}
 use Rattle.writer_pass.proofs.Declaring.{guid-in}
 use borrow.Author.Needs.{needs}
 use Rattle.writer_pass.proofs.declare_at.Statement.{statement}
 use Rattle.writer_pass.proofs.declare_at.Tie as tie
-
-mul-guid-at : tie.Need-mul-guid-at
-mul-guid-at c = search needs
-
-guid-at-requires : tie.Need-guid-at-requires
-guid-at-requires c κs = search needs
-
-expire-at-requires : tie.Need-expire-at-requires
-expire-at-requires c κs = search needs
-
-mul-put-guid : tie.Need-mul-put-guid
-mul-put-guid c = search needs
-
-put-guid-requires : tie.Need-put-guid-requires
-put-guid-requires c κs = search needs
-
-same-length : tie.Need-same-length
-same-length c = search needs
-
-same-length-2 : tie.Need-same-length-2
-same-length-2 c = search needs
 
 returns : tie.Need-returns
 returns c =
@@ -39,19 +20,12 @@ returns c =
     let a = m .before .before .before .before in
     let g = (m .guid-at .ensures) ∙ guid-in (a .args .t .now) (a .args .i) in (
       (l .expire-at .ensures),
-      (k .put-guid .ensures) ∙ ap (λ (z : Guid). patch (a .args .lost .now) ((a .args .at) * 16) 16 (guidBytes z)) g,
+      k .put-guid .ensures ∙ guid-patch (a .args .lost .now) (a .args .at * 16) (m .guid-at .result) (omega arith) ∙ ap (λ (z : Guid). patch (a .args .lost .now) ((a .args .at) * 16) 16 (guidBytes z)) g,
       ap Is g,
     )
 
 pub declare-at-spec : {M : Type 1} → statement M
 declare-at-spec =
     tie.close
-    (tie.spec
-    mul-guid-at
-    guid-at-requires
-    expire-at-requires
-    mul-put-guid
-    put-guid-requires
-    same-length
-    same-length-2
-    returns)
+    (tie.spec (λ c. search needs) (λ c κs. search needs) (λ c κs. search needs) (λ c. search needs)
+    (λ c κs. search needs) (λ c. search needs) (λ c. search needs) returns)

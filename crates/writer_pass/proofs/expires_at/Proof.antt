@@ -1,14 +1,8 @@
--- `writer_pass::expires_at` meets its contract. Assumes nothing.
+-- `writer_pass::expires_at` meets its contract.
 use Rattle.model.specs.Writers.{expires}
 use borrow.Author.Needs.{needs}
 use Rattle.writer_pass.proofs.expires_at.Statement.{statement}
 use Rattle.writer_pass.proofs.expires_at.Tie as tie
-
-leased-at-requires : tie.Need-leased-at-requires
-leased-at-requires c κs = search needs
-
-due-at-requires : tie.Need-due-at-requires
-due-at-requires c κs = search needs
 
 returns : tie.Need-returns
 unfolding expires
@@ -19,4 +13,4 @@ unfolding expires
 returns-2 c = rw (← (c .before .leased-at .ensures), (c .if1 .left))
 
 pub expires-at-spec : {M : Type 1} → statement M
-expires-at-spec = tie.close (tie.spec leased-at-requires due-at-requires returns returns-2)
+expires-at-spec = tie.close (tie.spec (λ c κs. search needs) (λ c κs. search needs) returns returns-2)

@@ -1,4 +1,4 @@
--- `writer_pass::find_dues` meets its contract. Assumes nothing.
+-- `writer_pass::find_dues` meets its contract.
 use Prim.Native.Nat.{_-_, _≤_}
 use mathlib.Core.Path.{_≡_, refl}
 use native.Mathlib.Omega.{arith}
@@ -20,12 +20,6 @@ loop-holds c =
     let a = c .before .args in
     (omega arith, dues-start (a .t .now) (a .count) (a .clock))
 
-sub-i : tie.Need-sub-i Inv-loop μ-loop
-sub-i c = omega arith
-
-leased-at-requires : tie.Need-leased-at-requires Inv-loop μ-loop
-leased-at-requires c κs = omega (arith, (c .before .before .before .pre))
-
 due-at-requires : tie.Need-due-at-requires Inv-loop μ-loop
 due-at-requires c κs =
     let l = c .before .before .before in
@@ -40,9 +34,6 @@ dues-with-requires c κs =
     let a = l .before .before in
     dues-room (a .args .t .now) (a .args .count) (a .args .clock) (l .loop .i) (l .loop .d) (omega arith) (l .loop .inv .0) (a .pre .few) (l .loop .inv .1)
 
-loop-less : tie.Need-loop-less Inv-loop μ-loop
-loop-less c = omega arith
-
 loop-again : tie.Need-loop-again Inv-loop μ-loop
 loop-again c =
     let l = c .before .before .before .before .before in
@@ -54,9 +45,6 @@ loop-again c =
           (dues-turn (a .args .t .now) (a .args .count) (a .args .clock) (l .loop .i) j w (l .loop .d) (omega arith) (l .loop .inv .0) refl (l .loop .inv .1), ← (c .before .before .before .leased-at .ensures), (c .before .before .if1 .taken), ← (c .before .due-at .ensures))
           (c .dues-with .ensures),
     )
-
-loop-less-2 : tie.Need-loop-less-2 Inv-loop μ-loop
-loop-less-2 c = omega arith
 
 loop-again-2 : tie.Need-loop-again-2 Inv-loop μ-loop
 loop-again-2 c =
@@ -77,16 +65,5 @@ returns c =
 pub find-dues-spec : {M : Type 1} → statement M
 find-dues-spec =
     tie.close
-    (tie.spec
-    Inv-loop
-    μ-loop
-    loop-holds
-    sub-i
-    leased-at-requires
-    due-at-requires
-    dues-with-requires
-    loop-less
-    loop-again
-    loop-less-2
-    loop-again-2
-    returns)
+    (tie.spec Inv-loop μ-loop loop-holds (λ c. omega arith) (λ c κs. omega (arith, (c .before .before .before .pre)))
+    due-at-requires dues-with-requires (λ c. omega arith) loop-again (λ c. omega arith) loop-again-2 returns)

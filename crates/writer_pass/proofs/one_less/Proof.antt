@@ -1,17 +1,8 @@
--- `writer_pass::one_less` meets its contract. Assumes nothing.
+-- `writer_pass::one_less` meets its contract.
 use native.Mathlib.Omega.{arith}
 use borrow.Author.Needs.{needs}
 use Rattle.writer_pass.proofs.one_less.Statement.{statement}
 use Rattle.writer_pass.proofs.one_less.Tie as tie
 
-sub-result : tie.Need-sub-result
-sub-result c = omega (arith, (c .before .pre) (c .if1 .taken))
-
-returns : tie.Need-returns
-returns c = rw (c .if1 .taken)
-
-returns-2 : tie.Need-returns-2
-returns-2 c = search needs
-
 pub one-less-spec : {M : Type 1} → statement M
-one-less-spec = tie.close (tie.spec sub-result returns returns-2)
+one-less-spec = tie.close (tie.spec (λ c. omega (arith, (c .before .pre) (c .if1 .taken))) (λ c. rw (c .if1 .taken)) (λ c. search needs))

@@ -1,4 +1,4 @@
--- `writer_pass::sooner_of` meets its contract. Assumes nothing.
+-- `writer_pass::sooner_of` meets its contract.
 use Prim.Native.Nat.{_≤_}
 use native.Mathlib.Nat.{min-eq-left, min-eq-right}
 use native.Mathlib.Omega.{arith}
@@ -14,8 +14,5 @@ returns-2 c =
     let h : (a .due) ≤ (a .d .at) = omega (arith, (c .if2 .left)) in
     rw ((c .before .before .if1 .taken), min-eq-left h)
 
-returns-3 : tie.Need-returns-3
-returns-3 c = rw (c .if1 .left)
-
 pub sooner-of-spec : {M : Type 1} → statement M
-sooner-of-spec = tie.close (tie.spec returns returns-2 returns-3)
+sooner-of-spec = tie.close (tie.spec returns returns-2 (λ c. rw (c .if1 .left)))

@@ -1,28 +1,10 @@
--- `writer_record::due_at` meets its contract. Assumes nothing.
+-- `writer_record::due_at` meets its contract.
 use Prim.Native.Nat.{_*_}
 use native.Mathlib.Omega.{arith}
 use borrow.Author.Needs.{needs}
 use Rattle.writer_record.proofs.Leases.{nanos-part, last-part}
 use Rattle.writer_record.proofs.due_at.Statement.{statement}
 use Rattle.writer_record.proofs.due_at.Tie as tie
-
-mul-get-u64 : tie.Need-mul-get-u64
-mul-get-u64 c = search needs
-
-add-get-u64 : tie.Need-add-get-u64
-add-get-u64 c = search needs
-
-get-u64-requires : tie.Need-get-u64-requires
-get-u64-requires c κs = search needs
-
-mul-get-u64-2 : tie.Need-mul-get-u64-2
-mul-get-u64-2 c = search needs
-
-add-get-u64-2 : tie.Need-add-get-u64-2
-add-get-u64-2 c = search needs
-
-get-u64-requires-2 : tie.Need-get-u64-requires-2
-get-u64-requires-2 c κs = search needs
 
 add-result : tie.Need-add-result
 add-result c =
@@ -38,12 +20,5 @@ returns c =
 pub due-at-spec : {M : Type 1} → statement M
 due-at-spec =
     tie.close
-    (tie.spec
-    mul-get-u64
-    add-get-u64
-    get-u64-requires
-    mul-get-u64-2
-    add-get-u64-2
-    get-u64-requires-2
-    add-result
-    returns)
+    (tie.spec (λ c. search needs) (λ c. search needs) (λ c κs. search needs) (λ c. search needs) (λ c. search needs)
+    (λ c κs. search needs) add-result returns)

@@ -1,4 +1,4 @@
--- `writer_record::expire_at` meets its contract. Assumes nothing.
+-- `writer_record::expire_at` meets its contract.
 use Prim.Native.Nat.{_*_}
 use native.Mathlib.Omega.{arith}
 use borrow.Author.Needs.{needs}
@@ -6,25 +6,10 @@ use Rattle.writer_record.proofs.Leases.{alive-flags, expired-part}
 use Rattle.writer_record.proofs.expire_at.Statement.{statement}
 use Rattle.writer_record.proofs.expire_at.Tie as tie
 
-mul-at : tie.Need-mul-at
-mul-at c = search needs
-
-add-at : tie.Need-add-at
-add-at c = search needs
-
-get-u8-requires : tie.Need-get-u8-requires
-get-u8-requires c κs = search needs
-
 add-put-u8 : tie.Need-add-put-u8
 add-put-u8 c =
     let a = c .before .before .before .before in
     omega (arith, (c .before .get-u8 .ensures), alive-flags (a .args .t .now) ((a .args .i) * 40) (a .pre .2))
-
-put-u8-requires : tie.Need-put-u8-requires
-put-u8-requires c κs = search needs
-
-same-length : tie.Need-same-length
-same-length c = search needs
 
 returns : tie.Need-returns
 returns c =
@@ -38,4 +23,5 @@ returns c =
 pub expire-at-spec : {M : Type 1} → statement M
 expire-at-spec =
     tie.close
-    (tie.spec mul-at add-at get-u8-requires add-put-u8 put-u8-requires same-length returns)
+    (tie.spec (λ c. search needs) (λ c. search needs) (λ c κs. search needs) add-put-u8 (λ c κs. search needs)
+    (λ c. search needs) returns)

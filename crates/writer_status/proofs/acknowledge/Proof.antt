@@ -1,4 +1,4 @@
--- `writer_status::acknowledge` meets its contract. Assumes nothing.
+-- `writer_status::acknowledge` meets its contract.
 use mathlib.Core.List.{[]}
 use mathlib.Core.Path.{_∙_}
 use native.Mathlib.Omega.{arith}
@@ -31,12 +31,6 @@ change-less-requires-2 c κs =
     let g : SFits w32 (h .«not_alive_change») = search needs in
     ((c .before .before .before .pre .2), lent-within (h .«not_alive») (h .«not_alive_change») g (head-within h (c .before .before .before .pre .0) .1), lent-part (h .«not_alive») (h .«not_alive_change») (toZ w32 (s .second)) g (acknowledgeable-parts s h [] [] [] ((c .before .before .before .pre .3) [] [] []) .1))
 
-silent-requires : tie.Need-silent-requires
-silent-requires c κs = search needs
-
-with-changes-requires : tie.Need-with-changes-requires
-with-changes-requires c κs = search needs
-
 returns : tie.Need-returns
 returns c =
     let second = c .before .before in
@@ -60,4 +54,4 @@ returns c =
 pub acknowledge-spec : {M : Type 1} → statement M
 acknowledge-spec =
     tie.close
-    (tie.spec change-less-requires change-less-requires-2 silent-requires with-changes-requires returns)
+    (tie.spec change-less-requires change-less-requires-2 (λ c κs. search needs) (λ c κs. search needs) returns)

@@ -1,4 +1,4 @@
--- `writer_status::acknowledge_ok` meets its contract. Assumes nothing.
+-- `writer_status::acknowledge_ok` meets its contract.
 use mathlib.Core.Path.{_≡_, ap, _∙_}
 use borrow.Author.Needs.{needs}
 use lib.IntN.{pos, _+ℤ_, _-ℤ_}

@@ -1,4 +1,4 @@
--- `writer_status::acknowledged_after` meets its contract. Assumes nothing.
+-- `writer_status::acknowledged_after` meets its contract.
 use mathlib.Core.Path.{_≡_, ap, _∙_}
 use borrow.Author.Needs.{needs}
 use lib.IntN.{ℤ, pos, _+ℤ_, _-ℤ_}
@@ -10,12 +10,6 @@ use Rattle.numbers.proofs.Signs.{difference-fits}
 use Rattle.writer_status.proofs.Idle.{after-fits}
 use Rattle.writer_status.proofs.acknowledged_after.Statement.{statement}
 use Rattle.writer_status.proofs.acknowledged_after.Tie as tie
-
-acknowledged-requires : tie.Need-acknowledged-requires
-acknowledged-requires c κs = search needs
-
-of-bits-requires : tie.Need-of-bits-requires
-of-bits-requires c κs = search needs
 
 count-read : (c : tie.After-acknowledged) → toZ w64 (ofZ w64 (c .acknowledged .result)) ≡ pos (c .before .args .count) -ℤ c .before .args .change
 count-read c =
@@ -43,4 +37,4 @@ returns c =
 
 pub acknowledged-after-spec : {M : Type 1} → statement M
 acknowledged-after-spec =
-    tie.close (tie.spec acknowledged-requires of-bits-requires add-i64-requires returns)
+    tie.close (tie.spec (λ c κs. search needs) (λ c κs. search needs) add-i64-requires returns)

@@ -1,4 +1,4 @@
--- `writer_status::change_less` meets its contract. Assumes nothing.
+-- `writer_status::change_less` meets its contract.
 use mathlib.Core.Path.{ap, _∙_}
 use borrow.Author.Needs.{needs}
 use lib.IntN.{ℤ, pos, _-ℤ_}
@@ -7,9 +7,6 @@ use Rattle.numbers.proofs.Signs.{change-fits}
 use Rattle.writer_status.proofs.Idle.{after-read}
 use Rattle.writer_status.proofs.change_less.Statement.{statement}
 use Rattle.writer_status.proofs.change_less.Tie as tie
-
-acknowledged-after-requires : tie.Need-acknowledged-after-requires
-acknowledged-after-requires c κs = search needs
 
 change-of-requires : tie.Need-change-of-requires
 change-of-requires c κs =
@@ -25,4 +22,4 @@ returns c =
     (change-fits (a .args .count) _ (a .pre .0) (a .pre .2))
 
 pub change-less-spec : {M : Type 1} → statement M
-change-less-spec = tie.close (tie.spec acknowledged-after-requires change-of-requires returns)
+change-less-spec = tie.close (tie.spec (λ c κs. search needs) change-of-requires returns)

@@ -1,4 +1,4 @@
--- `writer_status::take_status` meets its contract. Assumes nothing.
+-- `writer_status::take_status` meets its contract.
 use mathlib.Core.Path.{_≡_, _∙_}
 use native.Mathlib.Omega.{arith}
 use borrow.Author.Needs.{needs}
@@ -7,15 +7,6 @@ use Rattle.model.specs.Reads.{headStatus}
 use Rattle.writer_status.proofs.Idle.{status-kept}
 use Rattle.writer_status.proofs.take_status.Statement.{statement}
 use Rattle.writer_status.proofs.take_status.Tie as tie
-
-head-status-requires : tie.Need-head-status-requires
-head-status-requires c κs = search needs
-
-reporting-requires : tie.Need-reporting-requires
-reporting-requires c κs = search needs
-
-with-changes-requires : tie.Need-with-changes-requires
-with-changes-requires c κs = search needs
 
 returns : tie.Need-returns
 returns c =
@@ -26,4 +17,4 @@ returns c =
     (c .with-changes .ensures)
 
 pub take-status-spec : {M : Type 1} → statement M
-take-status-spec = tie.close (tie.spec head-status-requires reporting-requires with-changes-requires returns)
+take-status-spec = tie.close (tie.spec (λ c κs. search needs) (λ c κs. search needs) (λ c κs. search needs) returns)

@@ -1,4 +1,4 @@
--- `acknowledged_ok` meets its contract. Assumes nothing.
+-- `acknowledged_ok` meets its contract.
 use mathlib.Core.Path.{ap, _∙_}
 use borrow.Author.Needs.{needs}
 use lib.IntN.{ℤ, pos, _-ℤ_}
@@ -9,12 +9,6 @@ use Rattle.numbers.proofs.Signs.{difference-fits}
 use Rattle.writer_validity.proofs.acknowledged_ok.Statement.{statement}
 use Rattle.writer_validity.proofs.acknowledged_ok.Tie as tie
 
-acknowledged-requires : tie.Need-acknowledged-requires
-acknowledged-requires c κs = search needs
-
-within-bound-requires : tie.Need-within-bound-requires
-within-bound-requires c κs = search needs
-
 returns : tie.Need-returns
 returns c =
     let d = c .before .before in
@@ -24,4 +18,4 @@ returns c =
     (difference-fits (d .args .count) (d .args .change) (d .fits .count .fits) (d .fits .change)))
 
 pub acknowledged-ok-spec : {M : Type 1} → statement M
-acknowledged-ok-spec = tie.close (tie.spec acknowledged-requires within-bound-requires returns)
+acknowledged-ok-spec = tie.close (tie.spec (λ c κs. search needs) (λ c κs. search needs) returns)

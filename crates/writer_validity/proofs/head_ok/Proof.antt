@@ -1,4 +1,4 @@
--- `head_ok` meets its contract: the first part of the test that fails makes the whole fail. Assumes nothing.
+-- `head_ok` meets its contract: the first part of the test that fails makes the whole fail.
 use Prim.Native.Nat.{_≤_, _<_}
 use mathlib.Core.Path.{refl, _∙_}
 use native.Mathlib.Omega.{arith}
@@ -26,9 +26,6 @@ returns-2 c =
     let z : 1 ≤ h .«next_handle» .0 = omega arith in
     head-by h (le-leb 1 (h .«next_handle» .0) z) (lt-leb _ _ (c .if2 .taken)) refl refl
 
-acknowledged-ok-requires : tie.Need-acknowledged-ok-requires
-acknowledged-ok-requires c κs = search needs
-
 returns-3 : tie.Need-returns-3
 returns-3 c =
     let d = c .before .before .before in
@@ -36,9 +33,6 @@ returns-3 c =
     let z : 1 ≤ h .«next_handle» .0 = omega arith in
     head-by h (le-leb 1 (h .«next_handle» .0) z) (le-leb _ _ (d .if2 .left))
     (acknowledged-as (h .alive) (h .«alive_change») (fits (d .before .before) .0) (c .before .acknowledged-ok .ensures) ∙ not-true _ (c .if3 .taken)) refl
-
-acknowledged-ok-requires-2 : tie.Need-acknowledged-ok-requires-2
-acknowledged-ok-requires-2 c κs = search needs
 
 returns-4 : tie.Need-returns-4
 returns-4 c =
@@ -53,10 +47,4 @@ returns-4 c =
 pub head-ok-spec : {M : Type 1} → statement M
 head-ok-spec =
     tie.close
-    (tie.spec
-    returns
-    returns-2
-    acknowledged-ok-requires
-    returns-3
-    acknowledged-ok-requires-2
-    returns-4)
+    (tie.spec returns returns-2 (λ c κs. search needs) returns-3 (λ c κs. search needs) returns-4)

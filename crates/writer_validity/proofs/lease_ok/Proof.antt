@@ -1,4 +1,4 @@
--- `lease_ok` meets its contract, present or not. Assumes nothing.
+-- `lease_ok` meets its contract, present or not.
 use Rattle.model.specs.WellFormed.{leaseOk}
 use Rattle.writer_validity.proofs.lease_ok.Statement.{statement}
 use Rattle.writer_validity.proofs.lease_ok.Tie as tie

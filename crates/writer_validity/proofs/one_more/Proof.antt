@@ -1,16 +1,7 @@
--- `one_more` meets its contract. Assumes nothing.
+-- `one_more` meets its contract.
 use borrow.Author.Needs.{needs}
 use Rattle.writer_validity.proofs.one_more.Statement.{statement}
 use Rattle.writer_validity.proofs.one_more.Tie as tie
 
-add-result : tie.Need-add-result
-add-result c = search needs
-
-returns : tie.Need-returns
-returns c = rw (c .if1 .taken)
-
-returns-2 : tie.Need-returns-2
-returns-2 c = search needs
-
 pub one-more-spec : {M : Type 1} → statement M
-one-more-spec = tie.close (tie.spec add-result returns returns-2)
+one-more-spec = tie.close (tie.spec (λ c. search needs) (λ c. rw (c .if1 .taken)) (λ c. search needs))

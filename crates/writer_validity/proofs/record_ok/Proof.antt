@@ -1,4 +1,4 @@
--- `record_ok` meets its contract: spare bits and bytes first, then the values. Assumes nothing.
+-- `record_ok` meets its contract: spare bits and bytes first, then the values.
 use Prim.Native.Nat.{ℕ, _+_, _/_, _%_}
 use mathlib.Core.Bool.{Bool, _&&_, and-false}
 use mathlib.Core.Path.{_≡_, refl, sym, ap, _∙_}
@@ -26,15 +26,6 @@ low c =
     let a = c .before .before .args in
     ap (λ (n : ℕ). n % 72057594037927936) (c .get-u64 .ensures) ∙ word-low (a .t .now) (a .at + 16) (λ i. omega (arith, c .before .shared-slice-known .given i))
 
-add-get-u64 : tie.Need-add-get-u64
-add-get-u64 c = search needs
-
-get-u64-requires : tie.Need-get-u64-requires
-get-u64-requires c κs = search needs
-
-cast-flags : tie.Need-cast-flags
-cast-flags c = search needs
-
 returns : tie.Need-returns
 returns c =
     let k = c .before in
@@ -60,21 +51,6 @@ returns-3 c =
     ∙ spares-by (a .t .now) (a .at) flags (high k) (lt-ltb _ _ (c .before .before .if1 .left)) refl
     (ne-eqb (be 7 (a .t .now) (a .at + 16 + 1)) 0 (λ e. c .if3 .taken (omega (arith, low k, e)))))
 
-add-get-u64-2 : tie.Need-add-get-u64-2
-add-get-u64-2 c = search needs
-
-get-u64-requires-2 : tie.Need-get-u64-requires-2
-get-u64-requires-2 c κs = search needs
-
-add-get-u64-3 : tie.Need-add-get-u64-3
-add-get-u64-3 c = search needs
-
-get-u64-requires-3 : tie.Need-get-u64-requires-3
-get-u64-requires-3 c κs = search needs
-
-values-ok-requires : tie.Need-values-ok-requires
-values-ok-requires c κs = search needs
-
 returns-4 : tie.Need-returns-4
 returns-4 c =
     let d = c .before .before .before in
@@ -90,16 +66,6 @@ returns-4 c =
 pub record-ok-spec : {M : Type 1} → statement M
 record-ok-spec =
     tie.close
-    (tie.spec
-    add-get-u64
-    get-u64-requires
-    cast-flags
-    returns
-    returns-2
-    returns-3
-    add-get-u64-2
-    get-u64-requires-2
-    add-get-u64-3
-    get-u64-requires-3
-    values-ok-requires
+    (tie.spec (λ c. search needs) (λ c κs. search needs) (λ c. search needs) returns returns-2 returns-3
+    (λ c. search needs) (λ c κs. search needs) (λ c. search needs) (λ c κs. search needs) (λ c κs. search needs)
     returns-4)

@@ -1,4 +1,4 @@
--- `records_ok` meets its contract: the pass so far, and the measure is how many records are left. Assumes nothing.
+-- `records_ok` meets its contract: the pass so far, and the measure is how many records are left.
 use Prim.Native.Nat.{_-_, _*_, _/_, _%_}
 use mathlib.Core.Path.{refl}
 use native.Mathlib.Omega.{arith}
@@ -17,20 +17,8 @@ Inv-loop t count alive not-alive last₀ a₀ d₀ i₀ last a d i = During coun
 abbrev μ-loop : tie.MeasureT-loop
 μ-loop t count alive not-alive last₀ a₀ d₀ i₀ last a d i = count - i
 
-nil-requires : tie.Need-nil-requires Inv-loop μ-loop
-nil-requires c κs = tt
-
 loop-holds : tie.Need-loop-holds Inv-loop μ-loop
 loop-holds c = start (c .before .before .args .count) (c .before .before .args .t .now) (c .nil .result)
-
-mul-guid-at : tie.Need-mul-guid-at Inv-loop μ-loop
-mul-guid-at c = omega arith
-
-guid-at-requires : tie.Need-guid-at-requires Inv-loop μ-loop
-guid-at-requires c κs = omega arith
-
-follows-requires : tie.Need-follows-requires Inv-loop μ-loop
-follows-requires c κs = tt
 
 returns : tie.Need-returns Inv-loop μ-loop
 returns c =
@@ -40,12 +28,6 @@ returns c =
     stop-key (a .count) (a .t .now) (l .loop .last) (l .loop .a) (l .loop .d) (l .loop .i) (l .loop .inv) (g .before .loop-test .taken)
     (g .guid-at .result) (c .before .follows .result) (a .alive) (a .not-alive) (g .guid-at .ensures) (c .before .follows .ensures) (not-true _ (c .if1 .taken))
 
-mul-record-ok : tie.Need-mul-record-ok Inv-loop μ-loop
-mul-record-ok c = omega arith
-
-record-ok-requires : tie.Need-record-ok-requires Inv-loop μ-loop
-record-ok-requires c κs = omega arith
-
 returns-2 : tie.Need-returns-2 Inv-loop μ-loop
 returns-2 c =
     let n = c .before .before .before .before .before in
@@ -53,27 +35,6 @@ returns-2 c =
     let a = l .before .before .before .args in
     stop-record (a .count) (a .t .now) (l .loop .last) (l .loop .a) (l .loop .d) (l .loop .i) (l .loop .inv) (n .loop-test .taken)
     (c .before .record-ok .result) (a .alive) (a .not-alive) (c .before .record-ok .ensures) (not-true _ (c .if2 .taken))
-
-mul-get-u8 : tie.Need-mul-get-u8 Inv-loop μ-loop
-mul-get-u8 c = omega arith
-
-add-get-u8 : tie.Need-add-get-u8 Inv-loop μ-loop
-add-get-u8 c = omega arith
-
-get-u8-requires : tie.Need-get-u8-requires Inv-loop μ-loop
-get-u8-requires c κs = omega arith
-
-one-more-requires : tie.Need-one-more-requires Inv-loop μ-loop
-one-more-requires c κs = omega arith
-
-one-more-requires-2 : tie.Need-one-more-requires-2 Inv-loop μ-loop
-one-more-requires-2 c κs = omega arith
-
-add-i : tie.Need-add-i Inv-loop μ-loop
-add-i c = omega arith
-
-loop-less : tie.Need-loop-less Inv-loop μ-loop
-loop-less c = omega arith
 
 loop-again : tie.Need-loop-again Inv-loop μ-loop
 loop-again c =
@@ -99,24 +60,6 @@ returns-3 c =
 pub records-ok-spec : {M : Type 1} → statement M
 records-ok-spec =
     tie.close
-    (tie.spec
-    Inv-loop
-    μ-loop
-    nil-requires
-    loop-holds
-    mul-guid-at
-    guid-at-requires
-    follows-requires
-    returns
-    mul-record-ok
-    record-ok-requires
-    returns-2
-    mul-get-u8
-    add-get-u8
-    get-u8-requires
-    one-more-requires
-    one-more-requires-2
-    add-i
-    loop-less
-    loop-again
-    returns-3)
+    (tie.spec Inv-loop μ-loop (λ c κs. tt) loop-holds (λ c. omega arith) (λ c κs. omega arith) (λ c κs. tt) returns
+    (λ c. omega arith) (λ c κs. omega arith) returns-2 (λ c. omega arith) (λ c. omega arith) (λ c κs. omega arith)
+    (λ c κs. omega arith) (λ c κs. omega arith) (λ c. omega arith) (λ c. omega arith) loop-again returns-3)

@@ -1,4 +1,4 @@
--- `values_ok` meets its contract: each test on the way decides. Assumes nothing.
+-- `values_ok` meets its contract: each test on the way decides.
 use Prim.Native.Nat.{_/_, _%_}
 use mathlib.Core.Path.{_≡_, sym, _∙_}
 use native.Mathlib.Omega.{arith}
@@ -8,9 +8,6 @@ use Rattle.writer_validity.proofs.Values.{kind-zero, not-departed}
 use borrow.Author.Needs.{needs}
 use Rattle.writer_validity.proofs.values_ok.Statement.{statement}
 use Rattle.writer_validity.proofs.values_ok.Tie as tie
-
-lease-ok-requires : tie.Need-lease-ok-requires
-lease-ok-requires c κs = search needs
 
 returns : tie.Need-returns
 unfolding writerOk
@@ -47,4 +44,4 @@ returns-4 c g =
     )
 
 pub values-ok-spec : {M : Type 1} → statement M
-values-ok-spec = tie.close (tie.spec lease-ok-requires returns returns-2 returns-3 returns-4)
+values-ok-spec = tie.close (tie.spec (λ c κs. search needs) returns returns-2 returns-3 returns-4)

@@ -1,4 +1,4 @@
--- `writers_ok` meets its contract: the first part of the test that fails makes the whole fail. Assumes nothing.
+-- `writers_ok` meets its contract: the first part of the test that fails makes the whole fail.
 use mathlib.Core.Path.{refl, sym, _∙_}
 use borrow.Author.Tests.{le-leb, lt-leb, not-true, not-false}
 use Rattle.writer_validity.proofs.Pass.{table-agrees}
@@ -11,20 +11,11 @@ returns c =
     let a = c .before .before .args in
     table-agrees (a .h) (a .count) (a .writers .now) (lt-leb _ _ (c .if1 .taken)) refl refl
 
-mul-zero-from : tie.Need-mul-zero-from
-mul-zero-from c = search needs
-
-zero-from-requires : tie.Need-zero-from-requires
-zero-from-requires c κs = search needs
-
 returns-2 : tie.Need-returns-2
 returns-2 c =
     let a = c .before .before .before .before .args in
     table-agrees (a .h) (a .count) (a .writers .now) (le-leb _ _ (c .before .before .if1 .left))
     (sym (c .before .zero-from .ensures) ∙ not-true _ (c .if2 .taken)) refl
-
-records-ok-requires : tie.Need-records-ok-requires
-records-ok-requires c κs = search needs
 
 returns-3 : tie.Need-returns-3
 returns-3 c =
@@ -36,4 +27,4 @@ returns-3 c =
 pub writers-ok-spec : {M : Type 1} → statement M
 writers-ok-spec =
     tie.close
-    (tie.spec returns mul-zero-from zero-from-requires returns-2 records-ok-requires returns-3)
+    (tie.spec returns (λ c. search needs) (λ c κs. search needs) returns-2 (λ c κs. search needs) returns-3)

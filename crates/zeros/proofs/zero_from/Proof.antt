@@ -1,4 +1,4 @@
--- `zero_from` meets its contract: the part up to the end is all there is. Assumes nothing.
+-- `zero_from` meets its contract: the part up to the end is all there is.
 use Prim.Native.Nat.{_-_}
 use mathlib.Core.Path.{_∙_, ap}
 use native.Mathlib.Omega.{arith}
@@ -9,13 +9,10 @@ use borrow.Author.Needs.{needs}
 use Rattle.zeros.proofs.zero_from.Statement.{statement}
 use Rattle.zeros.proofs.zero_from.Tie as tie
 
-zero-long-requires : tie.Need-zero-long-requires
-zero-long-requires c κs = search needs
-
 returns : tie.Need-returns
 returns c =
     let a = c .before .before .args in
     c .zero-long .ensures ∙ ap allZero (take-all (length (a .s .now) - a .from) (drop (a .from) (a .s .now)) (omega (arith, length-drop (a .from) (a .s .now))))
 
 pub zero-from-spec : {M : Type 1} → statement M
-zero-from-spec = tie.close (tie.spec zero-long-requires returns)
+zero-from-spec = tie.close (tie.spec (λ c κs. search needs) returns)

@@ -1,5 +1,4 @@
 -- `zero_long` meets its contract: what is left of the scan is the whole of it. The measure is how many bytes are left.
--- Assumes nothing.
 use Prim.Native.Nat.{_-_, _≤_}
 use mathlib.Core.Bool.{true}
 use mathlib.Core.Path.{_≡_, refl, sym, _∙_}
@@ -15,21 +14,6 @@ Inv-loop s from end last at₀ at = (from ≤ at) × (at ≤ end) × (zeros s 64
 abbrev μ-loop : tie.MeasureT-loop
 μ-loop s from end last at₀ at = end - at
 
-sub-if1 : tie.Need-sub-if1 Inv-loop μ-loop
-sub-if1 c = omega arith
-
-zero-between-requires : tie.Need-zero-between-requires Inv-loop μ-loop
-zero-between-requires c κs = omega arith
-
-returns : tie.Need-returns Inv-loop μ-loop
-returns c = c .zero-between .ensures
-
-sub-last : tie.Need-sub-last Inv-loop μ-loop
-sub-last c = omega arith
-
-zero-64-requires : tie.Need-zero-64-requires Inv-loop μ-loop
-zero-64-requires c κs = omega arith
-
 returns-2 : tie.Need-returns-2 Inv-loop μ-loop
 returns-2 c =
     let a = c .before .before .before .before .args in
@@ -38,20 +22,11 @@ returns-2 c =
 loop-holds : tie.Need-loop-holds Inv-loop μ-loop
 loop-holds c = (omega arith, omega arith, sym (c .before .zero-64 .ensures) ∙ not-false _ (c .if2 .left), refl)
 
-zero-64-requires-2 : tie.Need-zero-64-requires-2 Inv-loop μ-loop
-zero-64-requires-2 c κs = omega arith
-
 returns-3 : tie.Need-returns-3 Inv-loop μ-loop
 returns-3 c =
     let a = c .before .before .before .before .before .before .before .before .args in
     let l = c .before .before .before .loop in
     sym (l .inv .3 ∙ tail-stop (a .s .now) 64 (a .end) (l .at) (omega arith) (sym (c .before .zero-642 .ensures) ∙ not-true _ (c .if3 .taken)))
-
-add-at : tie.Need-add-at Inv-loop μ-loop
-add-at c = omega arith
-
-loop-less : tie.Need-loop-less Inv-loop μ-loop
-loop-less c = omega arith
 
 loop-again : tie.Need-loop-again Inv-loop μ-loop
 loop-again c =
@@ -72,19 +47,6 @@ returns-4 c =
 pub zero-long-spec : {M : Type 1} → statement M
 zero-long-spec =
     tie.close
-    (tie.spec
-    Inv-loop
-    μ-loop
-    sub-if1
-    zero-between-requires
-    returns
-    sub-last
-    zero-64-requires
-    returns-2
-    loop-holds
-    zero-64-requires-2
-    returns-3
-    add-at
-    loop-less
-    loop-again
-    returns-4)
+    (tie.spec Inv-loop μ-loop (λ c. omega arith) (λ c κs. omega arith) (λ c. c .zero-between .ensures)
+    (λ c. omega arith) (λ c κs. omega arith) returns-2 loop-holds (λ c κs. omega arith) returns-3 (λ c. omega arith)
+    (λ c. omega arith) loop-again returns-4)

@@ -12,7 +12,7 @@ use reading::layout::{FIGURES, LARGE, Writer, is_figure, pens_bytes};
 use reading::sheet::{SHEET_BYTES, known_code};
 
 use crate::case::{Case, Fault};
-use crate::counts::{Counts, Row, Table};
+use crate::counts::{Counts, Fates, Row, Table, refused};
 use crate::figures::{PENS, Request, around, figures};
 use crate::run::{Parting, Run};
 
@@ -150,56 +150,40 @@ impl CallCase {
     /// place in `FATES`.
     pub fn compared(&self, library: &mut impl FnMut(Request<'_>) -> u32) -> Result<usize, Parting> {
         let mut run = Run::of(&self.start(), |lent| library(Request::Call(lent)));
-        let answer = run.call(&self.case())?;
-        let fate = NUMBERS.iter().position(|number| *number == answer.number);
-        fate.ok_or(Parting::Unrefused(answer.number))
+        let number = run.call(&self.case())?.number;
+        if number == 0 { Ok(0) } else { refused(FATES, number) }
     }
 }
 
-const FATES: [&str; 5] = ["accepted", "1", "2", "3", "9"];
-const NUMBERS: [u8; 5] = [0, 1, 2, 3, 9];
+const FATES: Fates = &["accepted", "1", "2", "3", "9"];
 
-pub type CallTally = Counts<CallCase, { FATES.len() }>;
-type Sort = Row<CallCase, { FATES.len() }>;
+pub type CallTally = Counts<CallCase>;
+type Sort = Row<CallCase>;
 
 pub fn tally() -> CallTally {
-    let figures = figures().into_iter().map(|n| Sort::of(n, move |case| case.figure == n));
-    let pens = PENS.map(|n| Sort::of(n, move |case| case.pens == n));
-    let sheets = around(SHEET_BYTES).map(|n| Sort::of(n, move |case| case.sheet == n));
-    let answers = around(ANSWER_BYTES).map(|n| Sort::of(n, move |case| case.answer == n));
-    let lengths = around(HEAD_BYTES).map(|n| Sort::of(n, move |case| case.head == n));
+    let known = [1, 2, 8, 9, 32, 38, 48];
     let shorts = Short::ALL.map(|n| Sort::of(format!("{n:?}"), move |case| case.short == n));
     let tables = vec![
-        Table { name: "places in the head", rows: figures.collect() },
-        Table { name: "length of pens", rows: pens.into() },
-        Table { name: "code", rows: codes() },
-        Table { name: "sheet", rows: sheets.into() },
-        Table { name: "answer", rows: answers.into() },
-        Table { name: "length of the head", rows: lengths.into() },
-        Table { name: "head", rows: heads() },
-        Table { name: "one byte short", rows: shorts.into() },
-        Table { name: "instances", rows: instances() },
-        Table { name: "other places beside", rows: beside() },
-        Table { name: "", rows: vec![Sort::of("all", |_| true)] },
+        Table::by("places in the head", figures(), |case: &CallCase| case.figure),
+        Table::by("length of pens", PENS, |case: &CallCase| case.pens),
+        Table::by("code", known, |case: &CallCase| case.code).and("unknown"),
+        Table::by("sheet", around(SHEET_BYTES), |case: &CallCase| case.sheet),
+        Table::by("answer", around(ANSWER_BYTES), |case: &CallCase| case.answer),
+        Table::by("length of the head", around(HEAD_BYTES), |case: &CallCase| case.head),
+        Table::of("head", [Sort::of("laid out", |case| case.laid)]).and("presence 2"),
+        Table::of("one byte short", shorts),
+        Table::of("instances", instances()).and("one too many"),
+        Table::of("other places beside", beside()),
+        Table::all(),
     ];
     Counts::new(FATES, tables)
 }
 
-fn codes() -> Vec<Sort> {
-    let known = [1, 2, 8, 9, 32, 38, 48].map(|n| Sort::of(n, move |case| case.code == n));
-    known.into_iter().chain([Sort::of("unknown", |_| true)]).collect()
-}
-
-fn heads() -> Vec<Sort> {
-    vec![Sort::of("laid out", |case| case.laid), Sort::of("presence 2", |_| true)]
-}
-
-fn instances() -> Vec<Sort> {
-    vec![
+fn instances() -> [Sort; 3] {
+    [
         Sort::of("one", |case| case.instances == 1),
         Sort::of("a place free", |case| case.instances < case.figure),
         Sort::of("full", |case| case.instances == case.figure),
-        Sort::of("one too many", |_| true),
     ]
 }
 

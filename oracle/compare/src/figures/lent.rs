@@ -8,7 +8,7 @@ use reading::layout::{
     FIGURES, GUID_BYTES, LARGE, LOST_BYTES, OUT_BYTES, Time, WRITERS_BYTES, places_of,
 };
 
-use crate::counts::{Counts, Row, Table};
+use crate::counts::{Counts, Fates, Row, Table, refused};
 use crate::figures::{PENS, Request, around, figures};
 use crate::fresh::same_fresh;
 use crate::guarded::Guarded;
@@ -17,12 +17,11 @@ use crate::read::{READ_BYTES, Read};
 use crate::run::Parting;
 
 /// What becomes of a read.
-const FATES: [&str; 3] = ["told", "1", "3"];
-const NUMBERS: [u8; 3] = [0, 1, 3];
+const FATES: Fates = &["told", "1", "3"];
 
 /// The place in `FATES`.
 fn fate(number: u8) -> Result<usize, Parting> {
-    NUMBERS.iter().position(|n| *n == number).ok_or(Parting::Unrefused(number))
+    if number == 0 { Ok(0) } else { refused(FATES, number) }
 }
 
 /// Status or changes.
@@ -83,28 +82,22 @@ impl HeadCase {
     }
 }
 
-pub type HeadTally = Counts<HeadCase, { FATES.len() }>;
+pub type HeadTally = Counts<HeadCase>;
 
 pub fn head_tally() -> HeadTally {
-    type Sort = Row<HeadCase, { FATES.len() }>;
-    let reads = HeadRead::ALL.map(|n| Sort::of(n.name(), move |case| case.read == n));
-    let figures = figures().into_iter().map(|n| Sort::of(n, move |case| case.figure == n));
-    let counted = COUNTED.map(|n| Sort::of(n, move |case| case.instances == n));
-    let lengths = around(HEAD_BYTES).map(|n| Sort::of(n, move |case| case.head == n));
+    type Sort = Row<HeadCase>;
     let answers = [
         Sort::of("shorter", |case| case.answer < case.read.stated()),
         Sort::of("as stated", |case| case.answer == case.read.stated()),
-        Sort::of("longer", |_| true),
     ];
-    let laid = [Sort::of("laid out", |case| case.laid), Sort::of("presence 2", |_| true)];
     let tables = vec![
-        Table { name: "read", rows: reads.into() },
-        Table { name: "places in the head", rows: figures.collect() },
-        Table { name: "instances", rows: counted.into() },
-        Table { name: "length of the head", rows: lengths.into() },
-        Table { name: "head", rows: laid.into() },
-        Table { name: "answer", rows: answers.into() },
-        Table { name: "", rows: vec![Sort::of("all", |_| true)] },
+        Table::by("read", HeadRead::ALL.map(HeadRead::name), |case: &HeadCase| case.read.name()),
+        Table::by("places in the head", figures(), |case: &HeadCase| case.figure),
+        Table::by("instances", COUNTED, |case: &HeadCase| case.instances),
+        Table::by("length of the head", around(HEAD_BYTES), |case: &HeadCase| case.head),
+        Table::of("head", [Sort::of("laid out", |case| case.laid)]).and("presence 2"),
+        Table::of("answer", answers).and("longer"),
+        Table::all(),
     ];
     Counts::new(FATES, tables)
 }
@@ -133,24 +126,21 @@ impl FreshCase {
     }
 }
 
-/// The number of places that the state has, or the refusal.
-const FRESH_FATES: [&str; 3] = ["32 places", "128 places", "1"];
+pub type FreshTally = Counts<FreshCase>;
 
-pub type FreshTally = Counts<FreshCase, { FRESH_FATES.len() }>;
-
+/// By the number of places that the state has, or the refusal.
 pub fn fresh_tally() -> FreshTally {
-    type Sort = Row<FreshCase, { FRESH_FATES.len() }>;
-    let of = |which: usize, lengths: &[usize]| {
-        lengths.iter().copied().map(|n| Sort::of(n, move |case| case.0[which] == n)).collect()
+    let of = |name, which: usize, lengths: &[usize]| {
+        Table::by(name, lengths.to_vec(), move |case: &FreshCase| case.0[which])
     };
     let tables = vec![
-        Table { name: "length of the head", rows: of(0, &around(HEAD_BYTES)) },
-        Table { name: "length of pens", rows: of(1, &PENS) },
-        Table { name: "of writers", rows: of(2, &around(WRITERS_BYTES)) },
-        Table { name: "of Lost", rows: of(3, &around(LOST_BYTES)) },
-        Table { name: "", rows: vec![Sort::of("all", |_| true)] },
+        of("length of the head", 0, &around(HEAD_BYTES)),
+        of("length of pens", 1, &PENS),
+        of("of writers", 2, &around(WRITERS_BYTES)),
+        of("of Lost", 3, &around(LOST_BYTES)),
+        Table::all(),
     ];
-    Counts::new(FRESH_FATES, tables)
+    Counts::new(&["32 places", "128 places", "1"], tables)
 }
 
 /// A read of instances.
@@ -241,25 +231,20 @@ impl TableCase {
     }
 }
 
-pub type TableTally = Counts<TableCase, { FATES.len() }>;
+pub type TableTally = Counts<TableCase>;
 
 pub fn table_tally() -> TableTally {
-    type Sort = Row<TableCase, { FATES.len() }>;
     let mut names: Vec<&str> = reads().iter().map(Read::name).collect();
     names.sort_unstable();
     names.dedup();
-    let reads = names.into_iter().map(|n| Sort::of(n, move |case| case.read.name() == n));
-    let counted = TABLES.map(|n| Sort::of(n, move |case| case.instances == n));
-    let pens = PENS.map(|n| Sort::of(n, move |case| case.pens == n));
-    let answers = around(READ_BYTES).map(|n| Sort::of(n, move |case| case.answer == n));
-    let behind = [Sort::of("zeros", |case| !case.stray), Sort::of("a stray byte", |_| true)];
+    let zeros = Row::of("zeros", |case: &TableCase| !case.stray);
     let tables = vec![
-        Table { name: "read", rows: reads.collect() },
-        Table { name: "instances", rows: counted.into() },
-        Table { name: "length of pens", rows: pens.into() },
-        Table { name: "behind the records", rows: behind.into() },
-        Table { name: "answer", rows: answers.into() },
-        Table { name: "", rows: vec![Sort::of("all", |_| true)] },
+        Table::by("read", names, |case: &TableCase| case.read.name()),
+        Table::by("instances", TABLES, |case: &TableCase| case.instances),
+        Table::by("length of pens", PENS, |case: &TableCase| case.pens),
+        Table::of("behind the records", [zeros]).and("a stray byte"),
+        Table::by("answer", around(READ_BYTES), |case: &TableCase| case.answer),
+        Table::all(),
     ];
     Counts::new(FATES, tables)
 }

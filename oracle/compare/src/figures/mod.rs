@@ -129,7 +129,7 @@ impl FigureTally {
     }
 }
 
-fn missing<C, const N: usize>(what: &str, counts: &Counts<C, N>) -> Vec<String> {
+fn missing<C>(what: &str, counts: &Counts<C>) -> Vec<String> {
     counts.missing().iter().map(|sort| format!("{what}: {sort}")).collect()
 }
 

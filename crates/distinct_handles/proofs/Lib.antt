@@ -1,0 +1,2 @@
+-- Laws that the proofs of distinct_handles cite.
+pub mod Order

@@ -1,0 +1,2 @@
+-- What the contracts of distinct_handles cite.
+pub mod Apart

@@ -1,2 +1,0 @@
--- Laws that the proofs of handle_order cite.
-pub mod Order

@@ -1,2 +1,0 @@
--- What the contracts of handle_order cite.
-pub mod Apart

@@ -1,0 +1,2 @@
+-- Laws that the proofs of head_reads cite.
+pub mod Heads

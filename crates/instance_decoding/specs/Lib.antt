@@ -1,0 +1,2 @@
+-- What the contracts of instance_decoding cite beside model's definitions.
+pub mod Parts

@@ -1,2 +1,0 @@
--- The laws of the purge.
-pub mod StepLaws

@@ -1,2 +1,0 @@
--- What the contracts of one instance cite beside model's Instances.
-pub mod Effects

@@ -1,2 +1,0 @@
--- What the contracts of instance_record cite beside model's definitions.
-pub mod Parts

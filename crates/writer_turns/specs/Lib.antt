@@ -1,3 +1,0 @@
--- What the contracts of writer_turns and of the tracker calls cite.
-pub mod Turns
-pub mod WriterCalls
