@@ -81,8 +81,18 @@ def table():
     return {old: word for old, word in new.items() if old != word}, found
 
 
+def of_libraries(text):
+    """The names that a file takes from the logic or from std: these keep their spelling in it."""
+    taken = set()
+    for path, items in re.findall(r"(?m)\buse ([\w.]+)\.\{([^}]*)\}", text):
+        if not path.startswith("Rattle.") or path.split(".")[1] in ("std", "core"):
+            taken |= {item.split(" as ")[0].strip() for item in items.split(",")}
+    return taken
+
+
 def turned(text, names):
-    return TOKEN.sub(lambda m: names.get(m[0], m[0]), text)
+    kept = of_libraries(text)
+    return TOKEN.sub(lambda m: m[0] if m[0] in kept else names.get(m[0], m[0]), text)
 
 
 def in_backquotes(text, names):

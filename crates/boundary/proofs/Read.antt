@@ -5,7 +5,7 @@
 --     head_read               a head from its fields
 --     laid-many, laid-present, laid_high, laid_low    the test in the order of the code
 use Prim.Native.Nat.{ℕ, zero, suc, ◌≤◌, ◌<◌}
-use mathlib.Core.Bool.{true, false, and_false}
+use mathlib.Core.Bool.{true, false, and-false}
 use mathlib.Core.Path.{◌≡◌, refl, sym, ap, ◌∙◌}
 use mathlib.Core.List.{List}
 use borrow.Author.Tests.{le-ltb, lt-ltb, eq-eqb, ne_eqb}
@@ -72,7 +72,7 @@ module _ (b : List ℕ) where
   pub laid_high : {n h : ℕ} → n ≡ be 2 b 28 → h ≡ be 8 b 48 → (n ≡ 1 → ⊥) → (h ≡ 0 → ⊥) → false ≡ head_laid b
   unfolding head_laid
   laid_high {n} {h} e f k l =
-      rw (← e, ← f, ne_eqb n 1 k, ne_eqb h 0 l) (sym (and_false (ltb n 2)))
+      rw (← e, ← f, ne_eqb n 1 k, ne_eqb h 0 l) (sym (and-false (ltb n 2)))
 
   pub laid_low : {n h l : ℕ} → n ≡ be 2 b 28 → h ≡ be 8 b 48 → l ≡ be 8 b 56 → n < 2 → (n ≡ 1 → ⊥) → h ≡ 0 → eqb l 0 ≡ head_laid b
   unfolding head_laid

@@ -5,7 +5,7 @@
 --     fresh_short, fresh_made     the fresh state
 --     made                        a call on a head that was read, and on one that was none
 use Prim.Native.Nat.{ℕ}
-use mathlib.Core.Bool.{Bool, true, false, cond, and_false}
+use mathlib.Core.Bool.{Bool, true, false, cond, and-false}
 use mathlib.Core.Option.{Option, none, some}
 use mathlib.Core.Path.{◌≡◌, refl, ap, ◌∙◌}
 use mathlib.Core.List.{List, []}
@@ -69,7 +69,7 @@ module _ (head sheet pens writers lost out answer : List ℕ) where
 
 never : (places : ℕ) (pens writers lost out : List ℕ) → well_formed places (lent_of (no_head places) pens writers lost out) ≡ false
 unfolding well_formed head_ok
-never places pens writers lost out = and_false (eqb places places)
+never places pens writers lost out = and-false (eqb places places)
 
 coded_never : (places : ℕ) (c : Option Call) (s : Sheet) (l : Lent) → well_formed places l ≡ false → coded places c s l ≡ refuse (code_number c) l
 coded_never places none s l e = refl

@@ -5,7 +5,7 @@
 --     changes_short, changes_made, changes-told, changes_untold      likewise for the changes
 use Prim.Native.Nat.{ℕ}
 use Rattle.octets.specs.Octets.{be}
-use mathlib.Core.Bool.{Bool, true, false, cond, and_false}
+use mathlib.Core.Bool.{Bool, true, false, cond, and-false}
 use mathlib.Core.Path.{◌≡◌, refl, ap, ◌∙◌}
 use mathlib.Core.List.{List}
 use borrow.Author.Tests.{eq-eqb, ne_eqb}
@@ -28,11 +28,11 @@ use Rattle.dcps_c.specs.Reads.{status_of, boundary_status, changes_of, boundary_
 -- no head is refused as 3
 no_status_lem : (places : ℕ) → status_answer (status_read (no_head places)) ≡ refused_with 3
 unfolding status_read head_alone head_ok
-no_status_lem places = rw (and_false (figure_ok places))
+no_status_lem places = rw (and-false (figure_ok places))
 
 no_changes : (places : ℕ) → changes_answer (changes_read (no_head places)) ≡ refused_answer 3
 unfolding changes_read head_alone head_ok
-no_changes places = rw (and_false (figure_ok places))
+no_changes places = rw (and-false (figure_ok places))
 
 module _ (head : List ℕ) where
   pub status_short : {a : Answer} → (length head ≡ 64 → ⊥) → a ≡ refused_with 1 → a ≡ status_of head

@@ -4,7 +4,7 @@
 --     cleared_form                 codes 18 for several: how many clear the owner
 --     listed_form, loss_form       codes 7 and 18 for several: what they list, what they leave
 use Prim.Native.Nat.{ℕ, ◌+◌}
-use mathlib.Core.Bool.{Bool, true, false, not, ◌&&◌, ◌||◌, cond, and_false, or-false}
+use mathlib.Core.Bool.{Bool, true, false, not, ◌&&◌, ◌||◌, cond, and-false, or-false}
 use mathlib.Core.List.{List, [], ◌∷◌}
 use mathlib.Core.Path.{◌≡◌, refl, sym, ap, ◌∙◌}
 use native.Mathlib.Omega.{arith}
@@ -157,7 +157,7 @@ dropped_owner g at x = split (left_by g x) (λ e. rw e) (λ e. rw e (split (has 
 
 disowned_none : (x : InstanceState) → disowned_by [] x ≡ x
 unfolding disowned_by has
-disowned_none x = rw (and_false x.owner.present)
+disowned_none x = rw (and-false x.owner.present)
 
 disowned_more : (g : Guid) (gs : List Guid) (x : InstanceState) → disowned_by gs (owner_cleared g x) ≡ disowned_by (g ∷ gs) x
 unfolding disowned_by owner_cleared
@@ -170,7 +170,7 @@ cleared_more g gs x = rw (owned_more g gs x.owner) (split (owns g x.owner) (λ e
 
 pub cleared_form : (gs : List Guid) (at : MaybeTime) (x : InstanceState) → clearings gs at x ≡ bit (owned_by gs x.owner)
 unfolding clearings has
-cleared_form [] at x = rw (and_false x.owner.present)
+cleared_form [] at x = rw (and-false x.owner.present)
 cleared_form (g ∷ gs) at x =
     ap (λ (n : ℕ). bit (owns g (writer_dropped g at x).owner) + n) (cleared_form gs at (left_without g at x))
     ∙ cleared_more g gs (writer_dropped g at x) ∙ ap (λ (o : MaybeOwner). bit (owned_by (g ∷ gs) o)) (dropped_owner g at x)

@@ -8,7 +8,7 @@
 --     silent_by, given_by              it was the last set of an alive instance: without a time, and with one
 --     settled_same, settled-left, settled-less      what `write_remainder` writes of it: nothing, the end of its last set, a length
 use Prim.Native.Nat.{ℕ, zero, suc, ◌+◌, ◌-◌, ◌/◌, ◌≤◌, ◌<◌}
-use mathlib.Core.Bool.{Bool, true, false, not, ◌&&◌, cond, and_false}
+use mathlib.Core.Bool.{Bool, true, false, not, ◌&&◌, cond, and-false}
 use mathlib.Core.List.{List, [], ◌∷◌, ◌++◌, append_assoc, append-nil}
 use mathlib.Core.Path.{◌≡◌, refl, sym, ap, ◌∙◌}
 use native.Mathlib.Omega.{arith}
@@ -121,10 +121,10 @@ module _ (o : List Guid) (x : InstanceState) (sound : Sound x.writers) where
       by false = refl
 
   emptied_some : (length o ≡ 0 → ⊥) → emptied_to o x ≡ false
-  emptied_some n = emptied_by_lem ∙ rw (ne_eqb (length o) 0 n) (and_false (not (eqb x.writers.len 0)))
+  emptied_some n = emptied_by_lem ∙ rw (ne_eqb (length o) 0 n) (and-false (not (eqb x.writers.len 0)))
 
   emptied_dead : is_alive x.life.kind ≡ false → emptied_to o x ≡ false
-  emptied_dead e = emptied_by_lem ∙ rw (e, and_false (eqb (length o) 0)) (and_false (not (eqb x.writers.len 0)))
+  emptied_dead e = emptied_by_lem ∙ rw (e, and-false (eqb (length o) 0)) (and-false (not (eqb x.writers.len 0)))
 
   emptied-all : length o ≡ 0 → (x.writers.len ≡ 0 → ⊥) → is_alive x.life.kind ≡ true → emptied_to o x ≡ true
   emptied-all e n a = emptied_by_lem ∙ rw (e, ne_eqb x.writers.len 0 n, a)

@@ -6,7 +6,7 @@
 --     listed_none, listed_at, listed-missing without an owner, and what the search says of one
 --     apart_high, apart_none, apart_low      the first writer is above a span, there is none, the last is below it
 use Prim.Native.Nat.{ℕ, zero, suc, ◌+◌, ◌-◌, ◌*◌, ◌/◌, ◌%◌, ◌^◌, ◌≤◌, ◌<◌}
-use mathlib.Core.Bool.{Bool, true, false, ◌&&◌, and_false, and_true}
+use mathlib.Core.Bool.{Bool, true, false, ◌&&◌, and-false, and-true}
 use mathlib.Core.List.{List, [], ◌∷◌, map}
 use mathlib.Core.Logic.{inl, inr}
 use mathlib.Core.Path.{◌≡◌, refl, sym, ◌∙◌}
@@ -84,10 +84,10 @@ module _ (a b : Guid) (e : a.hi ≡ b.hi) where
 -- ---- the owner, by its halves and the flags
 
 false_and : (p b : Bool) → b ≡ false → false ≡ (p && b)
-false_and p b e = rw e (sym (and_false p))
+false_and p b e = rw e (sym (and-false p))
 
 true_and : (p b : Bool) → b ≡ true → p ≡ (p && b)
-true_and p b e = rw e (sym (and_true p))
+true_and p b e = rw e (sym (and-true p))
 
 module _ (r : List ℕ) (g : Guid) (bytes : Bytes r) (fits : g.lo < 2 ^ 64) where
   pub owner_low : (be 8 r 100 ≡ g.lo → ⊥) → false ≡ owns g (instance_of r).state.owner

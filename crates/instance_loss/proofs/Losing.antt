@@ -5,7 +5,7 @@
 --     owner-flag               the flag of the owner in its bytes
 --     lost-left                the record once the owner is cleared where it goes
 use Prim.Native.Nat.{ℕ, suc, ◌<◌}
-use mathlib.Core.Bool.{Bool, true, false, ◌&&◌, cond, and_false}
+use mathlib.Core.Bool.{Bool, true, false, ◌&&◌, cond, and-false}
 use mathlib.Core.List.{List, [], ◌∷◌}
 use mathlib.Core.Logic.{⊎_elim}
 use mathlib.Core.Path.{◌≡◌, refl, sym, ap, ◌∙◌}
@@ -75,7 +75,7 @@ not_in w g (x ∷ gone) o h =
     rw e (not_in w g gone o h.1)
 
 pub apart_unowned : (clears : Bool) (w : Span) (gone : List Guid) (o : MaybeOwner) → All (Within w) gone → Outside w o.guid → false ≡ (clears && owned_by gone o)
-apart_unowned clears w gone o h b = rw (not_in w o.guid gone b h, and_false o.present) (sym (and_false clears))
+apart_unowned clears w gone o h b = rw (not_in w o.guid gone b h, and-false o.present) (sym (and-false clears))
 
 pub goes : {b : Bool} (clears : Bool) → clears ≡ true → b ≡ (clears && b)
 goes clears e = rw e

@@ -4,7 +4,7 @@
 --     rise_few, rise_next, rise_six     none or one, two and six of them
 --     rise_stop, rise_turn              the first ones do not rise, or do: then the rest decides
 use Prim.Native.Nat.{ℕ, zero, suc, ◌+◌, ◌-◌, ◌*◌, ◌^◌, ◌≤◌, ◌<◌}
-use mathlib.Core.Bool.{Bool, true, false, ◌&&◌, and_true, and_false, and_assoc}
+use mathlib.Core.Bool.{Bool, true, false, ◌&&◌, and-true, and-false, and_assoc}
 use mathlib.Core.Path.{◌≡◌, refl, sym, ap, ◌∙◌}
 use mathlib.Core.List.{List, [], ◌∷◌}
 use native.Mathlib.Nat.{le_of_lt}
@@ -45,7 +45,7 @@ module _ {A : Type 0} (key : A → ℕ) where
     where
       each : (a b : Bool) → ltb (key x) (key y) ≡ a → above key (key y) xs ≡ b → ((a && above key (key x) xs) && (b && rising key xs)) ≡ (a && (b && rising key xs))
       each false b p q = refl
-      each true false p q = and_false (above key (key x) xs)
+      each true false p q = and-false (above key (key x) xs)
       each true true p q = rw (above_lower (key y) (key x) xs (ltb-true (key x) (key y) p) q)
 
 module _ (s : List ℕ) where
@@ -111,7 +111,7 @@ module _ (s : List ℕ) where
     rise_turn p = parts ∙ rw p
 
   pub rise_next : (at : ℕ) → rising num (guids_in 2 (drop at s)) ≡ next at
-  rise_next at = rise_steps 1 at ∙ and_true (next at)
+  rise_next at = rise_steps 1 at ∙ and-true (next at)
 
   pub rise_six : (at : ℕ) {a b c d e : Bool} → next at ≡ a → next (at + 16) ≡ b → next (at + 32) ≡ c → next (at + 48) ≡ d → next (at + 64) ≡ e →
       (a && (b && (c && (d && e)))) ≡ rising num (guids_in 6 (drop at s))
@@ -119,4 +119,4 @@ module _ (s : List ℕ) where
       let x : at + 16 + 16 ≡ at + 32 = omega arith in
       let y : at + 32 + 16 ≡ at + 48 = omega arith in
       let z : at + 48 + 16 ≡ at + 64 = omega arith in
-      sym (rise_steps 5 at ∙ rw (p, q, x, r, y, u, z, v, and_true e))
+      sym (rise_steps 5 at ∙ rw (p, q, x, r, y, u, z, v, and-true e))

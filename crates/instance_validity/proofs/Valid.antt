@@ -2,7 +2,7 @@
 --     times_by, record_by     the six times, and one record, from their parts
 --     records-ok              what model asks of the first n records of a table, record by record
 use Prim.Native.Nat.{ℕ, zero, suc}
-use mathlib.Core.Bool.{Bool, true, false, ◌&&◌, and_assoc, and_false}
+use mathlib.Core.Bool.{Bool, true, false, ◌&&◌, and_assoc, and-false}
 use mathlib.Core.Path.{◌≡◌, refl, sym, ◌∙◌}
 use mathlib.Core.List.{List}
 use native.Mathlib.Omega.{arith}
@@ -44,5 +44,5 @@ records-ok (suc n) t =
   where
     across : (a b k x : Bool) → ((a && b) && (k && x)) ≡ ((a && k) && (b && x))
     across true true k x = refl
-    across true false k x = sym (and_false k)
+    across true false k x = sym (and-false k)
     across false b k x = refl

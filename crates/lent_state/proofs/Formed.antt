@@ -2,7 +2,7 @@
 --     formed_by       the whole test, from its parts in the order of the code
 --     parts           its parts, from the whole test
 use Prim.Native.Nat.{ℕ}
-use mathlib.Core.Bool.{Bool, true, false, ◌&&◌, and_false}
+use mathlib.Core.Bool.{Bool, true, false, ◌&&◌, and-false}
 use mathlib.Core.List.{List}
 use mathlib.Core.Path.{◌≡◌, refl, sym}
 use borrow.Author.Tests.{eq-eqb}
@@ -16,7 +16,7 @@ use Rattle.model.proofs.Tests.{both}
 counts-first : (w l n : Bool) → (w && (l && n)) ≡ ((w && n) && l)
 counts-first true true true = refl
 counts-first true true false = refl
-counts-first true false n = sym (and_false n)
+counts-first true false n = sym (and-false n)
 counts-first false l n = refl
 
 pub formed_by : (places : ℕ) (h : Head) (pens writers lost out : List ℕ) → h.places ≡ places → {a b c d : Bool} → head_ok h ≡ a →

@@ -1,6 +1,6 @@
 -- One turn and the end of the scan for bytes that are not 0, in the code's own form.
 use mathlib.Core.Path.{◌≡◌, sym, ◌∙◌}
-use mathlib.Core.Bool.{◌&&◌, and_assoc, and_true}
+use mathlib.Core.Bool.{◌&&◌, and_assoc, and-true}
 use mathlib.Core.List.{List}
 use Prim.Native.Nat.{ℕ, zero, suc, ◌+◌, ◌-◌, ◌≤◌, ◌<◌}
 use native.Mathlib.Numerals.{add-one}
@@ -30,4 +30,4 @@ module _ (b : List ℕ) (acc i end : ℕ) where
 
   pub scan_end : end ≤ i → eqb acc 0 ≡ (eqb acc 0 && all_zero (take (end - i) (drop i b)))
   unfolding all_zero
-  scan_end h = let e : end - i ≡ 0 = omega arith in rw e (sym (and_true (eqb acc 0)))
+  scan_end h = let e : end - i ≡ 0 = omega arith in rw e (sym (and-true (eqb acc 0)))

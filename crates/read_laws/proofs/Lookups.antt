@@ -7,7 +7,7 @@
 --     lookup_same      over unchanged instances, whichever the number of places
 --     lookup_front     and while the first of them stays, whatever is behind it
 use Prim.Native.Nat.{ℕ, zero, suc}
-use mathlib.Core.Bool.{Bool, true, false, not, or_true, or-false, and_false}
+use mathlib.Core.Bool.{Bool, true, false, not, or-true, or-false, and-false}
 use mathlib.Core.List.{List, [], ◌∷◌}
 use mathlib.Core.Option.{Option, none, some, none-ne-some, some-injective}
 use mathlib.Core.Path.{◌≡◌, refl, sym, ap, ◌∙◌}
@@ -63,7 +63,7 @@ module _ (g : Guid) where
   behind x [] a = refl
   behind x (y ∷ ys) a =
       let b = both (ltb (instance_key x) (instance_key y)) (above instance_key (instance_key x) ys) a in
-      rw (le-leb (instance_key x) (instance_key y) (omega (arith, ltb-true (instance_key x) (instance_key y) b.0)), or_true (not (writes g y)))
+      rw (le-leb (instance_key x) (instance_key y) (omega (arith, ltb-true (instance_key x) (instance_key y) b.0)), or-true (not (writes g y)))
       (behind x ys b.1)
 
   lowest : (xs : List Instance) → rising instance_key xs ≡ true → (x : Instance) → first_written g xs ≡ some x → all (not_below g x) xs ≡ true
@@ -72,7 +72,7 @@ module _ (g : Guid) where
   lowest (y ∷ ys) r x e =
       let b = both (above instance_key (instance_key y) ys) (rising instance_key ys) r in
       split (writes g y)
-      (λ w. let q : y ≡ x = some-injective y x (rw w at e) in rw (← q, le-leb (instance_key y) (instance_key y) (omega arith), or_true (not (writes g y))) (behind y ys b.0))
+      (λ w. let q : y ≡ x = some-injective y x (rw w at e) in rw (← q, le-leb (instance_key y) (instance_key y) (omega arith), or-true (not (writes g y))) (behind y ys b.0))
       (λ w. rw w (lowest ys b.1 x (rw w at e)))
 
   found_writes : (xs : List Instance) (x : Instance) → first_written g xs ≡ some x → writes g x ≡ true
@@ -89,7 +89,7 @@ module _ (g : Guid) where
   found_any p (y ∷ ys) x e h =
       split (writes g y)
       (λ w. let q : y ≡ x = some-injective y x (rw w at e) in rw (q, h))
-      (λ w. rw (found_any p ys x (rw w at e) h, or_true (p y)))
+      (λ w. rw (found_any p ys x (rw w at e) h, or-true (p y)))
 
   names_first_lem : (n : ℕ) (xs : List Instance) → (n ≡ 0 → rising instance_key xs ≡ true) → names_first g xs (handle_found n (first_written g xs)) ≡ true
   names_first_lem (suc n) xs r = refl
@@ -119,7 +119,7 @@ module _ (g : Guid) where
   none_behind h y ys [] w a = refl
   none_behind h y ys (z ∷ zs) w a =
       let b = both (ltb (instance_key y) (instance_key z)) (above instance_key (instance_key y) zs) a in
-      rw (w, lt-leb (instance_key z) (instance_key y) (ltb-true (instance_key y) (instance_key z) b.0), and_false (writes_at g h z))
+      rw (w, lt-leb (instance_key z) (instance_key y) (ltb-true (instance_key y) (instance_key z) b.0), and-false (writes_at g h z))
       (none_behind h y ys zs w b.1)
 
   -- with y not written, it makes no difference

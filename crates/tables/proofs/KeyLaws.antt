@@ -5,7 +5,7 @@
 --     rising_pairs               the test, and what it says of any two keys
 use mathlib.Core.Path.{◌≡◌, refl, sym, ◌∙◌}
 use mathlib.Core.Logic.{⊎_elim}
-use mathlib.Core.Bool.{true, ◌&&◌, and_true, and_assoc}
+use mathlib.Core.Bool.{true, ◌&&◌, and-true, and_assoc}
 use mathlib.Core.List.{List, [], ◌∷◌, ◌++◌}
 use Prim.Native.Nat.{ℕ, zero, suc, ◌*◌, ◌≤◌, ◌<◌}
 use native.Mathlib.Nat.{eq-or-lt_of_le}
@@ -37,8 +37,8 @@ get_or-keys size (suc n) t i h =
 
 pub rising_snoc : (ks : List ℕ) (k l : ℕ) → rising ((ks ++ k ∷ []) ++ l ∷ []) ≡ (rising (ks ++ k ∷ []) && ltb k l)
 unfolding rising leads
-rising_snoc [] k l = and_true (ltb k l)
-rising_snoc (x ∷ []) k l = rw (and_true (ltb k l), and_true (ltb x k))
+rising_snoc [] k l = and-true (ltb k l)
+rising_snoc (x ∷ []) k l = rw (and-true (ltb k l), and-true (ltb x k))
 rising_snoc (x ∷ y ∷ ks) k l =
     rw (rising_snoc (y ∷ ks) k l) (sym (and_assoc (ltb x y) (rising (y ∷ ks ++ k ∷ [])) (ltb k l)))
 

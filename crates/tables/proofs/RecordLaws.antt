@@ -8,7 +8,7 @@
 --                                       replaces it
 --     missing-le, find_none, put_in     where it was missing: the lookup gives none, and a put goes in at the place
 use mathlib.Core.Path.{◌≡◌, refl, sym, ap, ◌∙◌}
-use mathlib.Core.Bool.{Bool, true, false, ◌&&◌, and_false}
+use mathlib.Core.Bool.{Bool, true, false, ◌&&◌, and-false}
 use mathlib.Core.List.{List, [], ◌∷◌, ◌++◌, map}
 use mathlib.Core.Option.{none, some}
 use Prim.Native.Nat.{ℕ, zero, suc, ◌+◌, ◌*◌, ◌≤◌, ◌<◌}
@@ -46,7 +46,7 @@ module _ {A : Type 0} (record_of : List ℕ → A) (size : ℕ) where
 -- one test stands behind two others
 behind-both : (a b c d : Bool) → (a ≡ true → c ≡ true → b ≡ true) → (a && (c && d)) ≡ ((a && b) && (c && d))
 behind-both true b true d h = rw (h refl refl)
-behind-both true b false d h = sym (and_false b)
+behind-both true b false d h = sym (and-false b)
 behind-both false b c d h = refl
 
 stands_tail : (x : ℕ) (ks : List ℕ) (k i : ℕ) → StandsAt (x ∷ ks) k (suc i) → StandsAt ks k i

@@ -5,7 +5,7 @@
 --     record_le                                                         a record's bytes are within the table
 use mathlib.Core.Path.{◌≡◌, refl, sym, ap, ◌∙◌}
 use mathlib.Core.Logic.{⊎_elim}
-use mathlib.Core.Bool.{Bool, true, false, ◌&&◌, and_false}
+use mathlib.Core.Bool.{Bool, true, false, ◌&&◌, and-false}
 use mathlib.Core.List.{List, [], ◌∷◌}
 use Prim.Native.Nat.{ℕ, zero, suc, ◌+◌, ◌-◌, ◌*◌, ◌≤◌, ◌<◌}
 use native.Mathlib.Nat.{suc-mul, mul-le-mul_right, eq-or-lt_of_le}
@@ -115,5 +115,5 @@ rise_stop size n t i h l q = each (rising (keys size n t)) refl
     each : (b : Bool) → rising (keys size n t) ≡ b → false ≡ b
     each false e = refl
     each true e =
-        let z : (rising (keys size i t) && Rises size t i) ≡ false = rw q (and_false (rising (keys size i t))) in
+        let z : (rising (keys size i t) && Rises size t i) ≡ false = rw q (and-false (rising (keys size i t))) in
         sym (sym (fewer size n t (i + 1) (omega arith) e) ∙ rise_next size t i h ∙ z)

@@ -7,7 +7,7 @@
 --     asserting, not_asserting                        a match asserts, or not
 --     again_put, again_tracked, again_after, first-put, first-full, first-after     code 32
 use Prim.Native.Nat.{ℕ, ◌+◌, ◌-◌, ◌*◌, ◌≤◌, ◌<◌}
-use mathlib.Core.Bool.{Bool, true, false, cond, and_false, and_true}
+use mathlib.Core.Bool.{Bool, true, false, cond, and-false, and-true}
 use mathlib.Core.Path.{◌≡◌, refl, sym, ap, ◌∙◌}
 use mathlib.Core.List.{List, map}
 use mathlib.Core.Option.{Option, none, some}
@@ -187,13 +187,13 @@ module _ (s : Sheet) (head : Head) (w : List ℕ) (bytes : Bytes w) (held : Writ
         pub again_tracked : is_tracked x.liveliness.state ≡ true → (r : Called) → r ≡ called_by head n (still_tally head) → Turns Matched s head w r w₁
         again_tracked t r q pens lost =
             match_kept s head w bytes held.long g fits used w₁ n again_put pens lost (late_there s head w bytes held.long g fits used i x found read pens lost)
-            (asserts-there s head w bytes held.long g fits used i x found read ∙ rw t (and_false (automatic s))) r q
+            (asserts-there s head w bytes held.long g fits used i x found read ∙ rw t (and-false (automatic s))) r q
 
         pub again_after : is_tracked x.liveliness.state ≡ false → (r : Called) (w₂ : List ℕ) →
             w₂ ≡ cond (automatic s) (asserted_table (assertion_on true false s) n w₁) w₁ →
             r ≡ called_by head n (cond (automatic s) (asserted_tally head (assertion_on true false s) n w₁) (still_tally head)) → Turns Matched s head w r w₂
         again_after t r w₂ v q pens lost =
-            each (automatic s) (asserts-there s head w bytes held.long g fits used i x found read ∙ rw t (and_true (automatic s))) v q
+            each (automatic s) (asserts-there s head w bytes held.long g fits used i x found read ∙ rw t (and-true (automatic s))) v q
           where
             each : (b : Bool) → match_asserts s ws ≡ b → w₂ ≡ cond b (asserted_table (assertion_on true false s) n w₁) w₁ →
                 r ≡ called_by head n (cond b (asserted_tally head (assertion_on true false s) n w₁) (still_tally head)) → Settles head.places (tracker_call Matched s (held_by head pens w lost)) r w₂

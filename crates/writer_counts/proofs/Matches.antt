@@ -4,7 +4,7 @@
 --     put_again, put_first                      it, where the GUID has a record and where it has none
 --     match_asserted, match_kept                what the call leaves is model's turn, with an assertion and without
 use Prim.Native.Nat.{ℕ, ◌+◌, ◌*◌, ◌≤◌, ◌<◌, ◌^◌}
-use mathlib.Core.Bool.{Bool, true, false, not, ◌&&◌, cond, and_true}
+use mathlib.Core.Bool.{Bool, true, false, not, ◌&&◌, cond, and-true}
 use mathlib.Core.Path.{◌≡◌, refl, sym, ap, ◌∙◌}
 use mathlib.Core.List.{List, [], ◌∷◌, ◌++◌, map}
 use mathlib.Core.Option.{Option, none, some}
@@ -226,7 +226,7 @@ module _ (s : Sheet) (head : Head) (w : List ℕ) (bytes : Bytes w) (long : leng
         (all_in writer_ok ws i z good.ready.sound.ok (first-ok s used)) alive-in not-alive-in
 
     pub asserts-absent : match_asserts s ws ≡ automatic s
-    asserts-absent = rw absent (and_true (automatic s))
+    asserts-absent = rw absent (and-true (automatic s))
 
     pub late_absent : head.writer_count < 128 → (pens lost : List ℕ) → tracker_late Matched s (held_by head pens w lost) ≡ 0
     unfolding state_of

@@ -4,7 +4,7 @@
 --     keys_are, get-map                the keys of the table are those of its writers
 --     lower_others, behind-others      before the lower bound of the prefix, and behind the first of another, all have another
 use Prim.Native.Nat.{ℕ, zero, suc, ◌+◌, ◌*◌, ◌/◌, ◌≤◌, ◌<◌, ◌^◌}
-use mathlib.Core.Bool.{true, false, and_false}
+use mathlib.Core.Bool.{true, false, and-false}
 use mathlib.Core.Logic.{⊎_elim}
 use mathlib.Core.Path.{◌≡◌, refl, sym, ap, ◌∙◌}
 use mathlib.Core.List.{List, [], ◌∷◌, map}
@@ -47,7 +47,7 @@ unfolding asserted covers
 other_prefix a w h =
     let n = ne_eqb (num w.guid) (num a.guid) (λ e.
     eqb-false (prefix w.guid) (prefix a.guid) h (prefix-is w.guid ∙ ap (λ (k : ℕ). k / 2 ^ 32) e ∙ sym (prefix-is a.guid))) in
-    rw (n, h, and_false a.named)
+    rw (n, h, and-false a.named)
 
 -- ---- the keys
 

@@ -3,7 +3,7 @@
 --     During                            the pass at record i: its laws are start, stop_key, stop_record, turn and end
 --     table_agrees                      the whole test of the table and of both counts, from its parts in the order of the code
 use Prim.Native.Nat.{ℕ, zero, suc, ◌+◌, ◌-◌, ◌*◌, ◌≤◌, ◌<◌}
-use mathlib.Core.Bool.{Bool, true, false, ◌&&◌, ◌||◌, cond, and_false, and_assoc}
+use mathlib.Core.Bool.{Bool, true, false, ◌&&◌, ◌||◌, cond, and-false, and_assoc}
 use mathlib.Core.Path.{◌≡◌, refl, sym, ap, ap₂, ◌∙◌}
 use mathlib.Core.List.{List, [], ◌∷◌}
 use native.Mathlib.Nat.{sub-zero, zero-mul, zero-add}
@@ -87,7 +87,7 @@ module _ (count : ℕ) (t : List ℕ) where
           let f = behind-first (less last g) (sym p ∙ q) in
           let n : rising writer_key (writers_in count t) ≡ false =
           sym (rise_stop 40 count t i f.0 h (key_test g e f.0 ∙ f.1) ∙ rise_read count t) in
-          sym (rw n (and_false (records_test count t)))
+          sym (rw n (and-false (records_test count t)))
 
       -- the record is lent from its place on
       lent : (b : Bool) → b ≡ record_test (take 40 (drop (i * 40) t)) → b ≡ record_test (take (i * 40 + 40 - i * 40) (drop (i * 40) t))

@@ -6,7 +6,7 @@
 --     tail_turn, tail_stop                  k bytes more
 --     tail_end, tail_short                  the last k bytes, which are seen first
 use Prim.Native.Nat.{ℕ, zero, suc, ◌+◌, ◌-◌, ◌*◌, ◌≤◌, ◌<◌}
-use mathlib.Core.Bool.{Bool, true, false, ◌&&◌, and_true, and_false}
+use mathlib.Core.Bool.{Bool, true, false, ◌&&◌, and-true, and-false}
 use mathlib.Core.Path.{◌≡◌, refl, sym, ap, ◌∙◌}
 use mathlib.Core.List.{List, [], ◌∷◌}
 use native.Mathlib.Nat.{suc-mul}
@@ -34,7 +34,7 @@ be-zero (suc k) s at h =
       take-suc (drop at s) k 0 (rw (length-drop at s) (omega arith)),
       get_or-drop at s k 0,
       all_zero-append (take k (drop at s)) (b ∷ []),
-      and_true (eqb b 0),
+      and-true (eqb b 0),
     )
 
 second : (a b : Bool) → (a && b) ≡ true → b ≡ true
@@ -83,4 +83,4 @@ module _ (s : List ℕ) where
         let j : ℕ = end - k - at in
         let e : end - at ≡ j + k = omega arith in
         let f : at + j ≡ end - k = omega arith in
-        ap (λ (n : ℕ). zeros n at) e ∙ zeros-add j k at ∙ ap (λ (o : ℕ). zeros j at && zeros k o) f ∙ rw z (and_false (zeros j at))
+        ap (λ (n : ℕ). zeros n at) e ∙ zeros-add j k at ∙ ap (λ (o : ℕ). zeros j at && zeros k o) f ∙ rw z (and-false (zeros j at))

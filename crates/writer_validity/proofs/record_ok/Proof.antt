@@ -1,6 +1,6 @@
 -- `record_ok` meets its contract: spare bits and bytes first, then the values.
 use Prim.Native.Nat.{ℕ, ◌+◌, ◌/◌, ◌%◌}
-use mathlib.Core.Bool.{Bool, ◌&&◌, and_false}
+use mathlib.Core.Bool.{Bool, ◌&&◌, and-false}
 use mathlib.Core.Path.{◌≡◌, refl, sym, ap, ◌∙◌}
 use native.Mathlib.Omega.{arith}
 use lib.Dec.{eqb}
@@ -47,7 +47,7 @@ returns-3 c =
     let a = k.before.before.args in
     let flags = k.get-u64.result / 72057594037927936 in
     ap (λ (b : Bool). b && writer_ok (writer_of (take 40 (drop a.at a.t.now))))
-    (sym (and_false (eqb (flags % 8) 0))
+    (sym (and-false (eqb (flags % 8) 0))
     ∙ spares_by a.t.now a.at flags (high k) (lt-ltb _ _ c.before.before.if1.false) refl
     (ne_eqb (be 7 a.t.now (a.at + 16 + 1)) 0 (λ e. c.if3.true (omega (arith, low k, e)))))
 
