@@ -6,6 +6,8 @@
 // Derives from instance_tracker.rs of ZeroDDS.
 // Copyright 2026 ZeroDDS Contributors. SPDX-License-Identifier: Apache-2.0. Changed: written anew in Rattle, with the
 // reader's calls for one sample joined into one call.
+#![tactic(auto)]
+
 ghost use Rattle.std.specs.Prelude.{true, false, map, ◌≡◌, ◌<◌};
 ghost use Rattle.std.proofs.Math.Option.{some};
 ghost use Rattle.model.specs.Answers.{refused_with, stopping, both};

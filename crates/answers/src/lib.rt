@@ -1,5 +1,7 @@
 // What a call answers, by value: each function makes the answer that the definition of its name in model's Answers says. A
 // field that is not answered is zero.
+#![tactic(auto)]
+
 ghost use Rattle.std.specs.Prelude.{◌≡◌};
 ghost use Rattle.model.specs.Answers.{no_info, no_status, refused_with, silent, saying, counting, listing, handed, handed_samples, info_of, informed, saying_due, reporting};
 

@@ -1,5 +1,7 @@
 // The head and the answer in bytes, as a recorded list holds them and as they cross the C boundary: 64 and 72 bytes, whose
 // layout stands in specs/Layouts.
+#![tactic(auto)]
+
 ghost use Rattle.std.specs.Prelude.{◌≡◌, length, ◌+◌, ◌≤◌};
 ghost use Rattle.std.specs.Int.{w32};
 ghost use Rattle.std.proofs.Common.{to_z};

@@ -1,5 +1,7 @@
 // The answers of the reads in bytes, as they cross the C boundary: 24 bytes, whose layout stands in specs/ReadAnswers, and in
 // specs/KeyHashes for a KeyHash; specs/WireAnswers says what wire time puts into it.
+#![tactic(auto)]
+
 ghost use Rattle.std.specs.Prelude.{◌≡◌, length};
 ghost use Rattle.octets.specs.Fields.{puts};
 ghost use Rattle.read_answers.specs.Cases.{read_of, refused_answer, decision_answer, handle_answer, time_answer, listing_answer, holder_answer, changes_answer};

@@ -1,4 +1,6 @@
 // A call's sheet: its 256 bytes as fields, and the refusals that the sheet alone decides.
+#![tactic(auto)]
+
 ghost use Rattle.std.specs.Prelude.{◌≡◌, true, [], ◌∷◌, ◌+◌, ◌≤◌, ◌<◌, min, length, take, drop};
 ghost use Rattle.model.specs.InstanceRecord.{flag};
 ghost use Rattle.model.specs.Calls.{instances};

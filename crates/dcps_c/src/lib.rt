@@ -1,5 +1,7 @@
 // The C boundary: every entry of dcps on bytes alone, numbers most significant byte first (include/dcps.h). None has a
 // `requires`: any bytes are answered, or refused with a number of documents 01 and 02 and nothing written but the answer.
+#![tactic(auto)]
+
 ghost use Rattle.std.specs.Prelude.{not, [], ◌≡◌, eqb, length};
 ghost use Rattle.boundary.specs.Layouts.{answer_bytes};
 ghost use Rattle.boundary_reads.specs.ReadAnswers.{told_of, told};

@@ -1,4 +1,6 @@
 // Keys and GUIDs: their bytes, their order, their equality and their prefix, as model's definitions say.
+#![tactic(auto)]
+
 ghost use Rattle.std.specs.Prelude.{◌≡◌, ◌+◌, ◌≤◌, length};
 ghost use Rattle.octets.specs.Octets.{put};
 ghost use Rattle.model.specs.Guids.{guid_at, less, same, same_prefix, nil};

@@ -4,13 +4,15 @@
 // Derives from instance_handle.rs of ZeroDDS.
 // Copyright 2026 ZeroDDS Contributors. SPDX-License-Identifier: Apache-2.0. Changed: written anew in Rattle, lent by `&mut`
 // in place of an atomic number.
+#![tactic(auto)]
+
 ghost use Rattle.std.specs.Prelude.{◌≡◌};
 ghost use Rattle.model.specs.Handles.{allocated};
 
 use model::{Allocated, InstanceHandle};
 
 // The number that is given next; 0, which is nil, is skipped.
-#[derive(Drop)]
+#[derive(Clone, Copy)]
 pub struct InstanceHandleAllocator {
     pub counter: u64,
 }

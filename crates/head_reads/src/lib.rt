@@ -3,6 +3,8 @@
 // Derives from liveliness_tracker.rs of ZeroDDS (status and changes).
 // Copyright 2026 ZeroDDS Contributors. SPDX-License-Identifier: Apache-2.0. Changed: written anew in Rattle, over the head by
 // value.
+#![tactic(auto)]
+
 ghost use Rattle.std.specs.Prelude.{◌≡◌};
 ghost use Rattle.model.specs.Reads.{head_alone, head_status, status_read, changes_read};
 ghost use Rattle.model.specs.Writers.{publication};

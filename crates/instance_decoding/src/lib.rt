@@ -4,6 +4,8 @@
 // Derives from instance_tracker.rs of ZeroDDS.
 // Copyright 2026 ZeroDDS Contributors. SPDX-License-Identifier: Apache-2.0. Changed: written anew in Rattle, with the
 // instance as bytes of a fixed layout.
+#![tactic(auto)]
+
 ghost use Rattle.std.specs.Prelude.{◌≡◌, ◌+◌, ◌*◌, ◌≤◌, length, drop};
 ghost use Rattle.model.specs.Guids.{guids_in};
 ghost use Rattle.model.specs.InstanceRecord.{kind_numbered, time_at, life_of, times_of, owner_of, holder_of, writer_set_of, state_by, instance_of};

@@ -5,6 +5,8 @@
 // Derives from instance_tracker.rs of ZeroDDS.
 // Copyright 2026 ZeroDDS Contributors. SPDX-License-Identifier: Apache-2.0. Changed: written anew in Rattle, over records in
 // lent bytes.
+#![tactic(auto)]
+
 ghost use Rattle.std.specs.Prelude.{true, ◌≡◌, ◌+◌, ◌<◌, ◌≤◌, ◌%◌, length};
 ghost use Rattle.model.specs.Guids.{less, guid_at};
 ghost use Rattle.model.specs.InstanceRecord.{flag, flags_at, instance_of};
@@ -18,7 +20,7 @@ use model::{Guid, MaybeTime};
 use tables::Found;
 
 // The GUIDs from low to high.
-#[derive(Drop)]
+#[derive(Clone, Copy)]
 pub struct Span {
     pub low: Guid,
     pub high: Guid,

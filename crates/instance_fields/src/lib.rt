@@ -4,6 +4,8 @@
 // Derives from instance_tracker.rs of ZeroDDS.
 // Copyright 2026 ZeroDDS Contributors. SPDX-License-Identifier: Apache-2.0. Changed: written anew in Rattle; an instance is
 // a value that goes in and comes back, and its writers are a set of fixed size.
+#![tactic(auto)]
+
 ghost use Rattle.std.specs.Prelude.{cond, ◌≡◌};
 ghost use Rattle.model.specs.Instances.{with_life, with_times, with_owner, with_holder, with_writers, with_kind, with_view, with_generations, with_writer_count, with_samples, with_last_sample, with_delivery, with_disposed_at, with_no_writers_at, with_owner_at, is_alive, is_disposed, revived, revived_new, sampled_at, stored, writer_noted};
 ghost use Rattle.model.specs.Times.{always, if_present, given};

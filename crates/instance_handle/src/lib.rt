@@ -3,6 +3,8 @@
 // Derives from instance_handle.rs of ZeroDDS.
 // Copyright 2026 ZeroDDS Contributors. SPDX-License-Identifier: Apache-2.0. Changed: written anew in Rattle, with the
 // counter as a plain number; the hash is over a slice of any length.
+#![tactic(auto)]
+
 ghost use Rattle.std.specs.Prelude.{◌≡◌};
 ghost use Rattle.model.specs.Handles.{handle, not_nil, allocated, fnv_step, fnv, from_guid};
 

@@ -4,6 +4,8 @@
 // Derives from instance_tracker.rs of ZeroDDS.
 // Copyright 2026 ZeroDDS Contributors. SPDX-License-Identifier: Apache-2.0. Changed: written anew in Rattle; an instance is
 // a value that goes in and comes back, and its writers are a set of fixed size.
+#![tactic(auto)]
+
 ghost use Rattle.std.specs.Prelude.{not, ◌&&◌, ◌≡◌, eqb, ◌-◌, max};
 ghost use Rattle.model.specs.Instances.{is_alive, is_disposed, writerless, writers_in, counted_down, without, registered, ensured, disposed, unregistered, writer_unregistered};
 ghost use Rattle.model.specs.Sets.{is_empty};

@@ -4,6 +4,8 @@
 // Derives from instance_tracker.rs of ZeroDDS.
 // Copyright 2026 ZeroDDS Contributors. SPDX-License-Identifier: Apache-2.0. Changed: written anew in Rattle, over records in
 // lent bytes, and for several writers at once.
+#![tactic(auto)]
+
 ghost use Rattle.std.specs.Prelude.{true, ◌&&◌, ◌≡◌, length};
 ghost use Rattle.octets.specs.Lay.{All};
 ghost use Rattle.model.specs.InstanceRecord.{flag, flags_at, instance_of, instance_bytes};
@@ -16,7 +18,7 @@ use instance_edits::Span;
 use model::MaybeTime;
 
 // Whether the instance is left writerless, and whether its owner was cleared.
-#[derive(Drop)]
+#[derive(Clone, Copy)]
 pub struct Told {
     pub left: bool,
     pub cleared: bool,

@@ -5,6 +5,8 @@
 // Derives from instance_tracker.rs of ZeroDDS.
 // Copyright 2026 ZeroDDS Contributors. SPDX-License-Identifier: Apache-2.0. Changed: written anew in Rattle; an instance is
 // a value that goes in and comes back.
+#![tactic(auto)]
+
 ghost use Rattle.std.specs.Prelude.{◌≡◌};
 ghost use Rattle.model.specs.Instances.{with_owner, no_owner, owns, outbids, takes_over, owned_from, ownership_tried, owner_cleared};
 

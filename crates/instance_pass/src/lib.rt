@@ -5,6 +5,8 @@
 // Derives from instance_tracker.rs of ZeroDDS.
 // Copyright 2026 ZeroDDS Contributors. SPDX-License-Identifier: Apache-2.0. Changed: written anew in Rattle, with the
 // instances as a table of records in lent bytes and every such call as a step on each.
+#![tactic(auto)]
+
 ghost use Rattle.std.specs.Prelude.{true, cond, List, ◌≡◌, ℕ, ◌+◌, ◌*◌, ◌≤◌, ◌<◌, length};
 ghost use Rattle.octets.specs.Lay.{All};
 ghost use Rattle.octets.specs.Octets.{put};
@@ -30,7 +32,7 @@ use instance_table::TableCall;
 use model::{Answer, Guid, InstanceCall, InstanceHandle, MaybeTime, Report, Sheet};
 
 // How many instances stay and are listed, and what was counted.
-#[derive(Drop)]
+#[derive(Clone, Copy)]
 pub struct PassCounts {
     pub kept: usize,
     pub listed: usize,

@@ -1,5 +1,7 @@
 // How many instance places there are, 32 or 128 (document 02, ticket 5): the head says it, or, where no head is lent, the
 // length of pens. And the lengths of the state's buffers, of which that of pens alone follows from it.
+#![tactic(auto)]
+
 ghost use Rattle.std.specs.Prelude.{◌&&◌, ◌≡◌, ◌*◌, ◌≤◌, eqb};
 ghost use Rattle.model.specs.State.{figure_ok, places_in};
 

@@ -7,6 +7,8 @@
 // Derives from instance_tracker.rs of ZeroDDS.
 // Copyright 2026 ZeroDDS Contributors. SPDX-License-Identifier: Apache-2.0. Changed: written anew in Rattle, over a table of
 // records in lent bytes.
+#![tactic(auto)]
+
 ghost use Rattle.std.specs.Prelude.{true, cond, List, map, ◌≡◌, ℕ, ◌+◌, ◌*◌, ◌/◌, ◌%◌, ◌≤◌, ◌<◌, length, drop};
 ghost use Rattle.octets.specs.Octets.{put};
 ghost use Rattle.model.specs.Guids.{num, guids_in};
@@ -30,7 +32,7 @@ use model::{
 use tables::Found;
 
 // Where a stored holder stands in the table: its first byte and its length.
-#[derive(Drop)]
+#[derive(Clone, Copy)]
 pub struct HolderPlace {
     pub stored: bool,
     pub offset: usize,

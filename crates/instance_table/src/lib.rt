@@ -4,6 +4,8 @@
 // Derives from instance_tracker.rs of ZeroDDS.
 // Copyright 2026 ZeroDDS Contributors. SPDX-License-Identifier: Apache-2.0. Changed: written anew in Rattle, with the map of
 // instances as a table of records in lent bytes.
+#![tactic(auto)]
+
 ghost use Rattle.std.specs.Prelude.{◌≡◌, ℕ, ◌+◌, ◌*◌, ◌<◌, ◌≤◌, true, ◌&&◌, List, ◌∷◌, ◌++◌, map, length, take, drop, slice_index, slice_set};
 ghost use Rattle.model.specs.Guids.{num};
 ghost use Rattle.model.specs.Instances.{has_handle};
@@ -19,7 +21,7 @@ use model::{Answer, Guid, Instance, InstanceHandle};
 use tables::Found;
 
 // What a call on the table leaves by value.
-#[derive(Drop)]
+#[derive(Clone, Copy)]
 pub struct TableCall {
     pub answer: Answer,
     pub count: u32,

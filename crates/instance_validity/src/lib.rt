@@ -4,6 +4,8 @@
 // Derives from instance_tracker.rs of ZeroDDS.
 // Copyright 2026 ZeroDDS Contributors. SPDX-License-Identifier: Apache-2.0. Changed: written anew in Rattle, with the
 // instance as bytes of a fixed layout.
+#![tactic(auto)]
+
 ghost use Rattle.std.specs.Prelude.{◌≡◌, true, ◌&&◌, ◌+◌, ◌*◌, ◌≤◌, ltb, length, drop};
 ghost use Rattle.octets.specs.Octets.{be};
 ghost use Rattle.model.specs.Guids.{num, less, guid_at, guids_in};
@@ -89,7 +91,7 @@ fn holder_ok(s: &[u8], f: u16) -> bool
 }
 
 // A GUID beside the one before it: whether it stands behind that one and, where it does, its low half.
-#[derive(Drop)]
+#[derive(Clone, Copy)]
 pub struct Next {
     pub rises: bool,
     pub low: u64,

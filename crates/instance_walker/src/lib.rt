@@ -1,5 +1,7 @@
 // A walker over the instance table: the table and a position. Each step gives the handle of the instance there, in key
 // order, then none. It is thin over instance_reads::handle_at_position and asks nothing of what it is lent.
+#![tactic(auto)]
+
 ghost use Rattle.std.specs.Prelude.{◌≡◌};
 ghost use Rattle.model.specs.Reads.{walk_read};
 ghost use Rattle.model.specs.State.{places_in};
@@ -8,7 +10,7 @@ ghost use Rattle.instance_walker.specs.Walk.{walked};
 use model::FoundHandle;
 
 // What a step answers, and where the walker stands after it.
-#[derive(Drop)]
+#[derive(Clone, Copy)]
 pub struct Walked {
     pub found: FoundHandle,
     pub position: usize,
@@ -33,7 +35,7 @@ pub fn step_by_value(pens: &[u8], position: usize) -> Walked
 }
 
 // Walks are in key order, from any position.
-#[derive(Drop)]
+#[derive(Clone, Copy)]
 pub struct InstanceWalker<'a> {
     pub pens: &'a [u8],
     pub position: usize,

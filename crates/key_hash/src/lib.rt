@@ -3,10 +3,12 @@
 // Derives from key_hash.rs of ZeroDDS.
 // Copyright 2026 ZeroDDS Contributors. SPDX-License-Identifier: Apache-2.0. Changed: written anew in Rattle; a key longer
 // than its stated largest size, and a stated size above 4,096, are refused.
+#![tactic(auto)]
+
 ghost use Rattle.std.specs.Prelude.{◌≡◌, ◌≤◌, length};
 ghost use Rattle.key_hash.specs.KeyHash.{refusal, padded_key, padded_or_hashed, key_hash_of};
 
-#[derive(Drop)]
+#[derive(Clone, Copy)]
 pub struct KeyHashed {
     pub number: u8,
     pub hash: [u8; 16],
@@ -44,7 +46,7 @@ fn padded_or_hashed(key: &[u8], largest: u64) -> [u8; 16]
     if largest <= 16 {
         return padded(key);
     }
-    md5::md5(key)
+    md5_digest::md5(key)
 }
 
 // The KeyHash of a serialized key, whose type's largest size is stated.

@@ -3,6 +3,8 @@
 // Derives from instance_tracker.rs and liveliness_tracker.rs of ZeroDDS.
 // Copyright 2026 ZeroDDS Contributors. SPDX-License-Identifier: Apache-2.0. Changed: written anew in Rattle, with the state
 // lent as head and buffers.
+#![tactic(auto)]
+
 ghost use Rattle.std.specs.Prelude.{List, ◌≡◌, ℕ, ◌*◌, length};
 ghost use Rattle.model.specs.Call.{lent_of};
 ghost use Rattle.model.specs.WellFormed.{well_formed};

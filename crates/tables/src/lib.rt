@@ -1,4 +1,6 @@
 // Tables in a slice: records of one size end to end, each with a 16-byte key in front, the keys rising.
+#![tactic(auto)]
+
 ghost use Rattle.std.specs.Prelude.{true, ◌≡◌, ◌+◌, ◌*◌, ◌≤◌, ◌<◌, length};
 ghost use Rattle.model.specs.Guids.{num};
 ghost use Rattle.tables.specs.Keys.{keys, rising};
@@ -8,7 +10,7 @@ ghost use Rattle.tables.specs.Gaps.{opened, closed};
 use model::Guid;
 
 // Where a key was looked for: the place of its record, or the place where its record would go in.
-#[derive(Drop)]
+#[derive(Clone, Copy)]
 pub enum Found {
     At(usize),
     Missing(usize),

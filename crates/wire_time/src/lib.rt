@@ -1,5 +1,7 @@
 // Wire time (document 02, ticket 4): nanoseconds below 10^9 as the 32-bit fraction of a second that the stamps of RTPS carry,
 // with the remainder of the division, so that nothing is dropped.
+#![tactic(auto)]
+
 mod table;
 
 ghost use Rattle.std.specs.Prelude.{◌≡◌, ◌<◌, ◌^◌};
@@ -7,7 +9,7 @@ ghost use Rattle.wire_time.specs.WireTime.{fraction_of, remainder_of, entry_of, 
 
 use table::FRACTIONS;
 
-#[derive(Drop)]
+#[derive(Clone, Copy)]
 pub struct WireFraction {
     pub number: u8,
     pub fraction: u32,

@@ -3,6 +3,8 @@
 // Derives from liveliness_tracker.rs of ZeroDDS (DDS 1.4, 2.2.3.11 and 2.2.4.1).
 // Copyright 2026 ZeroDDS Contributors. SPDX-License-Identifier: Apache-2.0. Changed: written anew in Rattle, with the state
 // lent as head and buffers.
+#![tactic(auto)]
+
 ghost use Rattle.std.specs.Prelude.{true, List, ◌≡◌, ℕ, length};
 ghost use Rattle.model.specs.Calls.{tracker};
 ghost use Rattle.model.specs.Refusals.{sheet_refusal};

@@ -3,6 +3,8 @@
 // Derives from liveliness_tracker.rs of ZeroDDS.
 // Copyright 2026 ZeroDDS Contributors. SPDX-License-Identifier: Apache-2.0. Changed: written anew in Rattle, the tracker's
 // fields as the head by value.
+#![tactic(auto)]
+
 ghost use Rattle.std.specs.Prelude.{true, ◌≡◌, ◌+◌, ◌-◌, ◌≤◌, pos, ◌-ℤ◌};
 ghost use Rattle.model.specs.State.{class_of, is_alive_class, is_not_alive_class};
 ghost use Rattle.model.specs.WellFormed.{within};

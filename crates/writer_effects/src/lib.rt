@@ -3,6 +3,8 @@
 // Derives from liveliness_tracker.rs of ZeroDDS (DDS 1.4, 2.2.3.11 and 2.2.4.1).
 // Copyright 2026 ZeroDDS Contributors. SPDX-License-Identifier: Apache-2.0. Changed: written anew in Rattle, each effect
 // as a function of the writer's value.
+#![tactic(auto)]
+
 ghost use Rattle.std.specs.Prelude.{◌&&◌, ◌≡◌};
 ghost use Rattle.std.proofs.Math.Option.{none, some};
 ghost use Rattle.model.specs.State.{class_of, is_alive_class, is_not_alive_class};
@@ -12,7 +14,7 @@ ghost use Rattle.writer_effects.specs.Acts.{assertion_of, class_number};
 use model::{Guid, Liveliness, LivelinessKind, MaybeLease, Sheet, Writer, WriterState};
 
 // An assertion: whom it names or whose prefix it gives, whether it names that writer, whether it is manual, and its clock.
-#[derive(Drop)]
+#[derive(Clone, Copy)]
 pub struct Assertion {
     pub guid: Guid,
     pub named: bool,

@@ -4,6 +4,8 @@
 // Derives from liveliness_tracker.rs of ZeroDDS (DDS 1.4, 2.2.2.5.1.3, 2.2.3.9.2 and 2.2.4.1).
 // Copyright 2026 ZeroDDS Contributors. SPDX-License-Identifier: Apache-2.0. Changed: written anew in Rattle, Lost as a
 // list of GUIDs in lent bytes.
+#![tactic(auto)]
+
 ghost use Rattle.std.specs.Prelude.{true, ◌≡◌, ◌+◌, ◌≤◌, length};
 ghost use Rattle.model.specs.State.{writers_in};
 ghost use Rattle.model.specs.WellFormed.{lost_ok};

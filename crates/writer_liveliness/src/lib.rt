@@ -4,6 +4,8 @@
 // Derives from liveliness_tracker.rs of ZeroDDS (DDS 1.4, 2.2.3.11 and 2.2.4.1).
 // Copyright 2026 ZeroDDS Contributors. SPDX-License-Identifier: Apache-2.0. Changed: written anew in Rattle, the tracked
 // and the departed writers as ordered records in lent bytes.
+#![tactic(auto)]
+
 ghost use Rattle.std.specs.Prelude.{true, false, cond, ◌≡◌, ◌+◌, ◌-◌, ◌*◌, ◌<◌, take, drop};
 ghost use Rattle.octets.specs.Patch.{patch};
 ghost use Rattle.model.specs.declared.TrackerCall.TheVariants.{Matched, Unmatched, LostWithParticipant, WriterAsserted, ParticipantAsserted};

@@ -4,6 +4,8 @@
 // Derives from liveliness_tracker.rs of ZeroDDS (renew_participant and expire).
 // Copyright 2026 ZeroDDS Contributors. SPDX-License-Identifier: Apache-2.0. Changed: written anew in Rattle, over records
 // in lent bytes.
+#![tactic(auto)]
+
 ghost use Rattle.std.specs.Prelude.{true, false, not, ◌&&◌, cond, ◌++◌, map, ◌≡◌, ◌+◌, ◌-◌, ◌*◌, ◌≤◌, ◌<◌, ◌^◌, length, take, drop};
 ghost use Rattle.octets.specs.Lay.{lay};
 ghost use Rattle.octets.specs.Patch.{patch};
@@ -22,14 +24,14 @@ use model::{Guid, LastWriter, MaybeDue, Writer, WriterState};
 use writer_effects::Assertion;
 
 // How many writers are of each class that is counted.
-#[derive(Drop)]
+#[derive(Clone, Copy)]
 pub struct Counts {
     pub alive: u32,
     pub not_alive: u32,
 }
 
 // What a pass leaves by value: the counts, how many changed class, and the last writer after them.
-#[derive(Drop)]
+#[derive(Clone, Copy)]
 pub struct Tally {
     pub counts: Counts,
     pub moved: u32,
@@ -37,7 +39,7 @@ pub struct Tally {
 }
 
 // How many writers expire, and when the next lease of the others runs out.
-#[derive(Drop)]
+#[derive(Clone, Copy)]
 pub struct Dues {
     pub gone: u32,
     pub next: MaybeDue,

@@ -4,6 +4,8 @@
 // Derives from liveliness_tracker.rs of ZeroDDS.
 // Copyright 2026 ZeroDDS Contributors. SPDX-License-Identifier: Apache-2.0. Changed: written anew in Rattle, the map of
 // tracked writers as ordered records in lent bytes.
+#![tactic(auto)]
+
 ghost use Rattle.std.specs.Prelude.{true, ◌≡◌, ◌+◌, ◌*◌, ◌/◌, ◌%◌, ◌≤◌, ◌<◌, ◌^◌, length, take, drop};
 ghost use Rattle.octets.specs.Patch.{patch};
 ghost use Rattle.model.specs.InstanceRecord.{bit};

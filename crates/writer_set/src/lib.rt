@@ -1,4 +1,6 @@
 // The writer set of an instance, by value: up to 16 GUIDs, strictly rising. What its functions give stands in model's Sets.
+#![tactic(auto)]
+
 ghost use Rattle.std.specs.Prelude.{◌≡◌, ◌≤◌, ◌<◌, length, take};
 ghost use Rattle.model.specs.Sets.{members, set_of, has, insert, remove, is_empty};
 ghost use Rattle.writer_set.specs.Places.{Sound, stops_at, passed, inserted_at, removed_at};

@@ -3,6 +3,8 @@
 // Derives from instance_tracker.rs of ZeroDDS.
 // Copyright 2026 ZeroDDS Contributors. SPDX-License-Identifier: Apache-2.0. Changed: written anew in Rattle, over records in
 // lent bytes.
+#![tactic(auto)]
+
 ghost use Rattle.std.specs.Prelude.{[], ◌∷◌, ◌≡◌, ◌+◌, ◌*◌, ◌/◌, ◌≤◌, ◌<◌, length, drop};
 ghost use Rattle.octets.specs.Patch.{patch};
 ghost use Rattle.model.specs.Guids.{num, same, guid_at, guids_in, guid_bytes, guids_bytes};
@@ -18,7 +20,7 @@ use model::Guid;
 use tables::Found;
 
 // Where a GUID of a list stands beside one of a set.
-#[derive(Drop)]
+#[derive(Clone, Copy)]
 pub enum Beside {
     Before,
     Same,
@@ -26,7 +28,7 @@ pub enum Beside {
 }
 
 // A walk over a set and a list: the places in both, and how many of the set stay.
-#[derive(Drop)]
+#[derive(Clone, Copy)]
 pub struct Walk {
     pub i: usize,
     pub j: usize,

@@ -3,6 +3,8 @@
 // Derives from liveliness_tracker.rs of ZeroDDS (DDS 1.4, 2.2.4.1).
 // Copyright 2026 ZeroDDS Contributors. SPDX-License-Identifier: Apache-2.0. Changed: written anew in Rattle, the tracker's
 // fields as the head by value, the reported changes as the sheet's bits.
+#![tactic(auto)]
+
 ghost use Rattle.std.specs.Prelude.{true, List, ◌≡◌, ℕ, ◌≤◌, pos, ◌+ℤ◌, ◌-ℤ◌};
 ghost use Rattle.std.specs.Int.{w32};
 ghost use Rattle.std.proofs.Common.{to_z};

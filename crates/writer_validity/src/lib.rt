@@ -1,5 +1,7 @@
 // The writers' side of the lent state: whether writers, Lost and head are well formed. What that means stands in model's
 // WellFormed.
+#![tactic(auto)]
+
 ghost use Rattle.std.specs.Prelude.{◌&&◌, ◌||◌, cond, ◌≡◌, ◌+◌, ◌*◌, ◌≤◌, ◌<◌, eqb, pos, ◌-ℤ◌, length, take, drop};
 ghost use Rattle.model.specs.Guids.{less};
 ghost use Rattle.model.specs.State.{writers_in};

@@ -1,5 +1,7 @@
 // Zeros in a slice, looked at by words: behind what a record's part holds 32 bytes a turn, behind a table's records 64.
 // Each turn ends the scan where it finds another byte.
+#![tactic(auto)]
+
 ghost use Rattle.std.specs.Prelude.{◌≡◌, ◌+◌, ◌-◌, ◌≤◌, length, take, drop};
 ghost use Rattle.octets.specs.Zeros.{all_zero};
 

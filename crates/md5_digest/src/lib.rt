@@ -1,13 +1,15 @@
 // The MD5 message digest of RFC 1321, of a message of any length. It is here because the KeyHash of DDSI-RTPS makes long keys
 // short by it; it keeps no forger out.
+#![tactic(auto)]
+
 ghost use Rattle.std.specs.Prelude.{◌≡◌, ◌+◌, ◌*◌, ◌/◌, ◌%◌, ◌^◌, ◌<◌, ◌≤◌, length, slice_index};
 ghost use Rattle.octets.specs.Patch.{patch};
-ghost use Rattle.md5.specs.Md5.{word, low_first, rotated, bit_length, initial, mixed, words, operation, steps, added, block, blocks, digest, md5_of};
-ghost use Rattle.md5.specs.Tail.{tail_of};
-ghost use Rattle.md5.specs.declared.Round.TheVariants.{First, Second, Third, Fourth};
+ghost use Rattle.md5_digest.specs.Md5.{word, low_first, rotated, bit_length, initial, mixed, words, operation, steps, added, block, blocks, digest, md5_of};
+ghost use Rattle.md5_digest.specs.Tail.{tail_of};
+ghost use Rattle.md5_digest.specs.declared.Round.TheVariants.{First, Second, Third, Fourth};
 
 // The four-word buffer (A, B, C, D).
-#[derive(Drop)]
+#[derive(Clone, Copy)]
 pub struct Registers {
     pub a: u32,
     pub b: u32,
@@ -15,7 +17,7 @@ pub struct Registers {
     pub d: u32,
 }
 
-#[derive(Drop)]
+#[derive(Clone, Copy)]
 pub enum Round {
     First,
     Second,
