@@ -30,7 +30,7 @@ use Rattle.model.specs.Tables.{find}
 use Rattle.model.specs.Writers.{movers, tracker_late, tracker_turn, tracker_call}
 use Rattle.model.proofs.Fits.{FitsGuid}
 use Rattle.accounts.specs.Accounts.{Accounts, accepted, Lending, event_of, next, SheetBytes}
-use Rattle.accounts.specs.InstanceAccounts.{Event, reach}
+use Rattle.accounts.specs.InstanceAccounts.{Event}
 use Rattle.accounts.proofs.Basics.{either, never, missing}
 use Rattle.accounts.proofs.Demand3.{call_cases, After, anew}
 use Rattle.accounts.proofs.InStep.{InStep}

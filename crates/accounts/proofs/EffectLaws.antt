@@ -5,7 +5,7 @@
 --     two-times          both times of a sheet
 use mathlib.Core.Bool.{true, false, not, ◌&&◌}
 use mathlib.Core.List.{List, [], ◌∷◌}
-use mathlib.Core.Option.{Option, some}
+use mathlib.Core.Option.{Option}
 use mathlib.Core.Path.{◌≡◌, refl}
 use Prim.Native.Nat.{ℕ, zero, suc, ◌^◌, ◌≤◌, ◌<◌}
 use native.Mathlib.Omega.{arith}
@@ -18,7 +18,7 @@ use Rattle.model.specs.declared.MaybeTime.{MaybeTime}
 use Rattle.model.specs.declared.Sheet.{Sheet}
 use Rattle.model.specs.declared.InstanceCall.{InstanceCall}
 use Rattle.model.specs.Guids.{num}
-use Rattle.model.specs.Instances.{writers_in, disposed, without, no_owner, effect, rule, started_state}
+use Rattle.model.specs.Instances.{writers_in, no_owner, effect, rule, started_state}
 use Rattle.model.specs.Joined.{left_without_all}
 use Rattle.model.specs.Refusals.{nanoseconds_ok, times_used_by, holder_used_by}
 use Rattle.model.specs.Sets.{set_of, empty_set, has}

@@ -29,7 +29,7 @@ use Rattle.model.specs.Instances.{rule, limited_by, has_key}
 use Rattle.model.specs.Joined.{admitted, admit_with, after_loss, loss_call}
 use Rattle.model.specs.Refusals.{times_used, clocks_used, clocks_used_by, holder_used, holder_fits, kind_ok, acknowledge_ok, nanoseconds_ok, optional, sheet_refusal}
 use Rattle.model.specs.State.{State, fresh_state, instance_key, writer_key, Lent, lay_out}
-use Rattle.model.specs.Tables.{all, is_some, find, rising}
+use Rattle.model.specs.Tables.{all, is_some, find}
 use Rattle.model.specs.Times.{if_present}
 use Rattle.model.specs.WellFormed.{clock_ok, instance_ok, other_handle, handles_distinct, handle_below, instances_ok, writer_ok, writers_ok, within, valid}
 use Rattle.model.specs.Writers.{movers, tracker_late, tracker_state, tracker_turn, tracker_call, acknowledgeable}

@@ -37,7 +37,7 @@ use Rattle.model.specs.declared.InstanceCall.TheVariants.{Register as register, 
 use Rattle.model.specs.declared.JoinedCall.TheVariants.{Admit as admit}
 use Rattle.model.specs.Calls.{Call, instances, tracker, joined}
 use Rattle.model.specs.Guids.{num}
-use Rattle.model.specs.Handles.{handle, not_nil, allocated}
+use Rattle.model.specs.Handles.{not_nil, allocated}
 use Rattle.model.specs.InstanceCalls.{known, begins, begun, next_after, kept, acts, instances_after, handle_answer, samples_answer, info_answer, reached, answer_of, reported, told, instance_turn}
 use Rattle.model.specs.InstanceRecord.{bit}
 use Rattle.model.specs.Instances.{effect, rule, has_key, reaches_by, reaches, starts_by, limited_by, is_every, on_every, started, owned_from, ownership_tried, admitted_observed, admitted_noted}

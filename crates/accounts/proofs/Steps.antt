@@ -34,7 +34,7 @@ use Rattle.model.proofs.Fits.{FitsGuid}
 use Rattle.model.proofs.Tests.{both, split}
 use Rattle.model.proofs.TrackerLaws.{tracker_unhanded}
 use Rattle.accounts.specs.Accounts.{seen_as, gone_by, Accounts, advance_by}
-use Rattle.accounts.specs.InstanceAccounts.{Event, on_present, losing, reach}
+use Rattle.accounts.specs.InstanceAccounts.{Event, on_present, losing}
 use Rattle.accounts.specs.WriterAccounts.{WriterAccounts, hear, heard_by, writers_after, expired_in}
 use Rattle.accounts.proofs.Basics.{never, either}
 use Rattle.accounts.proofs.InstanceTurns.{InstanceSim, tracker-heard, limit_heard, stopped_heard, instance-heard, admitted-is, admit-heard, loss_heard}
@@ -119,7 +119,7 @@ instance_turned places c s st acc f m ok =
     (λ e.
     rw (l, e) record {
       writers = instance-writers c s st acc.writers m.writers;
-      instances = instance-heard st acc.instances c s [] _ f (roomy places c s st e).handles m.instances;
+      instances = instance-heard st acc.instances c s [] (instance_turn c s st).answer.outcome f (roomy places c s st e).handles m.instances;
     })
     (λ e. never (sym (rw (l, e) at ok) ∙ e)))
 
@@ -136,7 +136,9 @@ tracker_turned c s st acc g f m ok =
     rw e record {
       writers = writer-heard c s st acc.writers g f m.writers;
       instances =
-          unfold tracker_state in tracker-heard st (tracker_state c s st) acc.instances c _ [] refl refl
+          unfold tracker_state in tracker-heard st (tracker_state c s st) acc.instances c
+          (heard_of s (tracker_turn c s st).answer)
+          (gone_by (tracker c) s (expired_in acc.writers.at (writers_after c s acc.writers.at))) refl refl
           (tracker_unhanded c s st) m.instances;
     })
     (λ e. never (sym (rw e at ok) ∙ e))

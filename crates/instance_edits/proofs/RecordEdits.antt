@@ -27,7 +27,7 @@ use Rattle.model.specs.declared.InstanceStateKind.TheVariants.{Alive, NotAliveDi
 use Rattle.model.specs.declared.MaybeTime.{MaybeTime}
 use Rattle.model.specs.Guids.{guids_bytes}
 use Rattle.model.specs.InstanceRecord.{flags_of, instance_bytes, instance_values, instance_widths, kind_number, kind_numbered}
-use Rattle.model.specs.Instances.{is_alive, no_owner, with_kind, with_last_sample, with_life, with_no_writers_at, with_owner, with_set, with_times, writers_in}
+use Rattle.model.specs.Instances.{is_alive, no_owner, with_kind, with_last_sample, with_life, with_no_writers_at, with_owner, with_set, with_times}
 use Rattle.model.specs.Sets.{set_of, is_empty}
 use Rattle.model.proofs.FlagLaws.{flags_apart, flags_small}
 use Rattle.model.proofs.GuidLaws.{length_guids}

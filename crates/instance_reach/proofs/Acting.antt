@@ -16,7 +16,7 @@ use Rattle.model.specs.declared.Instance.{Instance}
 use Rattle.model.specs.declared.InstanceCall.{InstanceCall}
 use Rattle.model.specs.declared.InstanceState.{InstanceState}
 use Rattle.model.specs.declared.Sheet.{Sheet}
-use Rattle.model.specs.Guids.{num, same}
+use Rattle.model.specs.Guids.{num}
 use Rattle.model.specs.InstanceCalls.{crowds}
 use Rattle.model.specs.Instances.{effect, rule, writers_in}
 use Rattle.model.specs.Sets.{has, insert}

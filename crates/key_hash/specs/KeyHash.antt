@@ -1,7 +1,7 @@
 -- Document 02, ticket 2: the KeyHash of DDSI-RTPS 2.5 (9.6.4.8), from a serialized key and the largest size that the caller
 -- states for its type.
 use Rattle.std.specs.Prelude.{ℕ, ◌-◌, cond, List, ◌++◌, eqb, leb, ltb, length, replicate}
-use Rattle.md5.specs.Md5.{md5_of}
+use Rattle.md5_digest.specs.Md5.{md5_of}
 use Rattle.key_hash.specs.declared.KeyHashed.{KeyHashed}
 
 -- the largest size that may be stated

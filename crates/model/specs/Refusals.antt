@@ -6,7 +6,7 @@ use Rattle.model.specs.declared.ClockUse.{ClockUse}
 use Rattle.model.specs.declared.ClockUse.TheVariants.{NoClock, Clock, ClockAndLease}
 use Rattle.model.specs.declared.MaybeTime.{MaybeTime}
 use Rattle.model.specs.declared.Sheet.{Sheet}
-use Rattle.model.specs.Calls.{Call, instances, tracker, joined, InstanceCall, TrackerCall, matched, acknowledge, JoinedCall, admit, lapse, part, depart}
+use Rattle.model.specs.Calls.{Call, instances, tracker, joined, InstanceCall, TrackerCall, JoinedCall, admit, lapse, part, depart}
 use Rattle.model.specs.Guids.{guid_size}
 use Rattle.model.specs.InstanceRecord.{instance_size, holder_places}
 use Rattle.model.specs.Instances.{FieldUse, Never, IfPresent, Always, rule}

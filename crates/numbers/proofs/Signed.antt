@@ -19,7 +19,7 @@ cast_as e h = rw e (tt, record { fits = h })
 
 -- a number of 32 bits, widened
 pub wide : {x : ℤ} → SFits w32 x → to_z w64 (of_z w64 (to_z w32 (of_z w32 x))) ≡ x
-wide f = back (to_z-of_z f) (sfits_widen tt f)
+wide f = back {w = w64} (to_z-of_z f) (sfits_widen (tt {0}) f)
 
 -- the number of 32 bits plus 2^31, and raised bits less 2^31
 pub raised-sum : {b : ℕ} → b < 2 ^ 32 → pos (2 ^ 31) +ℤ to_z w32 b ≡ pos (raised b)

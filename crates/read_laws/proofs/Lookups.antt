@@ -10,7 +10,7 @@ use Prim.Native.Nat.{ℕ, zero, suc}
 use mathlib.Core.Bool.{Bool, true, false, not, or-true, or-false, and-false}
 use mathlib.Core.List.{List, [], ◌∷◌}
 use mathlib.Core.Option.{Option, none, some, none-ne-some, some-injective}
-use mathlib.Core.Path.{◌≡◌, refl, sym, ap, ◌∙◌}
+use mathlib.Core.Path.{◌≡◌, refl, sym, ap, ◌∙◌, subst}
 use borrow.Author.Tests.{eq-eqb, ne_eqb, eqb-true, ltb-true, le-leb, lt-leb}
 use native.Mathlib.Omega.{arith}
 use lib.Dec.{eqb, ltb}
@@ -72,7 +72,8 @@ module _ (g : Guid) where
   lowest (y ∷ ys) r x e =
       let b = both (above instance_key (instance_key y) ys) (rising instance_key ys) r in
       split (writes g y)
-      (λ w. let q : y ≡ x = some-injective y x (rw w at e) in rw (← q, le-leb (instance_key y) (instance_key y) (omega arith), or-true (not (writes g y))) (behind y ys b.0))
+      (λ w. subst (λ (z : Instance). all (not_below g z) (y ∷ ys) ≡ true) (some-injective y x (rw w at e))
+      (rw (le-leb (instance_key y) (instance_key y) (omega arith), or-true (not (writes g y))) (behind y ys b.0)))
       (λ w. rw w (lowest ys b.1 x (rw w at e)))
 
   found_writes : (xs : List Instance) (x : Instance) → first_written g xs ≡ some x → writes g x ≡ true

@@ -17,7 +17,6 @@ use lib.ListN.{length, take, drop, replicate, length-append, length-drop, take-a
 use lib.Seq.{drop_at, drop-drop, drop-length, length-take-le}
 use Rattle.octets.specs.Bounds.{Bytes}
 use Rattle.octets.specs.Lay.{rows}
-use Rattle.octets.specs.Octets.{put}
 use Rattle.octets.specs.Patch.{patch, digits}
 use Rattle.octets.proofs.LayLaws.{rows_append}
 use Rattle.octets.proofs.PatchLaws.{take-patch, drop-patch, length-patch}

@@ -3,12 +3,12 @@
 --     During                            the pass at record i: its laws are start, stop_key, stop_record, turn and end
 --     table_agrees                      the whole test of the table and of both counts, from its parts in the order of the code
 use Prim.Native.Nat.{ℕ, zero, suc, ◌+◌, ◌-◌, ◌*◌, ◌≤◌, ◌<◌}
-use mathlib.Core.Bool.{Bool, true, false, ◌&&◌, ◌||◌, cond, and-false, and_assoc}
+use mathlib.Core.Bool.{Bool, true, false, ◌&&◌, ◌||◌, cond, and-false}
 use mathlib.Core.Path.{◌≡◌, refl, sym, ap, ap₂, ◌∙◌}
-use mathlib.Core.List.{List, [], ◌∷◌}
-use native.Mathlib.Nat.{sub-zero, zero-mul, zero-add}
+use mathlib.Core.List.{List, ◌∷◌}
+use native.Mathlib.Nat.{sub-zero, zero-add}
 use native.Mathlib.Omega.{arith}
-use lib.Dec.{eqb, leb, ltb, eqb-suc-zero}
+use lib.Dec.{eqb, leb, eqb-suc-zero}
 use lib.ListN.{length, take, drop}
 use Rattle.octets.specs.Zeros.{all_zero}
 use Rattle.model.specs.declared.Guid.{Guid}

@@ -1,7 +1,0 @@
--- A refused call.
-use borrow.Author.Rules.{rules}
-use Rattle.answers.proofs.refused.Statement.{statement}
-use Rattle.answers.proofs.refused.Tie as tie
-
-pub refused-spec : {M : Type 1} → statement M
-refused-spec = tie.close (tie.spec (λ c κs. search rules) (λ c. rw c.refused-with.ensures))
