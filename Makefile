@@ -23,9 +23,8 @@ FILL := sed -e 's/@VERSION@/$(VERSION)/' -e 's/@MAJOR@/$(MAJOR)/' -e 's/@MINOR@/
 help:
 	@sed -n 's/^\([a-z-]*\):.*## /\1\t/p' $(MAKEFILE_LIST) | expand -t 20
 
-# more provers than processors keep them busy, since rt waits for a whole row of them
-prove: ## proves every crate from nothing, tries the must-fail edits, runs the programs
-	RT_JOBS="$${RT_JOBS:-4}" rt ci
+prove: ## proves every crate, tries the must-fail edits, runs the programs (rt ci)
+	.ci/proofs
 
 lib: ## the proved static library, target/staticlib/libdcps_c.a
 	package/staticlib
@@ -33,6 +32,7 @@ lib: ## the proved static library, target/staticlib/libdcps_c.a
 $(LIB):
 	@echo "$(LIB) is not there: run make lib, or name it by LIB=" >&2; exit 1
 
+# rt ci takes no links in the checkout, so that dist and install leave no stage
 stage: library
 	rm -rf $(STAGE)
 	mkdir -p $(STAGE)/lib/pkgconfig $(STAGE)/lib/cmake/dcps $(STAGE)/include $(STAGE)/share/doc/dcps/pictures $(STAGE)/share/dcps/examples
@@ -55,11 +55,13 @@ dist: stage ## the package for C, target/dist/dcps-VERSION-x86_64-linux.tar.gz
 	cd $(STAGE) && find . -type f ! -name SHA256SUMS | LC_ALL=C sort | xargs sha256sum > SHA256SUMS
 	tar --sort=name --mtime=@0 --mode=u+rwX,go+rX,go-w --owner=0 --group=0 --numeric-owner -C target/dist -cf - $(NAME) | gzip -9n > $(STAGE).tar.gz
 	cd target/dist && sha256sum $(NAME).tar.gz > $(NAME).tar.gz.sha256
+	rm -rf $(STAGE)
 	@echo $(STAGE).tar.gz
 
 install: stage ## the package's files to PREFIX (/usr/local)
 	mkdir -p "$(DESTDIR)$(PREFIX)"
 	cp -R $(STAGE)/lib $(STAGE)/include $(STAGE)/share "$(DESTDIR)$(PREFIX)"
+	rm -rf $(STAGE)
 
 check: $(LIB) ## the C examples, the package, the Rust crates
 	examples/check

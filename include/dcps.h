@@ -65,9 +65,9 @@
  *     dcps_holder_in_force refuses no pens: it then answers that nothing is stored. Pens has to have 512 bytes for each place
  *     of the head.
  *     A function writes only within the lengths that it is given, and it always returns. What it writes is what the
- *     definitions say: crates/model/specs of the source; for keys crates/key_hash/specs and crates/md5/specs; for wire time
- *     crates/wire_time/specs. This is proved for the source, not for the compiler that made the library. dcps_fresh has no
- *     answer, only its number. dcps_version takes nothing, and what it returns is no refusal.
+ *     definitions say: crates/model/specs of the source; for keys crates/key_hash/specs and crates/md5_digest/specs; for wire
+ *     time crates/wire_time/specs. This is proved for the source, not for the compiler that made the library. dcps_fresh has
+ *     no answer, only its number. dcps_version takes nothing, and what it returns is no refusal.
  *
  * What is not covered
  *     A null pointer, even with length 0. A pointer to fewer bytes than its length says. Two pointers of one call whose bytes

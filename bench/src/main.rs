@@ -38,7 +38,7 @@ const THERE: &str = "the Rust, whose sources are there";
 
 fn main() {
     if !library::PRESENT {
-        println!("SKIPPED: no libdcps_c.a (rt staticlib dcps_c, or set DCPS_LIB_DIR)");
+        println!("SKIPPED: no libdcps_c.a (make lib, or set DCPS_LIB_DIR)");
         return;
     }
     if !original::PRESENT {

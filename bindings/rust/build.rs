@@ -1,4 +1,4 @@
-//! Links libdcps_c.a, from the directory DCPS_LIB_DIR or from where `rt staticlib dcps_c` writes it. Without it the
+//! Links libdcps_c.a, from the directory DCPS_LIB_DIR or from where `make lib` writes it. Without it the
 //! documentation can be built, and nothing else: src/lib.rs says so.
 
 use std::env;

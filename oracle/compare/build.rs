@@ -1,5 +1,5 @@
 //! Links libdcps_c.a, from the directory DCPS_LIB_DIR or from where
-//! `rt staticlib dcps_c` writes it; without it the crate builds and says so.
+//! `make lib` writes it; without it the crate builds and says so.
 
 use std::env;
 use std::path::PathBuf;

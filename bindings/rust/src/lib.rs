@@ -10,7 +10,7 @@
 
 #[cfg(not(any(dcps_library, doc)))]
 compile_error!(
-    "libdcps_c.a is not there: run `rt staticlib dcps_c`, or name the directory that has it in DCPS_LIB_DIR"
+    "libdcps_c.a is not there: run `make lib`, or name the directory that has it in DCPS_LIB_DIR"
 );
 
 #[cfg(feature = "alloc")]

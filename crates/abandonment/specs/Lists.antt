@@ -1,26 +1,22 @@
 -- The smallest lists that show what the claims do not say, and what they do: one instance, of key 7 and handle 1, and the
 -- writers 1 and 2, from the fresh state with 128 places. The calls are made on records; each list's ending is a row.
-use Prim.Native.Nat.{ℕ}
-use mathlib.Core.Bool.{Bool, true, false}
-use mathlib.Core.List.{List, [], _∷_, map}
-use mathlib.Core.Option.{Option, none, some}
-use mathlib.Core.Path.{_≡_}
-use lib.ListN.{replicate}
-use Rattle·model.specs.declared.Guid.{Guid}
-use Rattle·model.specs.declared.Instance.{Instance}
-use Rattle·model.specs.declared.Sheet.{Sheet}
-use Rattle·model.specs.Call.{turn}
-use Rattle·model.specs.Calls.{Call, callOfCode}
-use Rattle·model.specs.Guids.{num}
-use Rattle·model.specs.Handles.{handle}
-use Rattle·model.specs.InstanceCalls.{Turned, refused}
-use Rattle·model.specs.InstanceRecord.{holderPlaces}
-use Rattle·model.specs.Instances.{hasKey, isAlive, writersIn}
-use Rattle·model.specs.State.{State, freshState, largePlaces}
-use Rattle·model.specs.Tables.{find}
-use Rattle·model.specs.Times.{noTime}
-use Rattle·accounts.specs.InstanceAccounts.{Event}
-use Rattle·abandonment·specs.specs.Standing.{standOf}
+use Rattle.std.specs.Prelude.{ℕ, Bool, true, false, List, [], ◌∷◌, map, ◌≡◌, replicate}
+use Rattle.std.proofs.Math.Option.{Option, none, some}
+use Rattle.model.specs.declared.Guid.{Guid}
+use Rattle.model.specs.declared.Instance.{Instance}
+use Rattle.model.specs.declared.Sheet.{Sheet}
+use Rattle.model.specs.Call.{turn}
+use Rattle.model.specs.Calls.{Call, call_of_code}
+use Rattle.model.specs.Guids.{num}
+use Rattle.model.specs.Handles.{handle}
+use Rattle.model.specs.InstanceCalls.{Turned, refused}
+use Rattle.model.specs.InstanceRecord.{holder_places}
+use Rattle.model.specs.Instances.{has_key, is_alive, writers_in}
+use Rattle.model.specs.State.{State, fresh_state, large_places}
+use Rattle.model.specs.Tables.{find}
+use Rattle.model.specs.Times.{no_time}
+use Rattle.accounts.specs.InstanceAccounts.{Event}
+use Rattle.abandonment.specs.Standing.{stand_of}
 
 abbrev guid : ℕ → Guid
 guid n = record { hi = 0; lo = n }
@@ -32,38 +28,38 @@ sheet code writer a b strength leased kind =
       key = guid 7;
       guid = guid writer;
       handle = handle 1;
-      «time_1» = noTime;
-      «time_2» = noTime;
+      time_1 = no_time;
+      time_2 = no_time;
       a = a;
       b = b;
       first = 1;
       second = strength;
-      «deadline_present» = false;
-      «lease_present» = leased;
+      deadline_present = false;
+      lease_present = leased;
       manual = false;
-      «by_source» = false;
+      by_source = false;
       kind = kind;
       code = code;
-      holder = record { present = false; len = 0; bytes = replicate holderPlaces 0 };
+      holder = record { present = false; len = 0; bytes = replicate holder_places 0 };
     }
 
 -- 32 at clock 1: automatic with lease 1, automatic without a lease, and by topic, which asserts nothing
 abbrev matched : ℕ → Sheet
 matched writer = sheet 32 writer 1 1 0 true 0
 
-abbrev matchedLeaseless : ℕ → Sheet
-matchedLeaseless writer = sheet 32 writer 1 0 0 false 0
+abbrev matched_leaseless : ℕ → Sheet
+matched_leaseless writer = sheet 32 writer 1 0 0 false 0
 
-abbrev matchedByTopic : ℕ → Sheet
-matchedByTopic writer = sheet 32 writer 1 1 0 true 2
+abbrev matched_by_topic : ℕ → Sheet
+matched_by_topic writer = sheet 32 writer 1 1 0 true 2
 
 -- 48 with a strength
 abbrev admits : ℕ → ℕ → Sheet
 admits writer strength = sheet 48 writer 0 0 strength false 0
 
 -- the same with a separation of 1 from the sample before
-abbrev admitsApart : ℕ → ℕ → Sheet
-admitsApart writer strength = sheet 48 writer 1 0 strength false 0
+abbrev admits_apart : ℕ → ℕ → Sheet
+admits_apart writer strength = sheet 48 writer 1 0 strength false 0
 
 abbrev notes : ℕ → Sheet
 notes writer = sheet 6 writer 0 0 0 false 0
@@ -78,8 +74,8 @@ lapses clock = sheet 49 0 clock 0 0 false 0
 abbrev unmatches : ℕ → Sheet
 unmatches writer = sheet 33 writer 0 0 0 false 0
 
-abbrev losesParticipant : ℕ → Sheet
-losesParticipant writer = sheet 34 writer 0 0 0 false 0
+abbrev loses_participant : ℕ → Sheet
+loses_participant writer = sheet 34 writer 0 0 0 false 0
 
 abbrev departs : ℕ → Sheet
 departs writer = sheet 51 writer 0 0 0 false 0
@@ -88,37 +84,37 @@ departs writer = sheet 51 writer 0 0 0 false 0
 
 abbrev called : Option Call → Sheet → State → Turned
 called none s st = refused 2 st
-called (some c) s st = turn largePlaces c s st
+called (some c) s st = turn large_places c s st
 
 abbrev calling : Sheet → State → Turned
-calling s st = called (callOfCode (s .code)) s st
+calling s st = called (call_of_code s.code) s st
 
-abbrev eventOn : Sheet → Turned → Event
-eventOn s t = record { sheet = s; number = t .answer .number; handle = t .answer .handle .0; outcome = t .answer .outcome }
+abbrev event_on : Sheet → Turned → Event
+event_on s t = record { sheet = s; number = t.answer.number; handle = t.answer.handle.0; outcome = t.answer.outcome }
 
 unfoldable pub events : List Sheet → State → List Event
 events [] st = []
-events (s ∷ ss) st = eventOn s (calling s st) ∷ events ss (calling s st .state)
+events (s ∷ ss) st = event_on s (calling s st) ∷ events ss (calling s st).state
 
 unfoldable pub ending : List Sheet → State → State
 ending [] st = st
-ending (s ∷ ss) st = ending ss (calling s st .state)
+ending (s ∷ ss) st = ending ss (calling s st).state
 
 -- ---- the rows
 
-abbrev outcomeOf : Event → ℕ
-outcomeOf e = e .outcome
+abbrev outcome_of : Event → ℕ
+outcome_of e = e.outcome
 
-abbrev numberOf : Event → ℕ
-numberOf e = e .number
+abbrev number_of : Event → ℕ
+number_of e = e.number
 
-abbrev aliveIn : Option Instance → Bool
-aliveIn none = false
-aliveIn (some x) = isAlive (x .state .life .kind)
+abbrev alive_in : Option Instance → Bool
+alive_in none = false
+alive_in (some x) = is_alive x.state.life.kind
 
-abbrev setIn : Option Instance → List Guid
-setIn none = []
-setIn (some x) = writersIn (x .state)
+abbrev set_in : Option Instance → List Guid
+set_in none = []
+set_in (some x) = writers_in x.state
 
 -- what a list ends in: the calls' refusal numbers and outcomes, whether the instance is shown as alive, its set, and the
 -- writers that stand for it, the latest first
@@ -129,14 +125,14 @@ pub record End : Type 0 where
   pub set : List ℕ
   pub standing : List ℕ
 
-abbrev endOf : List Sheet → End
-endOf ss =
+abbrev end_of : List Sheet → End
+end_of ss =
     record {
-      refusals = map numberOf (events ss freshState);
-      outcomes = map outcomeOf (events ss freshState);
-      alive = aliveIn (find (hasKey (guid 7)) (ending ss freshState .instances));
-      set = map num (setIn (find (hasKey (guid 7)) (ending ss freshState .instances)));
-      standing = map num (standOf 7 (events ss freshState) .writers);
+      refusals = map number_of (events ss fresh_state);
+      outcomes = map outcome_of (events ss fresh_state);
+      alive = alive_in (find (has_key (guid 7)) (ending ss fresh_state).instances);
+      set = map num (set_in (find (has_key (guid 7)) (ending ss fresh_state).instances));
+      standing = map num (stand_of 7 (events ss fresh_state)).writers;
     }
 
 pub record Row : Type 0 where
@@ -144,94 +140,94 @@ pub record Row : Type 0 where
   pub end : End
 
 abbrev pub Holds : Row → Type 0
-Holds r = endOf (r .calls) ≡ r .end
+Holds r = end_of r.calls ≡ r.end
 
-abbrev shownAlive : List ℕ → List ℕ → List ℕ → End
-shownAlive refusals outcomes set = record { refusals = refusals; outcomes = outcomes; alive = true; set = set; standing = set }
+abbrev shown_alive : List ℕ → List ℕ → List ℕ → End
+shown_alive refusals outcomes set = record { refusals = refusals; outcomes = outcomes; alive = true; set = set; standing = set }
 
-abbrev shownAbandoned : List ℕ → List ℕ → End
-shownAbandoned refusals outcomes =
+abbrev shown_abandoned : List ℕ → List ℕ → End
+shown_abandoned refusals outcomes =
     record { refusals = refusals; outcomes = outcomes; alive = false; set = []; standing = [] }
 
 -- the weak writer's sample is turned away (outcome 4), the strong one's lease runs out: abandoned, though the weak one
 -- still writes. The strong one owns from its first sample on, which starts the instance
-abbrev pub turnedAway : Row
-turnedAway =
+abbrev pub turned_away : Row
+turned_away =
     record {
       calls = matched 1 ∷ admits 1 2 ∷ admits 2 1 ∷ lapses 2 ∷ [];
-      end = shownAbandoned (0 ∷ 0 ∷ 0 ∷ 0 ∷ []) (0 ∷ 0 ∷ 4 ∷ 0 ∷ []);
+      end = shown_abandoned (0 ∷ 0 ∷ 0 ∷ 0 ∷ []) (0 ∷ 0 ∷ 4 ∷ 0 ∷ []);
     }
 
 -- the same with a sample that the filter turns away (outcome 2)
-abbrev pub filteredOut : Row
-filteredOut =
+abbrev pub filtered_out : Row
+filtered_out =
     record {
-      calls = matched 1 ∷ admits 1 2 ∷ admitsApart 2 1 ∷ lapses 2 ∷ [];
-      end = shownAbandoned (0 ∷ 0 ∷ 0 ∷ 0 ∷ []) (0 ∷ 0 ∷ 2 ∷ 0 ∷ []);
+      calls = matched 1 ∷ admits 1 2 ∷ admits_apart 2 1 ∷ lapses 2 ∷ [];
+      end = shown_abandoned (0 ∷ 0 ∷ 0 ∷ 0 ∷ []) (0 ∷ 0 ∷ 2 ∷ 0 ∷ []);
     }
 
 -- the remedy: code 6 after that outcome
-abbrev pub notedAfter : Row
-notedAfter =
+abbrev pub noted_after : Row
+noted_after =
     record {
       calls = matched 1 ∷ admits 1 2 ∷ admits 2 1 ∷ notes 2 ∷ lapses 2 ∷ [];
-      end = shownAlive (0 ∷ 0 ∷ 0 ∷ 0 ∷ 0 ∷ []) (0 ∷ 0 ∷ 4 ∷ 0 ∷ 0 ∷ []) (2 ∷ []);
+      end = shown_alive (0 ∷ 0 ∷ 0 ∷ 0 ∷ 0 ∷ []) (0 ∷ 0 ∷ 4 ∷ 0 ∷ 0 ∷ []) (2 ∷ []);
     }
 
 -- the writers that no lapse takes out, each with a last lapse at clock 9
-abbrev pub neverMatched : Row
-neverMatched = record { calls = admits 1 2 ∷ lapses 9 ∷ []; end = shownAlive (0 ∷ 0 ∷ []) (0 ∷ 0 ∷ []) (1 ∷ []) }
+abbrev pub never_matched : Row
+never_matched = record { calls = admits 1 2 ∷ lapses 9 ∷ []; end = shown_alive (0 ∷ 0 ∷ []) (0 ∷ 0 ∷ []) (1 ∷ []) }
 
-abbrev pub neverAsserted : Row
-neverAsserted =
+abbrev pub never_asserted : Row
+never_asserted =
     record {
-      calls = matchedByTopic 1 ∷ admits 1 2 ∷ lapses 9 ∷ [];
-      end = shownAlive (0 ∷ 0 ∷ 0 ∷ []) (0 ∷ 0 ∷ 0 ∷ []) (1 ∷ []);
+      calls = matched_by_topic 1 ∷ admits 1 2 ∷ lapses 9 ∷ [];
+      end = shown_alive (0 ∷ 0 ∷ 0 ∷ []) (0 ∷ 0 ∷ 0 ∷ []) (1 ∷ []);
     }
 
-abbrev pub withoutLease : Row
-withoutLease =
+abbrev pub without_lease : Row
+without_lease =
     record {
-      calls = matchedLeaseless 1 ∷ admits 1 2 ∷ lapses 9 ∷ [];
-      end = shownAlive (0 ∷ 0 ∷ 0 ∷ []) (0 ∷ 0 ∷ 0 ∷ []) (1 ∷ []);
+      calls = matched_leaseless 1 ∷ admits 1 2 ∷ lapses 9 ∷ [];
+      end = shown_alive (0 ∷ 0 ∷ 0 ∷ []) (0 ∷ 0 ∷ 0 ∷ []) (1 ∷ []);
     }
 
-abbrev pub expiredBefore : Row
-expiredBefore =
+abbrev pub expired_before : Row
+expired_before =
     record {
       calls = matched 1 ∷ admits 1 2 ∷ expires 9 ∷ lapses 9 ∷ [];
-      end = shownAlive (0 ∷ 0 ∷ 0 ∷ 0 ∷ []) (0 ∷ 0 ∷ 0 ∷ 0 ∷ []) (1 ∷ []);
+      end = shown_alive (0 ∷ 0 ∷ 0 ∷ 0 ∷ []) (0 ∷ 0 ∷ 0 ∷ 0 ∷ []) (1 ∷ []);
     }
 
-abbrev pub departedBefore : Row
-departedBefore =
+abbrev pub departed_before : Row
+departed_before =
     record {
       calls = matched 1 ∷ departs 1 ∷ admits 1 2 ∷ lapses 9 ∷ [];
-      end = shownAlive (0 ∷ 0 ∷ 0 ∷ 0 ∷ []) (0 ∷ 0 ∷ 0 ∷ 0 ∷ []) (1 ∷ []);
+      end = shown_alive (0 ∷ 0 ∷ 0 ∷ 0 ∷ []) (0 ∷ 0 ∷ 0 ∷ 0 ∷ []) (1 ∷ []);
     }
 
-abbrev pub backBySample : Row
-backBySample =
+abbrev pub back_by_sample : Row
+back_by_sample =
     record {
       calls = matched 1 ∷ admits 1 2 ∷ lapses 2 ∷ admits 1 2 ∷ lapses 9 ∷ [];
-      end = shownAlive (0 ∷ 0 ∷ 0 ∷ 0 ∷ 0 ∷ []) (0 ∷ 0 ∷ 0 ∷ 0 ∷ 0 ∷ []) (1 ∷ []);
+      end = shown_alive (0 ∷ 0 ∷ 0 ∷ 0 ∷ 0 ∷ []) (0 ∷ 0 ∷ 0 ∷ 0 ∷ 0 ∷ []) (1 ∷ []);
     }
 
 -- 33 and 34 in the place of 50 and 51
-abbrev pub unmatchedAlone : Row
-unmatchedAlone =
+abbrev pub unmatched_alone : Row
+unmatched_alone =
     record {
       calls = matched 1 ∷ admits 1 2 ∷ unmatches 1 ∷ lapses 9 ∷ [];
-      end = shownAlive (0 ∷ 0 ∷ 0 ∷ 0 ∷ []) (0 ∷ 0 ∷ 0 ∷ 0 ∷ []) (1 ∷ []);
+      end = shown_alive (0 ∷ 0 ∷ 0 ∷ 0 ∷ []) (0 ∷ 0 ∷ 0 ∷ 0 ∷ []) (1 ∷ []);
     }
 
-abbrev pub lostAlone : Row
-lostAlone =
+abbrev pub lost_alone : Row
+lost_alone =
     record {
-      calls = matched 1 ∷ admits 1 2 ∷ losesParticipant 1 ∷ lapses 9 ∷ [];
-      end = shownAlive (0 ∷ 0 ∷ 0 ∷ 0 ∷ []) (0 ∷ 0 ∷ 0 ∷ 0 ∷ []) (1 ∷ []);
+      calls = matched 1 ∷ admits 1 2 ∷ loses_participant 1 ∷ lapses 9 ∷ [];
+      end = shown_alive (0 ∷ 0 ∷ 0 ∷ 0 ∷ []) (0 ∷ 0 ∷ 0 ∷ 0 ∷ []) (1 ∷ []);
     }
 
 abbrev pub rows : List Row
 rows =
-    turnedAway ∷ notedAfter ∷ filteredOut ∷ neverMatched ∷ neverAsserted ∷ withoutLease ∷ expiredBefore ∷ departedBefore ∷ backBySample ∷ unmatchedAlone ∷ lostAlone ∷ []
+    turned_away ∷ noted_after ∷ filtered_out ∷ never_matched ∷ never_asserted ∷ without_lease ∷ expired_before ∷ departed_before ∷ back_by_sample ∷ unmatched_alone ∷ lost_alone ∷ []

@@ -1,61 +1,61 @@
 -- The instances' half of demand 3: a call turns the table of instances as section 6 moves each account.
 --     told-silent        a call that may start none answers no handle
---     turned-at          what is found at a key after a call is the account's step of what was found there
+--     turned_at          what is found at a key after a call is the account's step of what was found there
 --     instance-heard     an instance call keeps table and accounts in step
---     limit-heard        so does one that is stopped at its limit
---     stopped-heard      so does admit with outcomes 1 to 4
+--     limit_heard        so does one that is stopped at its limit
+--     stopped_heard      so does admit with outcomes 1 to 4
 --     admit-heard        so does admit with outcome 0
---     handle-there, handle-new      the handle that it answers
---     loss-heard         so do codes 49 to 51
+--     handle-there, handle_new      the handle that it answers
+--     loss_heard         so do codes 49 to 51
 --     tracker-heard      a tracker call leaves the instances' accounts as they are
-use mathlib.Core.Bool.{Bool, true, false, not, _&&_, cond}
-use mathlib.Core.List.{List, [], _∷_, _++_, append-nil}
+use mathlib.Core.Bool.{Bool, true, false, not, ◌&&◌, cond}
+use mathlib.Core.List.{List, [], ◌∷◌, ◌++◌, append-nil}
 use mathlib.Core.Option.{Option, none, some}
-use mathlib.Core.Path.{_≡_, refl, sym, ap, _∙_}
-use Prim.Native.Nat.{ℕ, suc, _+_, _^_, _≤_, _<_}
-use native.Mathlib.Nat.{add-zero, mod-eq-of-lt}
+use mathlib.Core.Path.{◌≡◌, refl, sym, ap, ◌∙◌}
+use Prim.Native.Nat.{ℕ, suc, ◌+◌, ◌^◌, ◌≤◌, ◌<◌}
+use native.Mathlib.Nat.{add-zero, mod-eq_of_lt}
 use native.Mathlib.Omega.{arith}
-use borrow.Author.Tests.{eqb-true, eq-eqb, ne-eqb, not-true}
+use borrow.Author.Tests.{eqb-true, eq-eqb, ne_eqb, not-true}
 use lib.Dec.{eqb}
 use lib.ListN.{length, length-append}
-use Rattle·model.specs.declared.Answer.{Answer}
-use Rattle·model.specs.declared.Guid.{Guid}
-use Rattle·model.specs.declared.Instance.{Instance}
-use Rattle·model.specs.declared.InstanceState.{InstanceState}
-use Rattle·model.specs.declared.MaybeTime.{MaybeTime}
-use Rattle·model.specs.declared.Reach.{Reach}
-use Rattle·model.specs.declared.Reach.the-variants.{ByKey as byKey, StartingByKey as startingByKey, StartingWithin as startingWithin, ByHandle as byHandle, Every as every}
-use Rattle·model.specs.declared.Report.{Report}
-use Rattle·model.specs.declared.Report.the-variants.{Nothing as Unreported, Left, Owner, Prefix, Purge}
-use Rattle·model.specs.declared.Says.{Says}
-use Rattle·model.specs.declared.Says.the-variants.{Nothing, Handle, Known, Samples, Info, Accepted, Released}
-use Rattle·model.specs.declared.Sheet.{Sheet}
-use Rattle·model.specs.declared.InstanceCall.{InstanceCall}
-use Rattle·model.specs.declared.TrackerCall.{TrackerCall}
-use Rattle·model.specs.declared.JoinedCall.{JoinedCall}
-use Rattle·model.specs.declared.InstanceCall.the-variants.{Register as register, EnsureRegisteredLimited as ensureRegisteredLimited, Dispose as dispose, Unregister as unregister, UnregisterWriter as unregisterWriter, NoteWriter as noteWriter, DropWriter as dropWriter, ObserveLifecycle as observeLifecycle, ObserveAdmitted as observeAdmitted, NoteAdmitted as noteAdmitted, RecordDelivery as recordDelivery, NoteTaken as noteTaken, MarkViewSeen as markViewSeen, MarkViewNew as markViewNew, DrainSamples as drainSamples, AcceptUnderExclusiveOwnership as acceptUnderExclusiveOwnership, UpdateOwnerStrength as updateOwnerStrength, ClearOwnerForWriter as clearOwnerForWriter, ClearOwnerForWriterPrefix as clearOwnerForWriterPrefix, ReleaseOwnerOf as releaseOwnerOf, Autopurge as autopurge}
-use Rattle·model.specs.declared.JoinedCall.the-variants.{Admit as admit}
-use Rattle·model.specs.Calls.{Call, instances, tracker, joined}
-use Rattle·model.specs.Guids.{num}
-use Rattle·model.specs.Handles.{handle, notNil, allocated}
-use Rattle·model.specs.InstanceCalls.{known, begins, begun, nextAfter, kept, acts, instancesAfter, handleAnswer, samplesAnswer, infoAnswer, reached, answerOf, reported, told, instanceTurn}
-use Rattle·model.specs.InstanceRecord.{bit}
-use Rattle·model.specs.Instances.{effect, rule, hasKey, reachesBy, reaches, startsBy, limitedBy, isEvery, onEvery, started, ownedFrom, ownershipTried, admittedObserved, admittedNoted}
-use Rattle·model.specs.Joined.{sampled, admitted, leftWithoutAll, loses}
-use Rattle·model.specs.State.{State, instanceKey}
-use Rattle·model.specs.Tables.{isSome, find, sift}
-use Rattle·model.specs.Times.{ifPresent}
-use Rattle·model.proofs.AdmitLaws.{first-taken, tried-again, admitted-state}
-use Rattle·model.proofs.CallLaws.{told-one, told-every}
-use Rattle·model.proofs.Keeps.{lasting}
-use Rattle·model.proofs.Fits.{FitsGuid}
-use Rattle·model.proofs.Tests.{both, split}
-use Rattle·accounts·specs.specs.InstanceAccounts as S
-use Rattle·accounts·specs.specs.InstanceAccounts.{wayOf, reachedBy, isKeyed, Event, onPresent, onAbsent, onInstance, InstanceAccounts, startsAt}
-use Rattle·accounts·specs.specs.Ranges.{bound, upFrom}
-use Rattle·accounts·proofs.proofs.Basics.{missing, eqb-sym, never}
-use Rattle·accounts·proofs.proofs.RangeLaws.{num-below, up-more}
-use Rattle·accounts·proofs.proofs.TurnLaws.{bind, lookup, Within, Keeps, lookup-key, any-lookup, begin, begunAt, Below, lookup-begin, within-begin, lookup-sift, within-sift, turn-at}
+use Rattle.model.specs.declared.Answer.{Answer}
+use Rattle.model.specs.declared.Guid.{Guid}
+use Rattle.model.specs.declared.Instance.{Instance}
+use Rattle.model.specs.declared.InstanceState.{InstanceState}
+use Rattle.model.specs.declared.MaybeTime.{MaybeTime}
+use Rattle.model.specs.declared.Reach.{Reach}
+use Rattle.model.specs.declared.Reach.TheVariants.{ByKey as by_key, StartingByKey as starting_by_key, StartingWithin as starting_within, ByHandle as by_handle, Every as every}
+use Rattle.model.specs.declared.Report.{Report}
+use Rattle.model.specs.declared.Report.TheVariants.{Nothing as Unreported, Left, Owner, Prefix, Purge}
+use Rattle.model.specs.declared.Says.{Says}
+use Rattle.model.specs.declared.Says.TheVariants.{Nothing, Handle, Known, Samples, Info, Accepted, Released}
+use Rattle.model.specs.declared.Sheet.{Sheet}
+use Rattle.model.specs.declared.InstanceCall.{InstanceCall}
+use Rattle.model.specs.declared.TrackerCall.{TrackerCall}
+use Rattle.model.specs.declared.JoinedCall.{JoinedCall}
+use Rattle.model.specs.declared.InstanceCall.TheVariants.{Register as register, EnsureRegisteredLimited as ensure_registered_limited, Dispose as dispose, Unregister as unregister, UnregisterWriter as unregister_writer, NoteWriter as note_writer, DropWriter as drop_writer, ObserveLifecycle as observe_lifecycle, ObserveAdmitted as observe_admitted, NoteAdmitted as note_admitted, RecordDelivery as record_delivery, NoteTaken as note_taken, MarkViewSeen as mark_view_seen, MarkViewNew as mark_view_new, DrainSamples as drain_samples, AcceptUnderExclusiveOwnership as accept_under_exclusive_ownership, UpdateOwnerStrength as update_owner_strength, ClearOwnerForWriter as clear_owner_for_writer, ClearOwnerForWriterPrefix as clear_owner_for_writer_prefix, ReleaseOwnerOf as release_owner_of, Autopurge as autopurge}
+use Rattle.model.specs.declared.JoinedCall.TheVariants.{Admit as admit}
+use Rattle.model.specs.Calls.{Call, instances, tracker, joined}
+use Rattle.model.specs.Guids.{num}
+use Rattle.model.specs.Handles.{not_nil, allocated}
+use Rattle.model.specs.InstanceCalls.{known, begins, begun, next_after, kept, acts, instances_after, handle_answer, samples_answer, info_answer, reached, answer_of, reported, told, instance_turn}
+use Rattle.model.specs.InstanceRecord.{bit}
+use Rattle.model.specs.Instances.{effect, rule, has_key, reaches_by, reaches, starts_by, limited_by, is_every, on_every, started, owned_from, ownership_tried, admitted_observed, admitted_noted}
+use Rattle.model.specs.Joined.{sampled, admitted, left_without_all, loses}
+use Rattle.model.specs.State.{State, instance_key}
+use Rattle.model.specs.Tables.{is_some, find, sift}
+use Rattle.model.specs.Times.{if_present}
+use Rattle.model.proofs.AdmitLaws.{first_taken, tried_again, admitted-state}
+use Rattle.model.proofs.CallLaws.{told-one, told-every}
+use Rattle.model.proofs.Keeps.{lasting}
+use Rattle.model.proofs.Fits.{FitsGuid}
+use Rattle.model.proofs.Tests.{both, split}
+use Rattle.accounts.specs.InstanceAccounts as S
+use Rattle.accounts.specs.InstanceAccounts.{way_of, reached_by, is_keyed, Event, on_present, on_absent, on_instance, InstanceAccounts, starts_at}
+use Rattle.accounts.specs.Ranges.{bound, up_from}
+use Rattle.accounts.proofs.Basics.{missing, eqb_sym, never}
+use Rattle.accounts.proofs.RangeLaws.{num-below, up_more}
+use Rattle.accounts.proofs.TurnLaws.{bind, lookup, Within, Keeps, lookup_key, any_lookup, begin, begun_at, Below, lookup_begin, within_begin, lookup_sift, within-sift, turn_at}
 
 -- ---- how a call reaches, and whether it answers a handle
 
@@ -70,691 +70,691 @@ hands Released = false
 
 -- section 6's reading of the table of the calls: the way is its reach, and what may start an instance answers a handle
 record Read (c : InstanceCall) : Type 0 where
-  way : (s : Sheet) (x : Instance) → reaches c s x ≡ reachedBy (wayOf c) s (instanceKey x) x
-  handed : hands (rule c .says) ≡ startsBy (rule c .reach)
+  way : (s : Sheet) (x : Instance) → reaches c s x ≡ reached_by (way_of c) s (instance_key x) x
+  handed : hands (rule c).says ≡ starts_by (rule c).reach
 
 read : (c : InstanceCall) → Read c
 read register = record { way = λ s x. refl; handed = refl }
-read ensureRegisteredLimited = record { way = λ s x. refl; handed = refl }
+read ensure_registered_limited = record { way = λ s x. refl; handed = refl }
 read dispose = record { way = λ s x. refl; handed = refl }
 read unregister = record { way = λ s x. refl; handed = refl }
-read unregisterWriter = record { way = λ s x. refl; handed = refl }
-read noteWriter = record { way = λ s x. refl; handed = refl }
-read dropWriter = record { way = λ s x. refl; handed = refl }
-read observeLifecycle = record { way = λ s x. refl; handed = refl }
-read observeAdmitted = record { way = λ s x. refl; handed = refl }
-read noteAdmitted = record { way = λ s x. refl; handed = refl }
-read recordDelivery = record { way = λ s x. refl; handed = refl }
-read noteTaken = record { way = λ s x. refl; handed = refl }
-read markViewSeen = record { way = λ s x. refl; handed = refl }
-read markViewNew = record { way = λ s x. refl; handed = refl }
-read drainSamples = record { way = λ s x. refl; handed = refl }
-read acceptUnderExclusiveOwnership = record { way = λ s x. refl; handed = refl }
-read updateOwnerStrength = record { way = λ s x. refl; handed = refl }
-read clearOwnerForWriter = record { way = λ s x. refl; handed = refl }
-read clearOwnerForWriterPrefix = record { way = λ s x. refl; handed = refl }
-read releaseOwnerOf = record { way = λ s x. refl; handed = refl }
+read unregister_writer = record { way = λ s x. refl; handed = refl }
+read note_writer = record { way = λ s x. refl; handed = refl }
+read drop_writer = record { way = λ s x. refl; handed = refl }
+read observe_lifecycle = record { way = λ s x. refl; handed = refl }
+read observe_admitted = record { way = λ s x. refl; handed = refl }
+read note_admitted = record { way = λ s x. refl; handed = refl }
+read record_delivery = record { way = λ s x. refl; handed = refl }
+read note_taken = record { way = λ s x. refl; handed = refl }
+read mark_view_seen = record { way = λ s x. refl; handed = refl }
+read mark_view_new = record { way = λ s x. refl; handed = refl }
+read drain_samples = record { way = λ s x. refl; handed = refl }
+read accept_under_exclusive_ownership = record { way = λ s x. refl; handed = refl }
+read update_owner_strength = record { way = λ s x. refl; handed = refl }
+read clear_owner_for_writer = record { way = λ s x. refl; handed = refl }
+read clear_owner_for_writer_prefix = record { way = λ s x. refl; handed = refl }
+read release_owner_of = record { way = λ s x. refl; handed = refl }
 read autopurge = record { way = λ s x. refl; handed = refl }
 
-reach-is : (c : InstanceCall) (s : Sheet) (x : Instance) → reaches c s x ≡ reachedBy (wayOf c) s (instanceKey x) x
-reach-is c s x = read c .way s x
+reach-is : (c : InstanceCall) (s : Sheet) (x : Instance) → reaches c s x ≡ reached_by (way_of c) s (instance_key x) x
+reach-is c s x = (read c).way s x
 
 -- a call that may start an instance reaches by key
-starting : (r : Reach) (s : Sheet) → startsBy r ≡ true → reachesBy r s ≡ hasKey (s .key)
-starting byKey s e = refl
-starting startingByKey s e = refl
-starting startingWithin s e = refl
-starting byHandle s e = never (sym e)
+starting : (r : Reach) (s : Sheet) → starts_by r ≡ true → reaches_by r s ≡ has_key s.key
+starting by_key s e = refl
+starting starting_by_key s e = refl
+starting starting_within s e = refl
+starting by_handle s e = never (sym e)
 starting every s e = never (sym e)
 
-starting-reach : (r : Reach) (s : Sheet) (x : Instance) → startsBy r ≡ true → reachesBy r s x ≡ hasKey (s .key) x
-starting-reach r s x e = ap (λ (p : Instance → Bool). p x) (starting r s e)
+starting_reach : (r : Reach) (s : Sheet) (x : Instance) → starts_by r ≡ true → reaches_by r s x ≡ has_key s.key x
+starting_reach r s x e = ap (λ (p : Instance → Bool). p x) (starting r s e)
 
-starting-find : (r : Reach) (s : Sheet) (xs : List Instance) → startsBy r ≡ true → find (reachesBy r s) xs ≡ lookup instanceKey (num (s .key)) xs
-starting-find r s xs e = ap (λ (p : Instance → Bool). find p xs) (starting r s e)
+starting_find : (r : Reach) (s : Sheet) (xs : List Instance) → starts_by r ≡ true → find (reaches_by r s) xs ≡ lookup instance_key (num s.key) xs
+starting_find r s xs e = ap (λ (p : Instance → Bool). find p xs) (starting r s e)
 
-starting-one : (r : Reach) → startsBy r ≡ true → isEvery r ≡ false
-starting-one byKey e = refl
-starting-one startingByKey e = refl
-starting-one startingWithin e = refl
-starting-one byHandle e = refl
-starting-one every e = never (sym e)
+starting_one : (r : Reach) → starts_by r ≡ true → is_every r ≡ false
+starting_one by_key e = refl
+starting_one starting_by_key e = refl
+starting_one starting_within e = refl
+starting_one by_handle e = refl
+starting_one every e = never (sym e)
 
-limited-starts : (r : Reach) → limitedBy r ≡ true → startsBy r ≡ true
-limited-starts byKey e = never (sym e)
-limited-starts startingByKey e = refl
-limited-starts startingWithin e = refl
-limited-starts byHandle e = never (sym e)
+limited-starts : (r : Reach) → limited_by r ≡ true → starts_by r ≡ true
+limited-starts by_key e = never (sym e)
+limited-starts starting_by_key e = refl
+limited-starts starting_within e = refl
+limited-starts by_handle e = never (sym e)
 limited-starts every e = never (sym e)
 
 -- ---- key and handle stay
 
-kept-key : (x y : Instance) (o : Option InstanceState) → kept x o ≡ some y → (y .key ≡ x .key) × (y .handle ≡ x .handle)
-kept-key x y none e = missing e
-kept-key x y (some z) e =
-    let p : record { key = x .key; handle = x .handle; state = z } ≡ y = cc in
-    (sym (ap (λ (i : Instance). i .key) p), sym (ap (λ (i : Instance). i .handle) p))
+kept_key : (x y : Instance) (o : Option InstanceState) → kept x o ≡ some y → (y.key ≡ x.key) × (y.handle ≡ x.handle)
+kept_key x y none e = missing e
+kept_key x y (some z) e =
+    let p : record { key = x.key; handle = x.handle; state = z } ≡ y = cc in
+    (sym (ap (λ (i : Instance). i.key) p), sym (ap (λ (i : Instance). i.handle) p))
 
 leaving-is : (x : Instance) (o : Option InstanceState) → kept x o ≡ S.leaving x o
 leaving-is x none = refl
 leaving-is x (some y) = refl
 
-pub acts-stay : (c : InstanceCall) (s : Sheet) (x y : Instance) → acts c s x ≡ some y →
-    (y .key ≡ x .key) × (y .handle ≡ x .handle)
-acts-stay c s x y e =
+pub acts_stay : (c : InstanceCall) (s : Sheet) (x y : Instance) → acts c s x ≡ some y →
+    (y.key ≡ x.key) × (y.handle ≡ x.handle)
+acts_stay c s x y e =
     split (reaches c s x)
-    (λ d. kept-key x y (effect c s (x .state)) (rw d at e))
+    (λ d. kept_key x y (effect c s x.state) (rw d at e))
     (λ d. let q : some x ≡ some y = rw d at e in let p : x ≡ y = cc in
-    (sym (ap (λ (i : Instance). i .key) p), sym (ap (λ (i : Instance). i .handle) p)))
+    (sym (ap (λ (i : Instance). i.key) p), sym (ap (λ (i : Instance). i.handle) p)))
 
-acts-keeps : (c : InstanceCall) (s : Sheet) → Keeps instanceKey (acts c s)
-acts-keeps c s x y e = ap num (acts-stay c s x y e .0)
+acts_keeps : (c : InstanceCall) (s : Sheet) → Keeps instance_key (acts c s)
+acts_keeps c s x y e = ap num (acts_stay c s x y e).0
 
 -- ---- the turn
 
-startOf : InstanceCall → Sheet → State → Option Instance
-startOf c s st = cond (begins c s st) (some (started (s .key) (allocated (st .nextHandle) .handle .0))) none
+start_of : InstanceCall → Sheet → State → Option Instance
+start_of c s st = cond (begins c s st) (some (started s.key (allocated st.next_handle).handle.0)) none
 
 begun-is : (c : InstanceCall) (s : Sheet) (st : State) →
-    begun c s st ≡ begin instanceKey (startOf c s st) (st .instances)
-unfolding begun startOf
+    begun c s st ≡ begin instance_key (start_of c s st) st.instances
+unfolding begun start_of
 begun-is c s st = split (begins c s st) (λ e. rw e) (λ e. rw e)
 
-start-below : (c : InstanceCall) (s : Sheet) (st : State) → FitsGuid (s .key) → Below instanceKey bound (startOf c s st)
-unfolding startOf started
-start-below c s st f = split (begins c s st) (λ e. rw e (num-below (s .key) f)) (λ e. rw e tt)
+start_below : (c : InstanceCall) (s : Sheet) (st : State) → FitsGuid s.key → Below instance_key bound (start_of c s st)
+unfolding start_of started
+start_below c s st f = split (begins c s st) (λ e. rw e (num-below s.key f)) (λ e. rw e tt)
 
-pub known-is : (s : Sheet) (st : State) → known s st ≡ isSome (lookup instanceKey (num (s .key)) (st .instances))
-known-is s st = any-lookup instanceKey (num (s .key)) (st .instances)
+pub known_is : (s : Sheet) (st : State) → known s st ≡ is_some (lookup instance_key (num s.key) st.instances)
+known_is s st = any_lookup instance_key (num s.key) st.instances
 
-unknown-none : {A : Type 0} (o : Option A) → isSome o ≡ false → o ≡ none
-unknown-none none e = refl
-unknown-none (some x) e = never e
+unknown_none : {A : Type 0} (o : Option A) → is_some o ≡ false → o ≡ none
+unknown_none none e = refl
+unknown_none (some x) e = never e
 
 -- a call that starts an instance finds none at its key
 pub begins-absent : (c : InstanceCall) (s : Sheet) (st : State) → begins c s st ≡ true →
-    (startsBy (rule c .reach) ≡ true) × (lookup instanceKey (num (s .key)) (st .instances) ≡ none)
+    (starts_by (rule c).reach ≡ true) × (lookup instance_key (num s.key) st.instances ≡ none)
 begins-absent c s st e =
-    let p = both (startsBy (rule c .reach)) (not (known s st)) e in
-    (p .0, unknown-none _ (sym (known-is s st) ∙ not-true (known s st) (p .1)))
+    let p = both (starts_by (rule c).reach) (not (known s st)) e in
+    (p.0, unknown_none _ (sym (known_is s st) ∙ not-true (known s st) p.1))
 
 -- ---- the handle that a call answers
 
-abbrev pub handleIn : Option Instance → ℕ
-handleIn none = 0
-handleIn (some x) = x .handle .0
+abbrev pub handle_in : Option Instance → ℕ
+handle_in none = 0
+handle_in (some x) = x.handle.0
 
-handle-answer : (o : Option Instance) → handleAnswer o .handle .0 ≡ handleIn o
+handle-answer : (o : Option Instance) → (handle_answer o).handle.0 ≡ handle_in o
 handle-answer none = refl
 handle-answer (some x) = refl
 
-pub samples-answer : (o : Option Instance) → samplesAnswer o .handle .0 ≡ handleIn o
-samples-answer none = refl
-samples-answer (some x) = refl
+pub samples_answer_lem : (o : Option Instance) → (samples_answer o).handle.0 ≡ handle_in o
+samples_answer_lem none = refl
+samples_answer_lem (some x) = refl
 
-info-answer : (o : Option Instance) → infoAnswer o .handle .0 ≡ 0
-info-answer none = refl
-info-answer (some x) = refl
+info_answer_lem : (o : Option Instance) → (info_answer o).handle.0 ≡ 0
+info_answer_lem none = refl
+info_answer_lem (some x) = refl
 
-answer-handle : (y : Says) (s : Sheet) (before after : Option Instance) → (hands y ≡ true → handleIn after ≡ handleIn before) →
-    answerOf y s before after .handle .0 ≡ cond (hands y) (handleIn before) 0
+answer-handle : (y : Says) (s : Sheet) (before after : Option Instance) → (hands y ≡ true → handle_in after ≡ handle_in before) →
+    (answer_of y s before after).handle.0 ≡ cond (hands y) (handle_in before) 0
 answer-handle Nothing s before after e = refl
 answer-handle Handle s before after e = handle-answer before
 answer-handle Known s before after e = refl
-answer-handle Samples s before after e = samples-answer after ∙ e refl
-answer-handle Info s before after e = info-answer after
+answer-handle Samples s before after e = samples_answer_lem after ∙ e refl
+answer-handle Info s before after e = info_answer_lem after
 answer-handle Accepted s before after e = refl
 answer-handle Released s before after e = refl
 
-report-handle : (k : Report) (s : Sheet) (before : List Instance) → reported k s before .handle .0 ≡ 0
-report-handle Unreported s before = refl
-report-handle Left s before = refl
-report-handle Owner s before = refl
-report-handle Prefix s before = refl
-report-handle Purge s before = refl
+report_handle : (k : Report) (s : Sheet) (before : List Instance) → (reported k s before).handle.0 ≡ 0
+report_handle Unreported s before = refl
+report_handle Left s before = refl
+report_handle Owner s before = refl
+report_handle Prefix s before = refl
+report_handle Purge s before = refl
 
-kept-handle : (x : Instance) (o : Option InstanceState) → isSome o ≡ true → handleIn (kept x o) ≡ x .handle .0
+kept-handle : (x : Instance) (o : Option InstanceState) → is_some o ≡ true → handle_in (kept x o) ≡ x.handle.0
 kept-handle x none e = never (sym e)
 kept-handle x (some y) e = refl
 
 -- a call on one instance finds after it acts what it found before, by its handle
-acted-handle : (c : InstanceCall) (s : Sheet) → onEvery c ≡ false → (o : Option Instance) → handleIn (bind (acts c s) o) ≡ handleIn o
-acted-handle c s e none = refl
-acted-handle c s e (some x) =
-    split (reaches c s x) (λ r. rw r (kept-handle x (effect c s (x .state)) (lasting c s (x .state) e))) (λ r. rw r)
+acted_handle : (c : InstanceCall) (s : Sheet) → on_every c ≡ false → (o : Option Instance) → handle_in (bind (acts c s) o) ≡ handle_in o
+acted_handle c s e none = refl
+acted_handle c s e (some x) =
+    split (reaches c s x) (λ r. rw r (kept-handle x (effect c s x.state) (lasting c s x.state e))) (λ r. rw r)
 
 -- a call that may start none answers no handle
-pub told-silent : (c : InstanceCall) (s : Sheet) (before after : List Instance) → startsBy (rule c .reach) ≡ false → told c s before after .handle .0 ≡ 0
+pub told-silent : (c : InstanceCall) (s : Sheet) (before after : List Instance) → starts_by (rule c).reach ≡ false → (told c s before after).handle.0 ≡ 0
 told-silent c s before after e =
-    let none : hands (rule c .says) ≡ false = read c .handed ∙ e in
-    split (onEvery c)
-    (λ d. ap (λ (a : Answer). a .handle .0) (told-every c s before after d) ∙ report-handle (rule c .reports) s before)
-    (λ d. ap (λ (a : Answer). a .handle .0) (told-one c s before after d)
-    ∙ answer-handle (rule c .says) s (reached c s before) (reached c s after) (λ h. never (sym h ∙ none))
-    ∙ ap (λ (b : Bool). cond b (handleIn (reached c s before)) 0) none)
+    let none : hands (rule c).says ≡ false = (read c).handed ∙ e in
+    split (on_every c)
+    (λ d. ap (λ (a : Answer). a.handle.0) (told-every c s before after d) ∙ report_handle (rule c).reports s before)
+    (λ d. ap (λ (a : Answer). a.handle.0) (told-one c s before after d)
+    ∙ answer-handle (rule c).says s (reached c s before) (reached c s after) (λ h. never (sym h ∙ none))
+    ∙ ap (λ (b : Bool). cond b (handle_in (reached c s before)) 0) none)
 
-module _ (c : InstanceCall) (s : Sheet) (before : List Instance) (w : Within instanceKey 0 bound before) where
+module _ (c : InstanceCall) (s : Sheet) (before : List Instance) (w : Within instance_key 0 bound before) where
   abbrev after : List Instance
   after = sift (acts c s) before
 
   -- a call that may start an instance
-  starting-handle : startsBy (rule c .reach) ≡ true → handleIn (reached c s after) ≡ handleIn (reached c s before)
-  starting-handle e =
-      ap handleIn (starting-find (rule c .reach) s after e)
-      ∙ ap handleIn (lookup-sift instanceKey (num (s .key)) 0 bound (acts c s) before (acts-keeps c s) w)
-      ∙ acted-handle c s (starting-one (rule c .reach) e) (lookup instanceKey (num (s .key)) before)
-      ∙ sym (ap handleIn (starting-find (rule c .reach) s before e))
+  starting_handle : starts_by (rule c).reach ≡ true → handle_in (reached c s after) ≡ handle_in (reached c s before)
+  starting_handle e =
+      ap handle_in (starting_find (rule c).reach s after e)
+      ∙ ap handle_in (lookup_sift instance_key (num s.key) 0 bound (acts c s) before (acts_keeps c s) w)
+      ∙ acted_handle c s (starting_one (rule c).reach e) (lookup instance_key (num s.key) before)
+      ∙ sym (ap handle_in (starting_find (rule c).reach s before e))
 
-  answer-is : answerOf (rule c .says) s (reached c s before) (reached c s after) .handle .0
-      ≡ cond (startsBy (rule c .reach)) (handleIn (reached c s before)) 0
+  answer-is : (answer_of (rule c).says s (reached c s before) (reached c s after)).handle.0
+      ≡ cond (starts_by (rule c).reach) (handle_in (reached c s before)) 0
   answer-is =
-      answer-handle (rule c .says) s (reached c s before) (reached c s after) (λ e. starting-handle (sym (read c .handed) ∙ e))
-      ∙ ap (λ (b : Bool). cond b (handleIn (reached c s before)) 0) (read c .handed)
+      answer-handle (rule c).says s (reached c s before) (reached c s after) (λ e. starting_handle (sym (read c).handed ∙ e))
+      ∙ ap (λ (b : Bool). cond b (handle_in (reached c s before)) 0) (read c).handed
 
-  told-handle : told c s before after .handle .0
-      ≡ cond (startsBy (rule c .reach)) (handleIn (lookup instanceKey (num (s .key)) before)) 0
-  told-handle = split (startsBy (rule c .reach)) (λ e. starting e) (λ e. rw e (told-silent c s before after e))
+  told-handle : (told c s before after).handle.0
+      ≡ cond (starts_by (rule c).reach) (handle_in (lookup instance_key (num s.key) before)) 0
+  told-handle = split (starts_by (rule c).reach) (λ e. starting e) (λ e. rw e (told-silent c s before after e))
     where
-      starting : startsBy (rule c .reach) ≡ true →
-          told c s before after .handle .0 ≡ cond (startsBy (rule c .reach)) (handleIn (lookup instanceKey (num (s .key)) before)) 0
+      starting : starts_by (rule c).reach ≡ true →
+          (told c s before after).handle.0 ≡ cond (starts_by (rule c).reach) (handle_in (lookup instance_key (num s.key) before)) 0
       starting e =
-          ap (λ (a : Answer). a .handle .0) (told-one c s before after (starting-one (rule c .reach) e)) ∙ answer-is
-          ∙ ap (λ (o : Option Instance). cond (startsBy (rule c .reach)) (handleIn o) 0) (starting-find (rule c .reach) s before e)
+          ap (λ (a : Answer). a.handle.0) (told-one c s before after (starting_one (rule c).reach e)) ∙ answer-is
+          ∙ ap (λ (o : Option Instance). cond (starts_by (rule c).reach) (handle_in o) 0) (starting_find (rule c).reach s before e)
 
 -- a call that may start an instance, at its own key or not
-abbrev pub eventBy : Sheet → ℕ → ℕ → Event
-eventBy s h outcome = record { sheet = s; number = 0; handle = h; outcome = outcome }
+abbrev pub event_by : Sheet → ℕ → ℕ → Event
+event_by s h outcome = record { sheet = s; number = 0; handle = h; outcome = outcome }
 
-pub not-nil : (n : ℕ) → 1 ≤ n → notNil n ≡ n
-not-nil n l = rw (ne-eqb n 0 (λ q. omega arith))
+pub not-nil : (n : ℕ) → 1 ≤ n → not_nil n ≡ n
+not-nil n l = rw (ne_eqb n 0 (λ q. omega arith))
 
-module _ (c : InstanceCall) (s : Sheet) (st : State) (fits : FitsGuid (s .key))
-    (rises : Within instanceKey 0 bound (st .instances)) (one : 1 ≤ st .nextHandle) where
+module _ (c : InstanceCall) (s : Sheet) (st : State) (fits : FitsGuid s.key)
+    (rises : Within instance_key 0 bound st.instances) (one : 1 ≤ st.next_handle) where
   unfoldable pub answered : ℕ
-  answered = instanceTurn c s st .answer .handle .0
+  answered = (instance_turn c s st).answer.handle.0
 
-  begun-rises : Within instanceKey 0 bound (begun c s st)
+  begun-rises : Within instance_key 0 bound (begun c s st)
   begun-rises =
-      rw (begun-is c s st) (within-begin instanceKey bound (startOf c s st) (st .instances) (start-below c s st fits) rises)
+      rw (begun-is c s st) (within_begin instance_key bound (start_of c s st) st.instances (start_below c s st fits) rises)
 
-  answered-is : answered ≡ cond (startsBy (rule c .reach))
-      (handleIn (begunAt instanceKey (startOf c s st) (num (s .key)) (lookup instanceKey (num (s .key)) (st .instances)))) 0
-  unfolding answered instanceTurn instancesAfter
-  answered-is =
+  answered_is : answered ≡ cond (starts_by (rule c).reach)
+      (handle_in (begun_at instance_key (start_of c s st) (num s.key) (lookup instance_key (num s.key) st.instances))) 0
+  unfolding answered instance_turn instances_after
+  answered_is =
       told-handle c s (begun c s st) begun-rises
-      ∙ ap (λ (o : Option Instance). cond (startsBy (rule c .reach)) (handleIn o) 0)
-      (ap (lookup instanceKey (num (s .key))) (begun-is c s st) ∙ lookup-begin instanceKey (startOf c s st) (st .instances)
-      (num (s .key)))
+      ∙ ap (λ (o : Option Instance). cond (starts_by (rule c).reach) (handle_in o) 0)
+      (ap (lookup instance_key (num s.key)) (begun-is c s st) ∙ lookup_begin instance_key (start_of c s st) st.instances
+      (num s.key))
 
   -- it starts an instance, and answers the handle to come
-  answered-new : begins c s st ≡ true → answered ≡ st .nextHandle
-  answered-new e = answered-is ∙ new
+  answered_new : begins c s st ≡ true → answered ≡ st.next_handle
+  answered_new e = answered_is ∙ new
     where
-      new : cond (startsBy (rule c .reach))
-          (handleIn (begunAt instanceKey (startOf c s st) (num (s .key))
-          (lookup instanceKey (num (s .key)) (st .instances)))) 0 ≡ st .nextHandle
+      new : cond (starts_by (rule c).reach)
+          (handle_in (begun_at instance_key (start_of c s st) (num s.key)
+          (lookup instance_key (num s.key) st.instances))) 0 ≡ st.next_handle
       new =
-          unfold startOf started allocated in
-          rw (e, begins-absent c s st e .0, eq-eqb (num (s .key)) (num (s .key)) refl) (not-nil (st .nextHandle) one)
+          unfold start_of started allocated in
+          rw (e, (begins-absent c s st e).0, eq-eqb (num s.key) (num s.key) refl) (not-nil st.next_handle one)
 
   -- it starts none, and at an absent key answers none
-  answered-none : begins c s st ≡ false → lookup instanceKey (num (s .key)) (st .instances) ≡ none → answered ≡ 0
-  answered-none e n = answered-is ∙ nothing
+  answered_none : begins c s st ≡ false → lookup instance_key (num s.key) st.instances ≡ none → answered ≡ 0
+  answered_none e n = answered_is ∙ nothing
     where
-      starts : startsBy (rule c .reach) ≡ false
+      starts : starts_by (rule c).reach ≡ false
       starts =
-          split (startsBy (rule c .reach)) (λ d. never (rw (d, known-is s st, n) at e)) (λ d. d)
+          split (starts_by (rule c).reach) (λ d. never (rw (d, known_is s st, n) at e)) (λ d. d)
 
-      nothing : cond (startsBy (rule c .reach))
-          (handleIn (begunAt instanceKey (startOf c s st) (num (s .key))
-          (lookup instanceKey (num (s .key)) (st .instances)))) 0 ≡ 0
+      nothing : cond (starts_by (rule c).reach)
+          (handle_in (begun_at instance_key (start_of c s st) (num s.key)
+          (lookup instance_key (num s.key) st.instances))) 0 ≡ 0
       nothing = rw starts
 
   -- ---- at each key
 
-  absent-at : (j : ℕ) (gone : List Guid) (outcome : ℕ) → lookup instanceKey j (st .instances) ≡ none →
-      bind (acts c s) (begunAt instanceKey (startOf c s st) j none) ≡ onAbsent (instances c) (eventBy s answered outcome) j
+  absent-at : (j : ℕ) (gone : List Guid) (outcome : ℕ) → lookup instance_key j st.instances ≡ none →
+      bind (acts c s) (begun_at instance_key (start_of c s st) j none) ≡ on_absent (instances c) (event_by s answered outcome) j
   absent-at j gone outcome n =
-      split (begins c s st) (λ e. begun-at e) (λ e. other-at e)
+      split (begins c s st) (λ e. begun-at e) (λ e. other_at e)
     where
       begun-at : begins c s st ≡ true →
-          bind (acts c s) (begunAt instanceKey (startOf c s st) j none) ≡ onAbsent (instances c)
-          (eventBy s answered outcome) j
+          bind (acts c s) (begun_at instance_key (start_of c s st) j none) ≡ on_absent (instances c)
+          (event_by s answered outcome) j
       begun-at e =
-          unfold startOf started allocated in
-          rw (answered-new e, e, eqb-sym (num (s .key)) j, ne-eqb (st .nextHandle) 0 (λ q. omega arith))
-          (split (eqb j (num (s .key)))
+          unfold start_of started allocated in
+          rw (answered_new e, e, eqb_sym (num s.key) j, ne_eqb st.next_handle 0 (λ q. omega arith))
+          (split (eqb j (num s.key))
           (λ d. rw (
             d,
-            starting-reach (rule c .reach) s (started (s .key) (st .nextHandle))
-                (begins-absent c s st e .0),
-            eq-eqb (num (s .key)) (num (s .key)) refl,
+            starting_reach (rule c).reach s (started s.key st.next_handle)
+                (begins-absent c s st e).0,
+            eq-eqb (num s.key) (num s.key) refl,
           )
-          (leaving-is (started (s .key) (st .nextHandle)) (effect c s (started (s .key) (st .nextHandle) .state))))
+          (leaving-is (started s.key st.next_handle) (effect c s (started s.key st.next_handle).state)))
           (λ d. rw d))
 
-      other-at : begins c s st ≡ false →
-          bind (acts c s) (begunAt instanceKey (startOf c s st) j none) ≡ onAbsent (instances c)
-          (eventBy s answered outcome) j
-      other-at e =
-          unfold startOf in
-          split (eqb j (num (s .key)))
-          (λ d. rw (e, d, answered-none e (rw (eqb-true j (num (s .key)) d) at n)))
+      other_at : begins c s st ≡ false →
+          bind (acts c s) (begun_at instance_key (start_of c s st) j none) ≡ on_absent (instances c)
+          (event_by s answered outcome) j
+      other_at e =
+          unfold start_of in
+          split (eqb j (num s.key))
+          (λ d. rw (e, d, answered_none e (rw (eqb-true j (num s.key) d) at n)))
           (λ d. rw (e, d))
 
-  present-at : (j : ℕ) (gone : List Guid) (outcome : ℕ) (x : Instance) → lookup instanceKey j (st .instances) ≡ some x →
-      bind (acts c s) (begunAt instanceKey (startOf c s st) j (some x)) ≡ onPresent (instances c)
-      (eventBy s answered outcome) gone j x
+  present-at : (j : ℕ) (gone : List Guid) (outcome : ℕ) (x : Instance) → lookup instance_key j st.instances ≡ some x →
+      bind (acts c s) (begun_at instance_key (start_of c s st) j (some x)) ≡ on_present (instances c)
+      (event_by s answered outcome) gone j x
   present-at j gone outcome x n =
       ap (bind (acts c s)) same-there ∙ rw
-      (reach-is c s x, lookup-key instanceKey j (st .instances) x n, leaving-is x (effect c s (x .state)))
+      (reach-is c s x, lookup_key instance_key j st.instances x n, leaving-is x (effect c s x.state))
     where
-      same-there : begunAt instanceKey (startOf c s st) j (some x) ≡ some x
+      same-there : begun_at instance_key (start_of c s st) j (some x) ≡ some x
       same-there =
-          unfold startOf started in
+          unfold start_of started in
           split (begins c s st)
           (λ e. rw e
-          (split (eqb (num (s .key)) j)
+          (split (eqb (num s.key) j)
           (λ d.
-          let p : lookup instanceKey j (st .instances) ≡ none = rw (← eqb-true (num (s .key)) j d)
-          (begins-absent c s st e .1) in missing (sym p ∙ n))
+          let p : lookup instance_key j st.instances ≡ none = rw (← eqb-true (num s.key) j d)
+          (begins-absent c s st e).1 in missing (sym p ∙ n))
           (λ d. rw d)))
           (λ e. rw e)
 
-  pub turned-at : (j : ℕ) (gone : List Guid) (outcome : ℕ) →
-      lookup instanceKey j (instancesAfter c s st) ≡ onInstance (instances c) (eventBy s answered outcome) gone j
-      (lookup instanceKey j (st .instances))
-  unfolding instancesAfter
-  turned-at j gone outcome =
-      ap (λ (l : List Instance). lookup instanceKey j (sift (acts c s) l)) (begun-is c s st)
-      ∙ turn-at instanceKey bound (startOf c s st) (acts c s) (st .instances) (start-below c s st fits)
-      (acts-keeps c s) rises j
-      ∙ go (lookup instanceKey j (st .instances)) refl
+  pub turned_at : (j : ℕ) (gone : List Guid) (outcome : ℕ) →
+      lookup instance_key j (instances_after c s st) ≡ on_instance (instances c) (event_by s answered outcome) gone j
+      (lookup instance_key j st.instances)
+  unfolding instances_after
+  turned_at j gone outcome =
+      ap (λ (l : List Instance). lookup instance_key j (sift (acts c s) l)) (begun-is c s st)
+      ∙ turn_at instance_key bound (start_of c s st) (acts c s) st.instances (start_below c s st fits)
+      (acts_keeps c s) rises j
+      ∙ go (lookup instance_key j st.instances) refl
     where
-      go : (o : Option Instance) → lookup instanceKey j (st .instances) ≡ o →
-          bind (acts c s) (begunAt instanceKey (startOf c s st) j o) ≡ onInstance (instances c)
-          (eventBy s answered outcome) gone j o
+      go : (o : Option Instance) → lookup instance_key j st.instances ≡ o →
+          bind (acts c s) (begun_at instance_key (start_of c s st) j o) ≡ on_instance (instances c)
+          (event_by s answered outcome) gone j o
       go none n = absent-at j gone outcome n
       go (some x) n = present-at j gone outcome x n
 
-  pub turned-rises : Within instanceKey 0 bound (instancesAfter c s st)
-  unfolding instancesAfter
-  turned-rises = within-sift instanceKey 0 bound (acts c s) (begun c s st) (acts-keeps c s) begun-rises
+  pub turned_rises : Within instance_key 0 bound (instances_after c s st)
+  unfolding instances_after
+  turned_rises = within-sift instance_key 0 bound (acts c s) (begun c s st) (acts_keeps c s) begun-rises
 
 -- ---- the instances' accounts in step with the table
 
 pub record InstanceSim (st : State) (acc : InstanceAccounts) : Type 0 where
-  pub rising : Within instanceKey 0 bound (st .instances)
-  pub agree : (j : ℕ) → lookup instanceKey j (st .instances) ≡ acc .at j
-  pub handles : acc .handles ≡ upFrom 1 (length (acc .handles))
-  pub next : st .nextHandle ≡ 1 + length (acc .handles)
+  pub rising : Within instance_key 0 bound st.instances
+  pub agree : (j : ℕ) → lookup instance_key j st.instances ≡ acc.at j
+  pub handles : acc.handles ≡ up_from 1 (length acc.handles)
+  pub next : st.next_handle ≡ 1 + length acc.handles
 
-one-next : (st : State) (acc : InstanceAccounts) → InstanceSim st acc → 1 ≤ st .nextHandle
-one-next st acc m = omega (arith, m .next)
+one-next : (st : State) (acc : InstanceAccounts) → InstanceSim st acc → 1 ≤ st.next_handle
+one-next st acc m = omega (arith, m.next)
 
 -- handles after a call that starts one with the handle to come, or none
-handles-more : (b : Bool) (hs new : List ℕ) (next after : ℕ) → hs ≡ upFrom 1 (length hs) → next ≡ 1 + length hs →
+handles_more : (b : Bool) (hs new : List ℕ) (next after : ℕ) → hs ≡ up_from 1 (length hs) → next ≡ 1 + length hs →
     new ≡ cond b (next ∷ []) [] → after ≡ next + bit b →
-    (hs ++ new ≡ upFrom 1 (length (hs ++ new))) × (after ≡ 1 + length (hs ++ new))
-handles-more true hs new next after e n d a =
+    (hs ++ new ≡ up_from 1 (length (hs ++ new))) × (after ≡ 1 + length (hs ++ new))
+handles_more true hs new next after e n d a =
     let l : length (hs ++ (next ∷ [])) ≡ suc (length hs) = omega (arith, length-append hs (next ∷ [])) in
     rw (d, l) (
-      ap (λ (x : List ℕ). x ++ (next ∷ [])) e ∙ rw n (up-more 1 (length hs)),
+      ap (λ (x : List ℕ). x ++ (next ∷ [])) e ∙ rw n (up_more 1 (length hs)),
       omega arith,
     )
-handles-more false hs new next after e n d a = rw (d, append-nil hs) (e, omega arith)
+handles_more false hs new next after e n d a = rw (d, append-nil hs) (e, omega arith)
 
 -- a state whose instances stay, and accounts that no call altered
-instances-stay : (st st′ : State) (acc : InstanceAccounts) (c : Call) (e : Event) (gone : List Guid) →
-    st′ .instances ≡ st .instances →
-    st′ .nextHandle ≡ st .nextHandle → e .handle ≡ 0 →
-    ((j : ℕ) (x : Instance) → lookup instanceKey j (st .instances) ≡ some x → onPresent c e gone j x ≡ some x) →
+instances_stay : (st st' : State) (acc : InstanceAccounts) (c : Call) (e : Event) (gone : List Guid) →
+    st'.instances ≡ st.instances →
+    st'.next_handle ≡ st.next_handle → e.handle ≡ 0 →
+    ((j : ℕ) (x : Instance) → lookup instance_key j st.instances ≡ some x → on_present c e gone j x ≡ some x) →
     InstanceSim st acc →
-    InstanceSim st′ (S.reach (some c) e gone acc)
-instances-stay st st′ acc c e gone same next silent quiet m =
+    InstanceSim st' (S.reach (some c) e gone acc)
+instances_stay st st' acc c e gone same next silent quiet m =
     record {
-      rising = rw same (m .rising);
-      agree = λ j. rw (same, ← m .agree j) (go j (lookup instanceKey j (st .instances)) refl);
-      handles = rw none-start (rw (append-nil (acc .handles)) (m .handles));
-      next = rw none-start (rw (append-nil (acc .handles)) (next ∙ m .next));
+      rising = rw same m.rising;
+      agree = λ j. rw (same, ← m.agree j) (go j (lookup instance_key j st.instances) refl);
+      handles = rw none_start (rw (append-nil acc.handles) m.handles);
+      next = rw none_start (rw (append-nil acc.handles) (next ∙ m.next));
     }
   where
-    go : (j : ℕ) (o : Option Instance) → lookup instanceKey j (st .instances) ≡ o → o ≡ onInstance c e gone j o
-    go j none n = split (isKeyed (e .sheet) j) (λ d. rw (d, silent)) (λ d. rw d)
+    go : (j : ℕ) (o : Option Instance) → lookup instance_key j st.instances ≡ o → o ≡ on_instance c e gone j o
+    go j none n = split (is_keyed e.sheet j) (λ d. rw (d, silent)) (λ d. rw d)
     go j (some x) n = sym (quiet j x n)
 
-    none-at : (o : Option Instance) → startsAt e o ≡ []
-    none-at none = rw silent
-    none-at (some x) = refl
+    none_at : (o : Option Instance) → starts_at e o ≡ []
+    none_at none = rw silent
+    none_at (some x) = refl
 
-    none-start : startsAt e (acc .at (num (e .sheet .key))) ≡ []
-    none-start = none-at (acc .at (num (e .sheet .key)))
+    none_start : starts_at e (acc.at (num e.sheet.key)) ≡ []
+    none_start = none_at (acc.at (num e.sheet.key))
 
-pub tracker-heard : (st st′ : State) (acc : InstanceAccounts) (c : TrackerCall) (e : Event) (gone : List Guid) →
-    st′ .instances ≡ st .instances → st′ .nextHandle ≡ st .nextHandle → e .handle ≡ 0 → InstanceSim st acc →
-    InstanceSim st′ (S.reach (some (tracker c)) e gone acc)
-tracker-heard st st′ acc c e gone same next silent m =
-    instances-stay st st′ acc (tracker c) e gone same next silent (λ j x n. refl) m
+pub tracker-heard : (st st' : State) (acc : InstanceAccounts) (c : TrackerCall) (e : Event) (gone : List Guid) →
+    st'.instances ≡ st.instances → st'.next_handle ≡ st.next_handle → e.handle ≡ 0 → InstanceSim st acc →
+    InstanceSim st' (S.reach (some (tracker c)) e gone acc)
+tracker-heard st st' acc c e gone same next silent m =
+    instances_stay st st' acc (tracker c) e gone same next silent (λ j x n. refl) m
 
 -- codes 2 and 9 at the limit
-pub limit-heard : (st : State) (acc : InstanceAccounts) (c : InstanceCall) (s : Sheet) (gone : List Guid) →
-    limitedBy (rule c .reach) ≡ true →
-    known s st ≡ false → InstanceSim st acc → InstanceSim st (S.reach (some (instances c)) (eventBy s 0 0) gone acc)
-limit-heard st acc c s gone limited unknown m =
-    instances-stay st st acc (instances c) (eventBy s 0 0) gone refl refl refl far m
+pub limit_heard : (st : State) (acc : InstanceAccounts) (c : InstanceCall) (s : Sheet) (gone : List Guid) →
+    limited_by (rule c).reach ≡ true →
+    known s st ≡ false → InstanceSim st acc → InstanceSim st (S.reach (some (instances c)) (event_by s 0 0) gone acc)
+limit_heard st acc c s gone limited unknown m =
+    instances_stay st st acc (instances c) (event_by s 0 0) gone refl refl refl far m
   where
-    far : (j : ℕ) (x : Instance) → lookup instanceKey j (st .instances) ≡ some x →
-        onPresent (instances c) (eventBy s 0 0) gone j x ≡ some x
+    far : (j : ℕ) (x : Instance) → lookup instance_key j st.instances ≡ some x →
+        on_present (instances c) (event_by s 0 0) gone j x ≡ some x
     far j x n =
-        let k : instanceKey x ≡ j = lookup-key instanceKey j (st .instances) x n in
-        let r : reachedBy (wayOf c) s j x ≡ eqb j (num (s .key)) =
-        rw (← k) (sym (reach-is c s x) ∙ starting-reach (rule c .reach) s x (limited-starts (rule c .reach) limited)) in
-        split (eqb j (num (s .key)))
+        let k : instance_key x ≡ j = lookup_key instance_key j st.instances x n in
+        let r : reached_by (way_of c) s j x ≡ eqb j (num s.key) =
+        rw (← k) (sym (reach-is c s x) ∙ starting_reach (rule c).reach s x (limited-starts (rule c).reach limited)) in
+        split (eqb j (num s.key))
         (λ d.
-        let p : lookup instanceKey j (st .instances) ≡ none =
-        rw (eqb-true j (num (s .key)) d) (unknown-none _ (sym (known-is s st) ∙ unknown)) in missing (sym p ∙ n))
+        let p : lookup instance_key j st.instances ≡ none =
+        rw (eqb-true j (num s.key) d) (unknown_none _ (sym (known_is s st) ∙ unknown)) in missing (sym p ∙ n))
         (λ d. rw (r, d))
 
 -- outcomes 1 to 4 of admit
-cond-off : {A : Type 0} (b : Bool) (x y : A) → cond (b && false) x y ≡ y
-cond-off true x y = refl
-cond-off false x y = refl
+cond_off : {A : Type 0} (b : Bool) (x y : A) → cond (b && false) x y ≡ y
+cond_off true x y = refl
+cond_off false x y = refl
 
-stopped-stays : (s : Sheet) (outcome : ℕ) (gone : List Guid) (j : ℕ) (x : Instance) → eqb outcome 0 ≡ false →
-    onPresent (joined admit) (eventBy s 0 outcome) gone j x ≡ some x
-stopped-stays s outcome gone j x e =
-    ap (λ (b : Bool). cond (isKeyed s j && b) (S.leaving x (some (S.admitting s (x .state)))) (some x)) e
-    ∙ cond-off (isKeyed s j) (S.leaving x (some (S.admitting s (x .state)))) (some x)
+stopped_stays : (s : Sheet) (outcome : ℕ) (gone : List Guid) (j : ℕ) (x : Instance) → eqb outcome 0 ≡ false →
+    on_present (joined admit) (event_by s 0 outcome) gone j x ≡ some x
+stopped_stays s outcome gone j x e =
+    ap (λ (b : Bool). cond (is_keyed s j && b) (S.leaving x (some (S.admitting s x.state))) (some x)) e
+    ∙ cond_off (is_keyed s j) (S.leaving x (some (S.admitting s x.state))) (some x)
 
-pub stopped-heard : (st : State) (acc : InstanceAccounts) (s : Sheet) (outcome : ℕ) (gone : List Guid) →
+pub stopped_heard : (st : State) (acc : InstanceAccounts) (s : Sheet) (outcome : ℕ) (gone : List Guid) →
     eqb outcome 0 ≡ false → InstanceSim st acc →
-    InstanceSim st (S.reach (some (joined admit)) (eventBy s 0 outcome) gone acc)
-stopped-heard st acc s outcome gone e m =
-    instances-stay st st acc (joined admit) (eventBy s 0 outcome) gone refl refl refl
-    (λ j x n. stopped-stays s outcome gone j x e) m
+    InstanceSim st (S.reach (some (joined admit)) (event_by s 0 outcome) gone acc)
+stopped_heard st acc s outcome gone e m =
+    instances_stay st st acc (joined admit) (event_by s 0 outcome) gone refl refl refl
+    (λ j x n. stopped_stays s outcome gone j x e) m
 
 -- ---- an instance call that acts
 
 -- the counter moves on by one where an instance is started
-pub next-is : (c : InstanceCall) (s : Sheet) (st : State) → 1 ≤ st .nextHandle →
-    (begins c s st ≡ true → st .nextHandle < 2 ^ 63) →
-    nextAfter c s st ≡ st .nextHandle + bit (begins c s st)
-unfolding nextAfter allocated
+pub next-is : (c : InstanceCall) (s : Sheet) (st : State) → 1 ≤ st.next_handle →
+    (begins c s st ≡ true → st.next_handle < 2 ^ 63) →
+    next_after c s st ≡ st.next_handle + bit (begins c s st)
+unfolding next_after allocated
 next-is c s st one room =
     split (begins c s st)
-    (λ e. let l : st .nextHandle < 2 ^ 63 = room e in
-    rw (e, not-nil (st .nextHandle) one) (mod-eq-of-lt {n = st .nextHandle + 1} {m = 2 ^ 64} (omega arith)))
-    (λ e. rw e (sym (add-zero (st .nextHandle))))
+    (λ e. let l : st.next_handle < 2 ^ 63 = room e in
+    rw (e, not-nil st.next_handle one) (mod-eq_of_lt {n = st.next_handle + 1} {m = 2 ^ 64} (omega arith)))
+    (λ e. rw e (sym (add-zero st.next_handle)))
 
 -- the handles that the call starts
-starts-are : (c : InstanceCall) (s : Sheet) (st : State) (fits : FitsGuid (s .key))
-    (rises : Within instanceKey 0 bound (st .instances)) (one : 1 ≤ st .nextHandle) (outcome : ℕ) →
-    startsAt (eventBy s (answered c s st fits rises one) outcome) (lookup instanceKey (num (s .key)) (st .instances)) ≡ cond
-    (begins c s st) (st .nextHandle ∷ []) []
-starts-are c s st fits rises one outcome =
+starts_are : (c : InstanceCall) (s : Sheet) (st : State) (fits : FitsGuid s.key)
+    (rises : Within instance_key 0 bound st.instances) (one : 1 ≤ st.next_handle) (outcome : ℕ) →
+    starts_at (event_by s (answered c s st fits rises one) outcome) (lookup instance_key (num s.key) st.instances) ≡ cond
+    (begins c s st) (st.next_handle ∷ []) []
+starts_are c s st fits rises one outcome =
     split (begins c s st)
     (λ e. rw (
-      begins-absent c s st e .1,
-      answered-new c s st fits rises one e,
+      (begins-absent c s st e).1,
+      answered_new c s st fits rises one e,
       e,
-      ne-eqb (st .nextHandle) 0
+      ne_eqb st.next_handle 0
           (λ q. omega arith),
     ))
-    (λ e. rw e (go e (lookup instanceKey (num (s .key)) (st .instances)) refl))
+    (λ e. rw e (go e (lookup instance_key (num s.key) st.instances) refl))
   where
-    go : begins c s st ≡ false → (o : Option Instance) → lookup instanceKey (num (s .key)) (st .instances) ≡ o →
-        startsAt (eventBy s (answered c s st fits rises one) outcome) o ≡ []
-    go e none n = rw (answered-none c s st fits rises one e n)
+    go : begins c s st ≡ false → (o : Option Instance) → lookup instance_key (num s.key) st.instances ≡ o →
+        starts_at (event_by s (answered c s st fits rises one) outcome) o ≡ []
+    go e none n = rw (answered_none c s st fits rises one e n)
     go e (some x) n = refl
 
 pub instance-heard : (st : State) (acc : InstanceAccounts) (c : InstanceCall) (s : Sheet) (gone : List Guid)
-    (outcome : ℕ) → FitsGuid (s .key) →
-    (begins c s st ≡ true → st .nextHandle < 2 ^ 63) → InstanceSim st acc →
-    InstanceSim (instanceTurn c s st .state)
-    (S.reach (some (instances c)) (eventBy s (instanceTurn c s st .answer .handle .0) outcome) gone acc)
-unfolding instanceTurn answered
+    (outcome : ℕ) → FitsGuid s.key →
+    (begins c s st ≡ true → st.next_handle < 2 ^ 63) → InstanceSim st acc →
+    InstanceSim (instance_turn c s st).state
+    (S.reach (some (instances c)) (event_by s (instance_turn c s st).answer.handle.0 outcome) gone acc)
+unfolding instance_turn answered
 instance-heard st acc c s gone outcome fits room m =
-    let one : 1 ≤ st .nextHandle = one-next st acc m in
-    let h : ℕ = answered c s st fits (m .rising) one in
-    let more = handles-more (begins c s st) (acc .handles) (startsAt (eventBy s h outcome) (acc .at (num (s .key))))
-    (st .nextHandle) (nextAfter c s st)
-    (m .handles) (m .next)
-    (ap (startsAt (eventBy s h outcome)) (sym (m .agree (num (s .key)))) ∙ starts-are c s st fits (m .rising) one outcome)
+    let one : 1 ≤ st.next_handle = one-next st acc m in
+    let h : ℕ = answered c s st fits m.rising one in
+    let more = handles_more (begins c s st) acc.handles (starts_at (event_by s h outcome) (acc.at (num s.key)))
+    st.next_handle (next_after c s st)
+    m.handles m.next
+    (ap (starts_at (event_by s h outcome)) (sym (m.agree (num s.key))) ∙ starts_are c s st fits m.rising one outcome)
     (next-is c s st one room) in
     record {
-      rising = turned-rises c s st fits (m .rising) one;
-      agree = λ j. turned-at c s st fits (m .rising) one j gone outcome
-          ∙ ap (onInstance (instances c) (eventBy s h outcome) gone j) (m .agree j);
-      handles = more .0;
-      next = more .1;
+      rising = turned_rises c s st fits m.rising one;
+      agree = λ j. turned_at c s st fits m.rising one j gone outcome
+          ∙ ap (on_instance (instances c) (event_by s h outcome) gone j) (m.agree j);
+      handles = more.0;
+      next = more.1;
     }
 
 -- ---- admit with outcome 0: codes 16, 9 and 10, and a further 16
 
 -- the further one takes an instance that was started
-started-taken : (s : Sheet) (k : Guid) (h : ℕ) →
-    ownershipTried s (admittedNoted s (admittedObserved s (started k h .state)))
-    ≡ ownedFrom s (admittedNoted s (admittedObserved s (started k h .state)))
+started_taken : (s : Sheet) (k : Guid) (h : ℕ) →
+    ownership_tried s (admitted_noted s (admitted_observed s (started k h).state))
+    ≡ owned_from s (admitted_noted s (admitted_observed s (started k h).state))
 unfolding started
-started-taken s k h = first-taken s
+started_taken s k h = first_taken s
 
 -- the four on one account are section 6's one, where 16 and 10 answer no handle
 admit-steps : (s : Sheet) (gone : List Guid) (j h before after last : ℕ) (o : Option Instance) → before ≡ 0 → after ≡ 0 →
     last ≡ 0 →
-    onInstance (instances acceptUnderExclusiveOwnership) (eventBy s last 0) [] j
-    (onInstance (instances noteAdmitted) (eventBy s after 0) [] j
-    (onInstance (instances observeAdmitted) (eventBy s h 0) [] j
-    (onInstance (instances acceptUnderExclusiveOwnership) (eventBy s before 0) [] j o)))
-    ≡ onInstance (joined admit) (eventBy s h 0) gone j o
+    on_instance (instances accept_under_exclusive_ownership) (event_by s last 0) [] j
+    (on_instance (instances note_admitted) (event_by s after 0) [] j
+    (on_instance (instances observe_admitted) (event_by s h 0) [] j
+    (on_instance (instances accept_under_exclusive_ownership) (event_by s before 0) [] j o)))
+    ≡ on_instance (joined admit) (event_by s h 0) gone j o
 admit-steps s gone j h before after last none e d f =
-    split (isKeyed s j)
-    (λ k. rw (e, k) (split (eqb h 0) (λ z. rw (z, k, d, f) (still k)) (λ z. rw (z, k, k, k, started-taken s (s .key) h))))
+    split (is_keyed s j)
+    (λ k. rw (e, k) (split (eqb h 0) (λ z. rw (z, k, d, f) (still k)) (λ z. rw (z, k, k, k, started_taken s s.key h))))
     (λ k. rw (e, k, k, k, k))
   where
-    quiet : (c : InstanceCall) → isKeyed s j ≡ true → onAbsent (instances c) (eventBy s 0 0) j ≡ none
+    quiet : (c : InstanceCall) → is_keyed s j ≡ true → on_absent (instances c) (event_by s 0 0) j ≡ none
     quiet c k = rw k
 
-    still : isKeyed s j ≡ true →
-        onInstance (instances acceptUnderExclusiveOwnership) (eventBy s 0 0) [] j (onAbsent (instances noteAdmitted) (eventBy s 0 0) j) ≡ none
+    still : is_keyed s j ≡ true →
+        on_instance (instances accept_under_exclusive_ownership) (event_by s 0 0) [] j (on_absent (instances note_admitted) (event_by s 0 0) j) ≡ none
     still k =
-        ap (onInstance (instances acceptUnderExclusiveOwnership) (eventBy s 0 0) [] j) (quiet noteAdmitted k)
-        ∙ quiet acceptUnderExclusiveOwnership k
+        ap (on_instance (instances accept_under_exclusive_ownership) (event_by s 0 0) [] j) (quiet note_admitted k)
+        ∙ quiet accept_under_exclusive_ownership k
 admit-steps s gone j h before after last (some x) e d f =
-    split (isKeyed s j) (λ k. rw (k, k, k, k, tried-again s (x .state))) (λ k. rw (k, k, k, k))
+    split (is_keyed s j) (λ k. rw (k, k, k, k, tried_again s x.state)) (λ k. rw (k, k, k, k))
 
 -- code 16 neither starts nor purges
-pub tried-none : (s : Sheet) (j h : ℕ) (o : Option Instance) → h ≡ 0 →
-    onInstance (instances acceptUnderExclusiveOwnership) (eventBy s h 0) [] j o ≡ none → o ≡ none
-tried-none s j h none e n = refl
-tried-none s j h (some x) e n =
-    split (isKeyed s j)
-    (λ k. let q : S.leaving x (effect acceptUnderExclusiveOwnership s (x .state)) ≡ none = rw k at n in missing (sym q))
+pub tried_none : (s : Sheet) (j h : ℕ) (o : Option Instance) → h ≡ 0 →
+    on_instance (instances accept_under_exclusive_ownership) (event_by s h 0) [] j o ≡ none → o ≡ none
+tried_none s j h none e n = refl
+tried_none s j h (some x) e n =
+    split (is_keyed s j)
+    (λ k. let q : S.leaving x (effect accept_under_exclusive_ownership s x.state) ≡ none = rw k at n in missing (sym q))
     (λ k. let q : some x ≡ none = rw k at n in q)
 
-tried-starts : (s : Sheet) (j h before : ℕ) (o : Option Instance) → before ≡ 0 →
-    startsAt (eventBy s h 0) (onInstance (instances acceptUnderExclusiveOwnership) (eventBy s before 0) [] j o) ≡ startsAt
-    (eventBy s h 0) o
-tried-starts s j h before none e = split (isKeyed s j) (λ k. rw (e, k)) (λ k. rw k)
-tried-starts s j h before (some x) e = split (isKeyed s j) (λ k. rw k) (λ k. rw k)
+tried_starts : (s : Sheet) (j h before : ℕ) (o : Option Instance) → before ≡ 0 →
+    starts_at (event_by s h 0) (on_instance (instances accept_under_exclusive_ownership) (event_by s before 0) [] j o) ≡ starts_at
+    (event_by s h 0) o
+tried_starts s j h before none e = split (is_keyed s j) (λ k. rw (e, k)) (λ k. rw k)
+tried_starts s j h before (some x) e = split (is_keyed s j) (λ k. rw k) (λ k. rw k)
 
-silent-starts : (s : Sheet) (h : ℕ) (o : Option Instance) → h ≡ 0 → startsAt (eventBy s h 0) o ≡ []
+silent-starts : (s : Sheet) (h : ℕ) (o : Option Instance) → h ≡ 0 → starts_at (event_by s h 0) o ≡ []
 silent-starts s h none e = rw e
 silent-starts s h (some x) e = refl
 
 -- accounts that agree at each key, with the same handles
-same-accounts : (st : State) (acc acc′ : InstanceAccounts) → ((j : ℕ) → acc .at j ≡ acc′ .at j) →
-    acc .handles ≡ acc′ .handles →
-    InstanceSim st acc → InstanceSim st acc′
-same-accounts st acc acc′ e d m =
+same_accounts : (st : State) (acc acc' : InstanceAccounts) → ((j : ℕ) → acc.at j ≡ acc'.at j) →
+    acc.handles ≡ acc'.handles →
+    InstanceSim st acc → InstanceSim st acc'
+same_accounts st acc acc' e d m =
     record {
-      rising = m .rising;
-      agree = λ j. m .agree j ∙ e j;
-      handles = rw (← d) (m .handles);
-      next = rw (← d) (m .next);
+      rising = m.rising;
+      agree = λ j. m.agree j ∙ e j;
+      handles = rw (← d) m.handles;
+      next = rw (← d) m.next;
     }
 
 abbrev pub tried : Sheet → State → State
-tried s st = instanceTurn acceptUnderExclusiveOwnership s st .state
+tried s st = (instance_turn accept_under_exclusive_ownership s st).state
 
 abbrev pub observed : Sheet → State → State
-observed s st = instanceTurn observeAdmitted s (tried s st) .state
+observed s st = (instance_turn observe_admitted s (tried s st)).state
 
-pub tried-next : (s : Sheet) (st : State) → tried s st .nextHandle ≡ st .nextHandle
-unfolding instanceTurn nextAfter
-tried-next s st = refl
+pub tried_next : (s : Sheet) (st : State) → (tried s st).next_handle ≡ st.next_handle
+unfolding instance_turn next_after
+tried_next s st = refl
 
-pub tried-silent : (s : Sheet) (st : State) → instanceTurn acceptUnderExclusiveOwnership s st .answer .handle .0 ≡ 0
-unfolding instanceTurn
-tried-silent s st = refl
+pub tried_silent : (s : Sheet) (st : State) → (instance_turn accept_under_exclusive_ownership s st).answer.handle.0 ≡ 0
+unfolding instance_turn
+tried_silent s st = refl
 
-noted-silent : (s : Sheet) (st : State) → instanceTurn noteAdmitted s st .answer .handle .0 ≡ 0
-unfolding instanceTurn
-noted-silent s st = info-answer (lookup instanceKey (num (s .key)) (instancesAfter noteAdmitted s st))
+noted_silent : (s : Sheet) (st : State) → (instance_turn note_admitted s st).answer.handle.0 ≡ 0
+unfolding instance_turn
+noted_silent s st = info_answer_lem (lookup instance_key (num s.key) (instances_after note_admitted s st))
 
 admitted-handle : (s : Sheet) (st : State) →
-    admitted s st .answer .handle .0 ≡ instanceTurn observeAdmitted s (tried s st) .answer .handle .0
+    (admitted s st).answer.handle.0 ≡ (instance_turn observe_admitted s (tried s st)).answer.handle.0
 unfolding admitted sampled
 admitted-handle s st = refl
 
 abbrev pub noted : Sheet → State → State
-noted s st = instanceTurn noteAdmitted s (observed s st) .state
+noted s st = (instance_turn note_admitted s (observed s st)).state
 
-pub admitted-is : (s : Sheet) (st : State) → admitted s st .state ≡ tried s (noted s st)
+pub admitted-is : (s : Sheet) (st : State) → (admitted s st).state ≡ tried s (noted s st)
 admitted-is s st = admitted-state s st ∙ ap (tried s) (unfold sampled in refl)
 
-module _ (s : Sheet) (st : State) (acc : InstanceAccounts) (fits : FitsGuid (s .key)) (m : InstanceSim st acc)
-    (room : lookup instanceKey (num (s .key)) (st .instances) ≡ none → st .nextHandle < 2 ^ 63) where
+module _ (s : Sheet) (st : State) (acc : InstanceAccounts) (fits : FitsGuid s.key) (m : InstanceSim st acc)
+    (room : lookup instance_key (num s.key) st.instances ≡ none → st.next_handle < 2 ^ 63) where
   abbrev k : ℕ
-  k = num (s .key)
+  k = num s.key
 
   abbrev h1 : ℕ
-  h1 = instanceTurn acceptUnderExclusiveOwnership s st .answer .handle .0
+  h1 = (instance_turn accept_under_exclusive_ownership s st).answer.handle.0
 
   abbrev h2 : ℕ
-  h2 = instanceTurn observeAdmitted s (tried s st) .answer .handle .0
+  h2 = (instance_turn observe_admitted s (tried s st)).answer.handle.0
 
   abbrev acc1 : InstanceAccounts
-  acc1 = S.reach (some (instances acceptUnderExclusiveOwnership)) (eventBy s h1 0) [] acc
+  acc1 = S.reach (some (instances accept_under_exclusive_ownership)) (event_by s h1 0) [] acc
 
   abbrev acc2 : InstanceAccounts
-  acc2 = S.reach (some (instances observeAdmitted)) (eventBy s h2 0) [] acc1
+  acc2 = S.reach (some (instances observe_admitted)) (event_by s h2 0) [] acc1
 
   m1 : InstanceSim (tried s st) acc1
-  m1 = instance-heard st acc acceptUnderExclusiveOwnership s [] 0 fits (λ e. never (sym e)) m
+  m1 = instance-heard st acc accept_under_exclusive_ownership s [] 0 fits (λ e. never (sym e)) m
 
-  room1 : begins observeAdmitted s (tried s st) ≡ true → tried s st .nextHandle < 2 ^ 63
+  room1 : begins observe_admitted s (tried s st) ≡ true → (tried s st).next_handle < 2 ^ 63
   room1 e =
-      rw (tried-next s st)
-      (room (m .agree k ∙ tried-none s k h1 (acc .at k) (tried-silent s st)
-      (sym (m1 .agree k) ∙ begins-absent observeAdmitted s (tried s st) e .1)))
+      rw (tried_next s st)
+      (room (m.agree k ∙ tried_none s k h1 (acc.at k) (tried_silent s st)
+      (sym (m1.agree k) ∙ (begins-absent observe_admitted s (tried s st) e).1)))
 
   m2 : InstanceSim (observed s st) acc2
-  m2 = instance-heard (tried s st) acc1 observeAdmitted s [] 0 fits room1 m1
+  m2 = instance-heard (tried s st) acc1 observe_admitted s [] 0 fits room1 m1
 
   pub admit-heard : (gone : List Guid) →
-      InstanceSim (admitted s st .state) (S.reach (some (joined admit)) (eventBy s (admitted s st .answer .handle .0) 0) gone acc)
+      InstanceSim (admitted s st).state (S.reach (some (joined admit)) (event_by s (admitted s st).answer.handle.0 0) gone acc)
   admit-heard gone =
-      rw (admitted-is s st, admitted-handle s st) (same-accounts (tried s (noted s st)) acc4 _ points starts m4)
+      rw (admitted-is s st, admitted-handle s st) (same_accounts (tried s (noted s st)) acc4 _ points starts m4)
     where
       h3 : ℕ
-      h3 = instanceTurn noteAdmitted s (observed s st) .answer .handle .0
+      h3 = (instance_turn note_admitted s (observed s st)).answer.handle.0
 
       h4 : ℕ
-      h4 = instanceTurn acceptUnderExclusiveOwnership s (noted s st) .answer .handle .0
+      h4 = (instance_turn accept_under_exclusive_ownership s (noted s st)).answer.handle.0
 
       acc3 : InstanceAccounts
-      acc3 = S.reach (some (instances noteAdmitted)) (eventBy s h3 0) [] acc2
+      acc3 = S.reach (some (instances note_admitted)) (event_by s h3 0) [] acc2
 
       acc4 : InstanceAccounts
-      acc4 = S.reach (some (instances acceptUnderExclusiveOwnership)) (eventBy s h4 0) [] acc3
+      acc4 = S.reach (some (instances accept_under_exclusive_ownership)) (event_by s h4 0) [] acc3
 
       m3 : InstanceSim (noted s st) acc3
-      m3 = instance-heard (observed s st) acc2 noteAdmitted s [] 0 fits (λ e. never (sym e)) m2
+      m3 = instance-heard (observed s st) acc2 note_admitted s [] 0 fits (λ e. never (sym e)) m2
 
       m4 : InstanceSim (tried s (noted s st)) acc4
-      m4 = instance-heard (noted s st) acc3 acceptUnderExclusiveOwnership s [] 0 fits (λ e. never (sym e)) m3
+      m4 = instance-heard (noted s st) acc3 accept_under_exclusive_ownership s [] 0 fits (λ e. never (sym e)) m3
 
-      points : (j : ℕ) → acc4 .at j ≡ onInstance (joined admit) (eventBy s h2 0) gone j (acc .at j)
+      points : (j : ℕ) → acc4.at j ≡ on_instance (joined admit) (event_by s h2 0) gone j (acc.at j)
       points j =
-          admit-steps s gone j h2 h1 h3 h4 (acc .at j) (tried-silent s st) (noted-silent s (observed s st)) (tried-silent s (noted s st))
+          admit-steps s gone j h2 h1 h3 h4 (acc.at j) (tried_silent s st) (noted_silent s (observed s st)) (tried_silent s (noted s st))
 
-      starts : acc4 .handles ≡ acc .handles ++ startsAt (eventBy s h2 0) (acc .at k)
+      starts : acc4.handles ≡ acc.handles ++ starts_at (event_by s h2 0) (acc.at k)
       starts =
           rw (
-            silent-starts s h4 (acc3 .at k) (tried-silent s (noted s st)),
-            append-nil (acc3 .handles),
-            silent-starts s h3 (acc2 .at k) (noted-silent s (observed s st)),
-            append-nil (acc2 .handles),
-            silent-starts s h1 (acc .at k) (tried-silent s st),
-            append-nil (acc .handles),
-          ) (ap (λ (l : List ℕ). acc .handles ++ l) (tried-starts s k h2 h1 (acc .at k) (tried-silent s st)))
+            silent-starts s h4 (acc3.at k) (tried_silent s (noted s st)),
+            append-nil acc3.handles,
+            silent-starts s h3 (acc2.at k) (noted_silent s (observed s st)),
+            append-nil acc2.handles,
+            silent-starts s h1 (acc.at k) (tried_silent s st),
+            append-nil acc.handles,
+          ) (ap (λ (l : List ℕ). acc.handles ++ l) (tried_starts s k h2 h1 (acc.at k) (tried_silent s st)))
 
   -- the handle answered is that of the instance found
-  answered-found : h2 ≡ handleIn (acc2 .at k)
-  answered-found = found ∙ ap handleIn (m2 .agree k)
+  answered_found : h2 ≡ handle_in (acc2.at k)
+  answered_found = found ∙ ap handle_in (m2.agree k)
     where
-      found : h2 ≡ handleIn (lookup instanceKey k (observed s st .instances))
-      found = unfold instanceTurn in samples-answer (lookup instanceKey k (instancesAfter observeAdmitted s (tried s st)))
+      found : h2 ≡ handle_in (lookup instance_key k (observed s st).instances)
+      found = unfold instance_turn in samples_answer_lem (lookup instance_key k (instances_after observe_admitted s (tried s st)))
 
-  tried-there : (x : Instance) → acc .at k ≡ some x →
-      handleIn (onInstance (instances observeAdmitted) (eventBy s h2 0) [] k
-      (onInstance (instances acceptUnderExclusiveOwnership) (eventBy s h1 0) [] k (acc .at k))) ≡ x .handle .0
-  tried-there x e = rw e (split (eqb k k) (λ d. rw (d, d)) (λ d. rw (d, d)))
+  tried_there : (x : Instance) → acc.at k ≡ some x →
+      handle_in (on_instance (instances observe_admitted) (event_by s h2 0) [] k
+      (on_instance (instances accept_under_exclusive_ownership) (event_by s h1 0) [] k (acc.at k))) ≡ x.handle.0
+  tried_there x e = rw e (split (eqb k k) (λ d. rw (d, d)) (λ d. rw (d, d)))
 
-  pub handle-there : (x : Instance) → acc .at k ≡ some x → h2 ≡ x .handle .0
-  handle-there x e = answered-found ∙ tried-there x e
+  pub handle-there : (x : Instance) → acc.at k ≡ some x → h2 ≡ x.handle.0
+  handle-there x e = answered_found ∙ tried_there x e
 
-  unknown : acc .at k ≡ none → known s (tried s st) ≡ false
-  unknown e = known-is s (tried s st) ∙ ap isSome (m1 .agree k ∙ gone)
+  unknown : acc.at k ≡ none → known s (tried s st) ≡ false
+  unknown e = known_is s (tried s st) ∙ ap is_some (m1.agree k ∙ gone)
     where
-      gone : acc1 .at k ≡ none
-      gone = rw (e, tried-silent s st) (split (eqb k k) (λ d. rw d) (λ d. rw d))
+      gone : acc1.at k ≡ none
+      gone = rw (e, tried_silent s st) (split (eqb k k) (λ d. rw d) (λ d. rw d))
 
-  more : acc .at k ≡ none → observed s st .nextHandle ≡ tried s st .nextHandle + 1
+  more : acc.at k ≡ none → (observed s st).next_handle ≡ (tried s st).next_handle + 1
   more e =
-      unfold instanceTurn in
-      next-is observeAdmitted s (tried s st) (omega (arith, m1 .next)) room1
-      ∙ ap (λ (b : Bool). tried s st .nextHandle + bit (not b)) (unknown e)
+      unfold instance_turn in
+      next-is observe_admitted s (tried s st) (omega (arith, m1.next)) room1
+      ∙ ap (λ (b : Bool). (tried s st).next_handle + bit (not b)) (unknown e)
 
-  pub handle-new : acc .at k ≡ none → eqb h2 0 ≡ false
-  handle-new e =
+  pub handle_new : acc.at k ≡ none → eqb h2 0 ≡ false
+  handle_new e =
       split (eqb h2 0)
       (λ d.
       let z : h2 ≡ 0 = eqb-true h2 0 d in
-      let n : length (acc2 .handles) ≡ length (acc1 .handles) + length (startsAt (eventBy s h2 0) (acc1 .at k)) =
-      length-append (acc1 .handles) (startsAt (eventBy s h2 0) (acc1 .at k)) in
-      let q : length (startsAt (eventBy s h2 0) (acc1 .at k)) ≡ 0 = ap length (silent-starts s h2 (acc1 .at k) z) in
-      absurd (omega (arith, n, q, more e, m2 .next, m1 .next)))
+      let n : length acc2.handles ≡ length acc1.handles + length (starts_at (event_by s h2 0) (acc1.at k)) =
+      length-append acc1.handles (starts_at (event_by s h2 0) (acc1.at k)) in
+      let q : length (starts_at (event_by s h2 0) (acc1.at k)) ≡ 0 = ap length (silent-starts s h2 (acc1.at k) z) in
+      absurd (omega (arith, n, q, more e, m2.next, m1.next)))
       (λ d. d)
 
 -- ---- codes 49 to 51
 
-loses-keeps : (gone : List Guid) (at : MaybeTime) → Keeps instanceKey (loses gone at)
-loses-keeps gone at x y e = ap num (kept-key x y (some (leftWithoutAll gone at (x .state))) e .0)
+loses_keeps : (gone : List Guid) (at : MaybeTime) → Keeps instance_key (loses gone at)
+loses_keeps gone at x y e = ap num (kept_key x y (some (left_without_all gone at x.state)) e).0
 
-pub loss-heard : (st st′ : State) (acc : InstanceAccounts) (c : JoinedCall) (s : Sheet) (gone : List Guid) →
-    st′ .instances ≡ sift (loses gone (ifPresent (s .«time_1»))) (st .instances) → st′ .nextHandle ≡ st .nextHandle →
-    ((j : ℕ) (x : Instance) → onPresent (joined c) (eventBy s 0 0) gone j x ≡ S.losing gone s x) → InstanceSim st acc →
-    InstanceSim st′ (S.reach (some (joined c)) (eventBy s 0 0) gone acc)
-loss-heard st st′ acc c s gone same next losing m =
+pub loss_heard : (st st' : State) (acc : InstanceAccounts) (c : JoinedCall) (s : Sheet) (gone : List Guid) →
+    st'.instances ≡ sift (loses gone (if_present s.time_1)) st.instances → st'.next_handle ≡ st.next_handle →
+    ((j : ℕ) (x : Instance) → on_present (joined c) (event_by s 0 0) gone j x ≡ S.losing gone s x) → InstanceSim st acc →
+    InstanceSim st' (S.reach (some (joined c)) (event_by s 0 0) gone acc)
+loss_heard st st' acc c s gone same next losing m =
     record {
-      rising = rw same (within-sift instanceKey 0 bound f (st .instances) (loses-keeps gone at) (m .rising));
+      rising = rw same (within-sift instance_key 0 bound f st.instances (loses_keeps gone at) m.rising);
       agree = λ j. rw same
-          (lookup-sift instanceKey j 0 bound f (st .instances) (loses-keeps gone at) (m .rising)
-          ∙ rw (← m .agree j) (go j (lookup instanceKey j (st .instances))));
-      handles = rw none-start (rw (append-nil (acc .handles)) (m .handles));
-      next = rw none-start (rw (append-nil (acc .handles)) (next ∙ m .next));
+          (lookup_sift instance_key j 0 bound f st.instances (loses_keeps gone at) m.rising
+          ∙ rw (← m.agree j) (go j (lookup instance_key j st.instances)));
+      handles = rw none_start (rw (append-nil acc.handles) m.handles);
+      next = rw none_start (rw (append-nil acc.handles) (next ∙ m.next));
     }
   where
     at : MaybeTime
-    at = ifPresent (s .«time_1»)
+    at = if_present s.time_1
 
     f : Instance → Option Instance
     f = loses gone at
 
-    go : (j : ℕ) (o : Option Instance) → bind f o ≡ onInstance (joined c) (eventBy s 0 0) gone j o
-    go j none = split (isKeyed s j) (λ d. rw d) (λ d. rw d)
+    go : (j : ℕ) (o : Option Instance) → bind f o ≡ on_instance (joined c) (event_by s 0 0) gone j o
+    go j none = split (is_keyed s j) (λ d. rw d) (λ d. rw d)
     go j (some x) = sym (losing j x)
 
-    none-start : startsAt (eventBy s 0 0) (acc .at (num (s .key))) ≡ []
-    none-start = silent-starts s 0 (acc .at (num (s .key))) refl
+    none_start : starts_at (event_by s 0 0) (acc.at (num s.key)) ≡ []
+    none_start = silent-starts s 0 (acc.at (num s.key)) refl

@@ -6,37 +6,34 @@
 // Derives from instance_tracker.rs of ZeroDDS.
 // Copyright 2026 ZeroDDS Contributors. SPDX-License-Identifier: Apache-2.0. Changed: written anew in Rattle, with the
 // reader's calls for one sample joined into one call.
+#![tactic(auto)]
+
+ghost use Rattle.std.specs.Prelude.{true, false, map, ◌≡◌, ◌<◌};
+ghost use Rattle.std.proofs.Math.Option.{some};
+ghost use Rattle.model.specs.Answers.{refused_with, stopping, both};
+ghost use Rattle.model.specs.Guids.{num};
+ghost use Rattle.model.specs.InstanceCalls.{samples_answer, info_answer, crowds};
+ghost use Rattle.model.specs.Instances.{has_key, takes_over};
+ghost use Rattle.model.specs.Joined.{admit_call, in_order, passes_filter};
+ghost use Rattle.model.specs.State.{instance_key, instances_in};
+ghost use Rattle.tables.specs.declared.Found.TheVariants.{Missing};
+ghost use Rattle.tables.specs.Found.{found_in};
+ghost use Rattle.tables.specs.Places.{Only};
+ghost use Rattle.instance_fields.specs.Usable.{Usable, Room};
+ghost use Rattle.instance_table.specs.TableCalls.{TableFormed, state_with};
+ghost use Rattle.instance_reach.specs.Turned.{LeavesTable, blank};
+ghost use Rattle.admission.specs.Admits.{Admits, Known, Timely, Sampled, limited};
+
 use instance_table::TableCall;
-use model::Answer;
-use model::Instance;
-use model::InstanceHandle;
-use model::Sheet;
+use model::{Answer, Instance, InstanceHandle, Sheet};
 use tables::Found;
-ghost use mathlib.Core.Bool.{true, false};
-ghost use mathlib.Core.List.{map};
-ghost use mathlib.Core.Option.{some};
-ghost use mathlib.Core.Path.{_≡_};
-ghost use Prim.Native.Nat.{_<_};
-ghost use Rattle·model.specs.Answers.{refusedWith, stopping, both};
-ghost use Rattle·model.specs.Guids.{num};
-ghost use Rattle·model.specs.InstanceCalls.{samplesAnswer, infoAnswer, crowds};
-ghost use Rattle·model.specs.Instances.{hasKey, takesOver};
-ghost use Rattle·model.specs.Joined.{admitCall, inOrder, passesFilter};
-ghost use Rattle·model.specs.State.{instanceKey, instancesIn};
-ghost use Rattle·tables.specs.declared.Found.the-variants.{Missing};
-ghost use Rattle·tables.specs.Found.{foundIn};
-ghost use Rattle·tables.specs.Places.{Only};
-ghost use Rattle·instance_fields.specs.Usable.{Usable, Room};
-ghost use Rattle·instance_table.specs.TableCalls.{TableFormed, stateWith};
-ghost use Rattle·instance_reach.specs.Turned.{LeavesTable, blank};
-ghost use Rattle·admission·specs.specs.Admits.{Admits, Known, Timely, Sampled, limited};
 
 // ---- the answers
 
 // The sample is not admitted: the number of a refusal, or the outcome that says why.
 fn stopped(number: u8, outcome: u8) -> Answer
-    ensures refusal { λ r. ⌜ (outcome ≡ 0 → r ≡ refusedWith number) ⌝ }
-    ensures stop { λ r. ⌜ (number ≡ 0 → r ≡ stopping outcome) ⌝ }
+    ensures refusal { outcome ≡ 0 → result ≡ refused_with number }
+    ensures stop { number ≡ 0 → result ≡ stopping outcome }
 {
     let mut r = answers::silent();
     r.number = number;
@@ -46,7 +43,7 @@ fn stopped(number: u8, outcome: u8) -> Answer
 
 // The sample is admitted: the instance's handle and samples, and what a SampleInfo takes from it.
 fn admitted_answer(y: Instance) -> Answer
-    ensures { λ r. ⌜ r ≡ both (samplesAnswer (some y)) (infoAnswer (some y)) ⌝ }
+    ensures { result ≡ both (samples_answer (some y)) (info_answer (some y)) }
 {
     let z = y.state;
     let l = z.life;
@@ -61,7 +58,7 @@ fn admitted_answer(y: Instance) -> Answer
 
 // Destination order by time 1, where the sheet asks for it by source.
 fn in_order(s: Sheet, x: Instance) -> bool
-    ensures { λ r. ⌜ r ≡ inOrder s (some x) ⌝ }
+    ensures { result ≡ in_order s (some x) }
 {
     let y = x.state;
     let m = y.times;
@@ -75,7 +72,7 @@ fn in_order(s: Sheet, x: Instance) -> bool
 
 // The filter by time 2, with A as separation.
 fn passes_filter(s: Sheet, x: Instance) -> bool
-    ensures { λ r. ⌜ r ≡ passesFilter s (some x) ⌝ }
+    ensures { result ≡ passes_filter s (some x) }
 {
     let y = x.state;
     let m = y.times;
@@ -89,8 +86,8 @@ fn passes_filter(s: Sheet, x: Instance) -> bool
 // Codes 9 and 10 on the instance, and the sample's writer owns it: key and handle stay. A first writer is an owner as any
 // other: ownership is exclusive from the first sample on (DDS 1.4, 2.2.3.9.2).
 fn sampled(s: Sheet, x: Instance) -> Instance
-    requires { ⌜ Usable (x .state) × Room (s .guid) (x .state) ⌝ }
-    ensures { λ r. ⌜ Sampled s x r ⌝ }
+    requires { Usable x.state × Room s.guid x.state }
+    ensures { Sampled s x result }
 {
     let key = x.key;
     let handle = x.handle;
@@ -115,9 +112,9 @@ fn admit_at(
     count: u32,
     next: InstanceHandle,
 ) -> TableCall
-    requires { ⌜ TableFormed places count (next .0) (now pens) × Known s (instancesIn count (now pens)) i x × Timely s x × (crowds s (some x) ≡ false)
-        × (takesOver s (x .state) ≡ true) ⌝ }
-    ensures { λ r. ⌜ Admits places s (instancesIn count (now (pens .entry))) (next .0) r (now (pens .exit)) ⌝ }
+    requires { TableFormed places count next.0 pens.old × Known s (instances_in count pens.old) i x × Timely s x × (crowds s (some x) ≡ false)
+        × (takes_over s x.state ≡ true) }
+    ensures { Admits places s (instances_in count pens.old) next.0 result pens.new }
 {
     let y = sampled(s, x);
     instance_table::replace(pens, i, y);
@@ -137,9 +134,9 @@ fn admit_first(
     count: u32,
     next: InstanceHandle,
 ) -> TableCall
-    requires { ⌜ TableFormed places count (next .0) (now pens) × (foundIn (map instanceKey (instancesIn count (now pens))) (num (s .key)) ≡ Missing i)
-        × (limited s count ≡ false) × (count < places) × (next .0 < 9223372036854775808) ⌝ }
-    ensures { λ r. ⌜ Admits places s (instancesIn count (now (pens .entry))) (next .0) r (now (pens .exit)) ⌝ }
+    requires { TableFormed places count next.0 pens.old × (found_in (map instance_key (instances_in count pens.old)) (num s.key) ≡ Missing i)
+        × (limited s count ≡ false) × (count < places) × (next.0 < 9223372036854775808) }
+    ensures { Admits places s (instances_in count pens.old) next.0 result pens.new }
 {
     let key = s.key;
     let a = instance_handle::allocate_step(next.0);
@@ -166,8 +163,8 @@ fn admit_timely(
     count: u32,
     next: InstanceHandle,
 ) -> TableCall
-    requires { ⌜ TableFormed places count (next .0) (now pens) × Known s (instancesIn count (now pens)) i x × Timely s x ⌝ }
-    ensures { λ r. ⌜ Admits places s (instancesIn count (now (pens .entry))) (next .0) r (now (pens .exit)) ⌝ }
+    requires { TableFormed places count next.0 pens.old × Known s (instances_in count pens.old) i x × Timely s x }
+    ensures { Admits places s (instances_in count pens.old) next.0 result pens.new }
 {
     let before = x.state;
     let full = instance_reach::crowds(s, x);
@@ -198,8 +195,8 @@ fn admit_known(
     count: u32,
     next: InstanceHandle,
 ) -> TableCall
-    requires { ⌜ TableFormed places count (next .0) (now pens) × Only (hasKey (s .key)) (instancesIn count (now pens)) i blank ⌝ }
-    ensures { λ r. ⌜ Admits places s (instancesIn count (now (pens .entry))) (next .0) r (now (pens .exit)) ⌝ }
+    requires { TableFormed places count next.0 pens.old × Only (has_key s.key) (instances_in count pens.old) i blank }
+    ensures { Admits places s (instances_in count pens.old) next.0 result pens.new }
 {
     let x = instance_decoding::instance_at(pens, i);
     let ordered = in_order(s, x);
@@ -231,8 +228,8 @@ fn admit_new(
     count: u32,
     next: InstanceHandle,
 ) -> TableCall
-    requires { ⌜ TableFormed places count (next .0) (now pens) × (foundIn (map instanceKey (instancesIn count (now pens))) (num (s .key)) ≡ Missing i) ⌝ }
-    ensures { λ r. ⌜ Admits places s (instancesIn count (now (pens .entry))) (next .0) r (now (pens .exit)) ⌝ }
+    requires { TableFormed places count next.0 pens.old × (found_in (map instance_key (instances_in count pens.old)) (num s.key) ≡ Missing i) }
+    ensures { Admits places s (instances_in count pens.old) next.0 result pens.new }
 {
     if instance_reach::at_limit(s.first, count) {
         return TableCall {
@@ -262,8 +259,8 @@ pub fn admit(
     count: u32,
     next: InstanceHandle,
 ) -> TableCall
-    requires { ⌜ TableFormed places count (next .0) (now pens) ⌝ }
-    ensures { λ r. ⌜ LeavesTable places (admitCall places s (stateWith (instancesIn count (now (pens .entry))) (next .0))) r (now (pens .exit)) ⌝ }
+    requires { TableFormed places count next.0 pens.old }
+    ensures { LeavesTable places (admit_call places s (state_with (instances_in count pens.old) next.0)) result pens.new }
 {
     let key = s.key;
     let f = instance_table::find_key(pens, count as usize, key);

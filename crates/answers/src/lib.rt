@@ -1,19 +1,17 @@
 // What a call answers, by value: each function makes the answer that the definition of its name in model's Answers says. A
 // field that is not answered is zero.
-use model::Answer;
-use model::Called;
-use model::Head;
-use model::InstanceHandle;
-use model::InstanceState;
-use model::InstanceStateKind;
-use model::LivelinessChangedStatus;
-use model::MaybeDue;
-use model::SampleInfo;
-ghost use mathlib.Core.Path.{_≡_};
-ghost use Rattle·model.specs.Answers.{noInfo, noStatus, refusedWith, silent, saying, counting, listing, handed, handedSamples, infoOf, informed, sayingDue, reporting};
+#![tactic(auto)]
+
+ghost use Rattle.std.specs.Prelude.{◌≡◌};
+ghost use Rattle.model.specs.Answers.{no_info, no_status, refused_with, silent, saying, counting, listing, handed, handed_samples, info_of, informed, saying_due, reporting};
+
+use model::{
+    Answer, Called, Head, InstanceHandle, InstanceState, InstanceStateKind,
+    LivelinessChangedStatus, MaybeDue, SampleInfo,
+};
 
 fn no_info() -> SampleInfo
-    ensures { λ r. ⌜ r ≡ noInfo ⌝ }
+    ensures { result ≡ no_info }
 {
     SampleInfo {
         view_new: false,
@@ -24,7 +22,7 @@ fn no_info() -> SampleInfo
 }
 
 fn no_status() -> LivelinessChangedStatus
-    ensures { λ r. ⌜ r ≡ noStatus ⌝ }
+    ensures { result ≡ no_status }
 {
     LivelinessChangedStatus {
         alive_count: 0,
@@ -37,7 +35,7 @@ fn no_status() -> LivelinessChangedStatus
 
 // Accepted, and nothing more to say; also "none".
 pub fn silent() -> Answer
-    ensures { λ r. ⌜ r ≡ silent ⌝ }
+    ensures { result ≡ silent }
 {
     let info = no_info();
     let status = no_status();
@@ -61,7 +59,7 @@ pub fn silent() -> Answer
 
 // A refusal: its number.
 pub fn refused_with(n: u8) -> Answer
-    ensures { λ r. ⌜ r ≡ refusedWith n ⌝ }
+    ensures { result ≡ refused_with n }
 {
     let mut r = silent();
     r.number = n;
@@ -70,7 +68,7 @@ pub fn refused_with(n: u8) -> Answer
 
 // A refused call: the number, and the head as it was.
 pub fn refused(number: u8, head: Head) -> Called
-    ensures { λ r. ⌜ r ≡ record { answer = refusedWith number; head = head } ⌝ }
+    ensures { result ≡ record { answer = refused_with number; head = head } }
 {
     let a = refused_with(number);
     Called {
@@ -81,7 +79,7 @@ pub fn refused(number: u8, head: Head) -> Called
 
 // Yes or no.
 pub fn saying(yes: bool) -> Answer
-    ensures { λ r. ⌜ r ≡ saying yes ⌝ }
+    ensures { result ≡ saying yes }
 {
     let mut r = silent();
     r.yes = yes;
@@ -90,7 +88,7 @@ pub fn saying(yes: bool) -> Answer
 
 // A number of instances.
 pub fn counting(n: u32) -> Answer
-    ensures { λ r. ⌜ r ≡ counting n ⌝ }
+    ensures { result ≡ counting n }
 {
     let mut r = silent();
     r.count = n;
@@ -99,7 +97,7 @@ pub fn counting(n: u32) -> Answer
 
 // A number of entries in Out.
 pub fn listing(n: u32) -> Answer
-    ensures { λ r. ⌜ r ≡ listing n ⌝ }
+    ensures { result ≡ listing n }
 {
     let mut r = silent();
     r.listed = n;
@@ -108,7 +106,7 @@ pub fn listing(n: u32) -> Answer
 
 // A handle and the samples of its instance.
 pub fn handed_samples(h: InstanceHandle, samples: u32) -> Answer
-    ensures { λ r. ⌜ r ≡ handedSamples h samples ⌝ }
+    ensures { result ≡ handed_samples h samples }
 {
     let mut r = silent();
     r.present = true;
@@ -119,14 +117,14 @@ pub fn handed_samples(h: InstanceHandle, samples: u32) -> Answer
 
 // A handle.
 pub fn handed(h: InstanceHandle) -> Answer
-    ensures { λ r. ⌜ r ≡ handed h ⌝ }
+    ensures { result ≡ handed h }
 {
     handed_samples(h, 0)
 }
 
 // What a SampleInfo takes from its instance.
 pub fn info_of(x: InstanceState) -> SampleInfo
-    ensures { λ r. ⌜ r ≡ infoOf x ⌝ }
+    ensures { result ≡ info_of x }
 {
     let l = x.life;
     let k = l.kind;
@@ -140,7 +138,7 @@ pub fn info_of(x: InstanceState) -> SampleInfo
 
 // The four fields for a SampleInfo.
 pub fn informed(info: SampleInfo) -> Answer
-    ensures { λ r. ⌜ r ≡ informed info ⌝ }
+    ensures { result ≡ informed info }
 {
     let mut r = silent();
     r.present = true;
@@ -150,7 +148,7 @@ pub fn informed(info: SampleInfo) -> Answer
 
 // Yes or no, and when the next lease is due.
 pub fn saying_due(yes: bool, due: MaybeDue) -> Answer
-    ensures { λ r. ⌜ r ≡ sayingDue yes due ⌝ }
+    ensures { result ≡ saying_due yes due }
 {
     let mut r = saying(yes);
     r.next_due = due;
@@ -159,7 +157,7 @@ pub fn saying_due(yes: bool, due: MaybeDue) -> Answer
 
 // A status.
 pub fn reporting(status: LivelinessChangedStatus) -> Answer
-    ensures { λ r. ⌜ r ≡ reporting status ⌝ }
+    ensures { result ≡ reporting status }
 {
     let mut r = silent();
     r.status = status;

@@ -1,29 +1,26 @@
 // The head and the answer in bytes, as a recorded list holds them and as they cross the C boundary: 64 and 72 bytes, whose
 // layout stands in specs/Layouts.
-use model::Answer;
-use model::Guid;
-use model::Head;
-use model::InstanceHandle;
-use model::InstanceStateKind;
-use model::LastWriter;
-use model::LivelinessChangedStatus;
-ghost use mathlib.Core.Path.{_≡_};
-ghost use lib.ListN.{length};
-ghost use mir.Syntax.{w32};
-ghost use mir.Val.{toZ};
-ghost use Prim.Native.Nat.{_+_, _≤_};
-ghost use Rattle·octets.specs.Fields.{puts};
-ghost use Rattle·octets.specs.Octets.{be};
-ghost use Rattle·model.specs.Guids.{guidAt};
-ghost use Rattle·model.specs.InstanceRecord.{bit, kindNumber};
-ghost use Rattle·boundary·specs.specs.Layouts.{lastPresent, lastGuid, lastWriter, headBytes, headIn, headLaid, answerBytes};
-ghost use Rattle·boundary·specs.specs.Parts.{countWidths, countValues, changeWidths, changeValues, lastWidths, lastValues, bitWidths, bitValues, kindWidths, kindValues, listWidths, listValues, statusWidths, statusValues, dueWidths, dueValues};
+#![tactic(auto)]
+
+ghost use Rattle.std.specs.Prelude.{◌≡◌, length, ◌+◌, ◌≤◌};
+ghost use Rattle.std.specs.Int.{w32};
+ghost use Rattle.std.proofs.Common.{to_z};
+ghost use Rattle.octets.specs.Fields.{puts};
+ghost use Rattle.octets.specs.Octets.{be};
+ghost use Rattle.model.specs.Guids.{guid_at};
+ghost use Rattle.model.specs.InstanceRecord.{bit, kind_number};
+ghost use Rattle.boundary.specs.Layouts.{last_present, last_guid, last_writer, head_bytes, head_in, head_laid, answer_bytes};
+ghost use Rattle.boundary.specs.Parts.{count_widths, count_values, change_widths, change_values, last_widths, last_values, bit_widths, bit_values, kind_widths, kind_values, list_widths, list_values, status_widths, status_values, due_widths, due_values};
+
+use model::{
+    Answer, Guid, Head, InstanceHandle, InstanceStateKind, LastWriter, LivelinessChangedStatus,
+};
 
 // ---- the head
 
 // Whether there is a last writer, as a number.
 fn last_present(last: LastWriter) -> u16
-    ensures { λ r. ⌜ r ≡ lastPresent last ⌝ }
+    ensures { result ≡ last_present last }
 {
     match last {
         LastWriter::Nobody => 0,
@@ -33,7 +30,7 @@ fn last_present(last: LastWriter) -> u16
 
 // The last writer's GUID, or zeros.
 fn last_guid(last: LastWriter) -> Guid
-    ensures { λ r. ⌜ r ≡ lastGuid last ⌝ }
+    ensures { result ≡ last_guid last }
 {
     match last {
         LastWriter::Nobody => Guid { hi: 0, lo: 0 },
@@ -43,8 +40,8 @@ fn last_guid(last: LastWriter) -> Guid
 
 // The counts of a head, from 0.
 fn write_head_counts(b: &mut [u8], h: Head)
-    requires { ⌜ length (now b) ≡ 64 ⌝ }
-    ensures { λ _. ⌜ now (b .exit) ≡ puts countWidths (countValues h) (now (b .entry)) 0 0 ⌝ }
+    requires { length b.old ≡ 64 }
+    ensures { b.new ≡ puts count_widths (count_values h) b.old 0 0 }
 {
     octets::put_u32(b, 0, h.instance_count);
     octets::put_u32(b, 4, h.writer_count);
@@ -55,8 +52,8 @@ fn write_head_counts(b: &mut [u8], h: Head)
 
 // The changes of its counts, the last writer's presence and the number of instance places, from 20.
 fn write_head_changes(b: &mut [u8], h: Head)
-    requires { ⌜ length (now b) ≡ 64 ⌝ }
-    ensures { λ _. ⌜ now (b .exit) ≡ puts changeWidths (changeValues h) (now (b .entry)) 0 20 ⌝ }
+    requires { length b.old ≡ 64 }
+    ensures { b.new ≡ puts change_widths (change_values h) b.old 0 20 }
 {
     let last = h.last_writer;
     octets::put_u32(b, 20, numbers::bits_of(h.alive_change));
@@ -67,8 +64,8 @@ fn write_head_changes(b: &mut [u8], h: Head)
 
 // The next handle, the changes and the last writer's GUID, from 32.
 fn write_head_last(b: &mut [u8], h: Head)
-    requires { ⌜ length (now b) ≡ 64 ⌝ }
-    ensures { λ _. ⌜ now (b .exit) ≡ puts lastWidths (lastValues h) (now (b .entry)) 0 32 ⌝ }
+    requires { length b.old ≡ 64 }
+    ensures { b.new ≡ puts last_widths (last_values h) b.old 0 32 }
 {
     let last = h.last_writer;
     let next = h.next_handle;
@@ -81,8 +78,8 @@ fn write_head_last(b: &mut [u8], h: Head)
 
 // The bytes become those of a head.
 pub fn write_head(b: &mut [u8], h: Head)
-    requires { ⌜ length (now b) ≡ 64 ⌝ }
-    ensures { λ _. ⌜ now (b .exit) ≡ headBytes h ⌝ }
+    requires { length b.old ≡ 64 }
+    ensures { b.new ≡ head_bytes h }
 {
     write_head_counts(b, h);
     write_head_changes(b, h);
@@ -91,16 +88,16 @@ pub fn write_head(b: &mut [u8], h: Head)
 
 // The signed number of the 4 bytes from at.
 fn signed_at(b: &[u8], at: usize) -> i32
-    requires { ⌜ at + 4 ≤ length (now b) ⌝ }
-    ensures { λ r. ⌜ r ≡ toZ w32 (be 4 (now (b .entry)) at) ⌝ }
+    requires { at + 4 ≤ length b.now }
+    ensures { result ≡ to_z w32 (be 4 b.now at) }
 {
     numbers::of_bits(octets::get_u32(b, at))
 }
 
 // The last writer of a head's bytes.
 fn read_last(b: &[u8]) -> LastWriter
-    requires { ⌜ length (now b) ≡ 64 ⌝ }
-    ensures { λ r. ⌜ r ≡ lastWriter (be 2 (now (b .entry)) 28) (guidAt (now (b .entry)) 48) ⌝ }
+    requires { length b.now ≡ 64 }
+    ensures { result ≡ last_writer (be 2 b.now 28) (guid_at b.now 48) }
 {
     if octets::get_u16(b, 28) == 0 {
         return LastWriter::Nobody;
@@ -111,8 +108,8 @@ fn read_last(b: &[u8]) -> LastWriter
 
 // The head of its bytes.
 pub fn read_head(b: &[u8]) -> Head
-    requires { ⌜ length (now b) ≡ 64 ⌝ }
-    ensures { λ r. ⌜ r ≡ headIn (now (b .entry)) ⌝ }
+    requires { length b.now ≡ 64 }
+    ensures { result ≡ head_in b.now }
 {
     let last = read_last(b);
     let next = InstanceHandle(octets::get_u64(b, 32));
@@ -133,8 +130,8 @@ pub fn read_head(b: &[u8]) -> Head
 
 // Whether bytes are those of a head.
 pub fn head_laid(b: &[u8]) -> bool
-    requires { ⌜ length (now b) ≡ 64 ⌝ }
-    ensures { λ r. ⌜ r ≡ headLaid (now (b .entry)) ⌝ }
+    requires { length b.now ≡ 64 }
+    ensures { result ≡ head_laid b.now }
 {
     let present = octets::get_u16(b, 28);
     if 2 <= present {
@@ -153,14 +150,14 @@ pub fn head_laid(b: &[u8]) -> bool
 
 // A yes as 1.
 pub fn bit_of(b: bool) -> u8
-    ensures { λ r. ⌜ r ≡ bit b ⌝ }
+    ensures { result ≡ bit b }
 {
     if b { 1 } else { 0 }
 }
 
 // The number of a kind.
 fn kind_number(k: InstanceStateKind) -> u8
-    ensures { λ r. ⌜ r ≡ kindNumber k ⌝ }
+    ensures { result ≡ kind_number k }
 {
     match k {
         InstanceStateKind::Alive => 0,
@@ -171,8 +168,8 @@ fn kind_number(k: InstanceStateKind) -> u8
 
 // Number, outcome, yes and present, from 0.
 fn write_bits(b: &mut [u8], a: Answer)
-    requires { ⌜ length (now b) ≡ 72 ⌝ }
-    ensures { λ _. ⌜ now (b .exit) ≡ puts bitWidths (bitValues a) (now (b .entry)) 0 0 ⌝ }
+    requires { length b.old ≡ 72 }
+    ensures { b.new ≡ puts bit_widths (bit_values a) b.old 0 0 }
 {
     octets::put_u8(b, 0, a.number);
     octets::put_u8(b, 1, a.outcome);
@@ -182,8 +179,8 @@ fn write_bits(b: &mut [u8], a: Answer)
 
 // View-new, kind, whether a lease is due, the spare and the handle, from 4.
 fn write_kind(b: &mut [u8], a: Answer)
-    requires { ⌜ length (now b) ≡ 72 ⌝ }
-    ensures { λ _. ⌜ now (b .exit) ≡ puts kindWidths (kindValues a) (now (b .entry)) 0 4 ⌝ }
+    requires { length b.old ≡ 72 }
+    ensures { b.new ≡ puts kind_widths (kind_values a) b.old 0 4 }
 {
     let info = a.info;
     let kind = info.kind;
@@ -197,8 +194,8 @@ fn write_kind(b: &mut [u8], a: Answer)
 
 // The counts of an instance and of a list, from 16.
 fn write_counts(b: &mut [u8], a: Answer)
-    requires { ⌜ length (now b) ≡ 72 ⌝ }
-    ensures { λ _. ⌜ now (b .exit) ≡ puts listWidths (listValues a) (now (b .entry)) 0 16 ⌝ }
+    requires { length b.old ≡ 72 }
+    ensures { b.new ≡ puts list_widths (list_values a) b.old 0 16 }
 {
     octets::put_u32(b, 16, a.samples);
     octets::put_u32(b, 20, a.info.disposed_generations);
@@ -209,8 +206,8 @@ fn write_counts(b: &mut [u8], a: Answer)
 
 // The status but for its handle, and the spare, from 36.
 fn write_status(b: &mut [u8], status: LivelinessChangedStatus)
-    requires { ⌜ length (now b) ≡ 72 ⌝ }
-    ensures { λ _. ⌜ now (b .exit) ≡ puts statusWidths (statusValues status) (now (b .entry)) 0 36 ⌝ }
+    requires { length b.old ≡ 72 }
+    ensures { b.new ≡ puts status_widths (status_values status) b.old 0 36 }
 {
     octets::put_u32(b, 36, status.alive_count);
     octets::put_u32(b, 40, status.not_alive_count);
@@ -221,8 +218,8 @@ fn write_status(b: &mut [u8], status: LivelinessChangedStatus)
 
 // When a lease is due, and the last publication handle, from 56.
 fn write_due(b: &mut [u8], a: Answer)
-    requires { ⌜ length (now b) ≡ 72 ⌝ }
-    ensures { λ _. ⌜ now (b .exit) ≡ puts dueWidths (dueValues a) (now (b .entry)) 0 56 ⌝ }
+    requires { length b.old ≡ 72 }
+    ensures { b.new ≡ puts due_widths (due_values a) b.old 0 56 }
 {
     let status = a.status;
     let publication = status.last_publication_handle;
@@ -232,8 +229,8 @@ fn write_due(b: &mut [u8], a: Answer)
 
 // The bytes become those of an answer.
 pub fn write_answer(b: &mut [u8], a: Answer)
-    requires { ⌜ length (now b) ≡ 72 ⌝ }
-    ensures { λ _. ⌜ now (b .exit) ≡ answerBytes a ⌝ }
+    requires { length b.old ≡ 72 }
+    ensures { b.new ≡ answer_bytes a }
 {
     let status = a.status;
     write_bits(b, a);

@@ -1,56 +1,56 @@
 -- The answer of a read, written, over plain variables.
---     told-short      an answer of another length keeps its bytes
---     told-whole      the two parts make the answer's bytes
---     hash-short, hash-put, hash-whole     the same of a KeyHash
+--     told_short      an answer of another length keeps its bytes
+--     told_whole      the two parts make the answer's bytes
+--     hash_short, hash_put, hash_whole     the same of a KeyHash
 use Prim.Native.Nat.{ℕ}
-use mathlib.Core.Path.{_≡_, ap, _∙_}
-use mathlib.Core.List.{List, [], _∷_, _++_, append-assoc}
+use mathlib.Core.Path.{◌≡◌, ap, ◌∙◌}
+use mathlib.Core.List.{List, [], ◌∷◌, ◌++◌, append_assoc}
 use native.Mathlib.Omega.{arith}
-use borrow.Author.Tests.{eq-eqb, ne-eqb}
+use borrow.Author.Tests.{eq-eqb, ne_eqb}
 use lib.ListN.{length, take, drop}
-use lib.Seq.{take-all, paste}
-use Rattle·octets.specs.Fields.{puts}
-use Rattle·octets.specs.Octets.{put}
-use Rattle·octets.specs.Patch.{patch, fields}
-use Rattle·octets.proofs.PatchLaws.{length-fields, puts-patch, patch-patch}
-use Rattle·boundary.proofs.Written.{whole}
-use Rattle·key_hash.specs.declared.KeyHashed.{KeyHashed}
-use Rattle·read_answers.specs.declared.ReadAnswer.{ReadAnswer}
-use Rattle·boundary_reads·specs.specs.ReadAnswers.{readWidths, readValues, readBytes, bitWidths, bitValues, valueWidths, valueValues, toldOf, toldBytes, told}
-use Rattle·boundary_reads·specs.specs.KeyHashes.{keyHashBytes, toldKeyHash}
+use lib.Seq.{take_all, paste}
+use Rattle.octets.specs.Fields.{puts}
+use Rattle.octets.specs.Octets.{put}
+use Rattle.octets.specs.Patch.{patch, fields}
+use Rattle.octets.proofs.PatchLaws.{length_fields, puts-patch, patch-patch}
+use Rattle.boundary.proofs.Written.{whole}
+use Rattle.key_hash.specs.declared.KeyHashed.{KeyHashed}
+use Rattle.read_answers.specs.declared.ReadAnswer.{ReadAnswer}
+use Rattle.boundary_reads.specs.ReadAnswers.{read_widths, read_values, read_bytes, bit_widths, bit_values, value_widths, value_values, told_of, told_bytes, told}
+use Rattle.boundary_reads.specs.KeyHashes.{key_hash_bytes, told_key_hash}
 
-pub told-short : (a : ReadAnswer) (b : List ℕ) → (length b ≡ 24 → ⊥) → toldOf 1 b ≡ told a b
-unfolding told toldBytes
-told-short a b h = rw (ne-eqb (length b) 24 h)
+pub told_short : (a : ReadAnswer) (b : List ℕ) → (length b ≡ 24 → ⊥) → told_of 1 b ≡ told a b
+unfolding told told_bytes
+told_short a b h = rw (ne_eqb (length b) 24 h)
 
-read-put : (a : ReadAnswer) (s t1 t2 : List ℕ) → length s ≡ 24 → t1 ≡ puts bitWidths (bitValues a) s 0 0 →
-    t2 ≡ puts valueWidths (valueValues a) t1 0 4 → t2 ≡ readBytes a
-unfolding readBytes
-read-put a s t1 t2 n e1 e2 = rw (e2, e1) (puts-patch readWidths (readValues a) s 0 0 (omega arith) tt ∙ whole 24 s (readBytes a) n)
+read_put : (a : ReadAnswer) (s t1 t2 : List ℕ) → length s ≡ 24 → t1 ≡ puts bit_widths (bit_values a) s 0 0 →
+    t2 ≡ puts value_widths (value_values a) t1 0 4 → t2 ≡ read_bytes a
+unfolding read_bytes
+read_put a s t1 t2 n e1 e2 = rw (e2, e1) (puts-patch read_widths (read_values a) s 0 0 (omega arith) tt ∙ whole 24 s (read_bytes a) n)
 
-pub told-whole : (a : ReadAnswer) (s t1 t2 : List ℕ) → length s ≡ 24 → t1 ≡ puts bitWidths (bitValues a) s 0 0 →
-    t2 ≡ puts valueWidths (valueValues a) t1 0 4 → toldOf (a .number) t2 ≡ told a s
-unfolding told toldBytes
-told-whole a s t1 t2 n e1 e2 = rw (eq-eqb (length s) 24 n, read-put a s t1 t2 n e1 e2)
+pub told_whole : (a : ReadAnswer) (s t1 t2 : List ℕ) → length s ≡ 24 → t1 ≡ puts bit_widths (bit_values a) s 0 0 →
+    t2 ≡ puts value_widths (value_values a) t1 0 4 → told_of a.number t2 ≡ told a s
+unfolding told told_bytes
+told_whole a s t1 t2 n e1 e2 = rw (eq-eqb (length s) 24 n, read_put a s t1 t2 n e1 e2)
 
 -- ---- a KeyHash
 
-pub hash-short : (k : KeyHashed) (b : List ℕ) → (length b ≡ 24 → ⊥) → toldOf 1 b ≡ toldKeyHash k b
-unfolding toldKeyHash toldBytes
-hash-short k b h = rw (ne-eqb (length b) 24 h)
+pub hash_short : (k : KeyHashed) (b : List ℕ) → (length b ≡ 24 → ⊥) → told_of 1 b ≡ told_key_hash k b
+unfolding told_key_hash told_bytes
+hash_short k b h = rw (ne_eqb (length b) 24 h)
 
-pub hash-put : (k : KeyHashed) (s : List ℕ) → length s ≡ 24 → length (k .hash) ≡ 16
-    → paste (put 7 (put 1 s 0 (k .number)) 1 0) 8 (k .hash) 16 ≡ keyHashBytes k
-unfolding keyHashBytes
-hash-put k s n m =
-    let front : List ℕ = fields (1 ∷ 7 ∷ []) (k .number ∷ 0 ∷ []) in
+pub hash_put : (k : KeyHashed) (s : List ℕ) → length s ≡ 24 → length k.hash ≡ 16
+    → paste (put 7 (put 1 s 0 k.number) 1 0) 8 k.hash 16 ≡ key_hash_bytes k
+unfolding key_hash_bytes
+hash_put k s n m =
+    let front : List ℕ = fields (1 ∷ 7 ∷ []) (k.number ∷ 0 ∷ []) in
     let d : List ℕ = patch s 0 8 front in
-    let headed : put 7 (put 1 s 0 (k .number)) 1 0 ≡ d = puts-patch (1 ∷ 7 ∷ []) (k .number ∷ 0 ∷ []) s 0 0 (omega arith) tt in
-    rw (headed, take-all 16 (k .hash) (omega arith))
-    (append-assoc (take 8 d) (k .hash) (drop 24 d)
-    ∙ patch-patch s 0 8 16 front (k .hash) (omega arith) (length-fields (1 ∷ 7 ∷ []) (k .number ∷ 0 ∷ []) tt)
-    ∙ whole 24 s (front ++ k .hash) n)
+    let headed : put 7 (put 1 s 0 k.number) 1 0 ≡ d = puts-patch (1 ∷ 7 ∷ []) (k.number ∷ 0 ∷ []) s 0 0 (omega arith) tt in
+    rw (headed, take_all 16 k.hash (omega arith))
+    (append_assoc (take 8 d) k.hash (drop 24 d)
+    ∙ patch-patch s 0 8 16 front k.hash (omega arith) (length_fields (1 ∷ 7 ∷ []) (k.number ∷ 0 ∷ []) tt)
+    ∙ whole 24 s (front ++ k.hash) n)
 
-pub hash-whole : (k : KeyHashed) (s t : List ℕ) → length s ≡ 24 → t ≡ keyHashBytes k → toldOf (k .number) t ≡ toldKeyHash k s
-unfolding toldKeyHash toldBytes
-hash-whole k s t n e = rw (eq-eqb (length s) 24 n) (ap (toldOf (k .number)) e)
+pub hash_whole : (k : KeyHashed) (s t : List ℕ) → length s ≡ 24 → t ≡ key_hash_bytes k → told_of k.number t ≡ told_key_hash k s
+unfolding told_key_hash told_bytes
+hash_whole k s t n e = rw (eq-eqb (length s) 24 n) (ap (told_of k.number) e)

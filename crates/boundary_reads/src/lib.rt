@@ -1,26 +1,24 @@
 // The answers of the reads in bytes, as they cross the C boundary: 24 bytes, whose layout stands in specs/ReadAnswers, and in
 // specs/KeyHashes for a KeyHash; specs/WireAnswers says what wire time puts into it.
+#![tactic(auto)]
+
+ghost use Rattle.std.specs.Prelude.{◌≡◌, length};
+ghost use Rattle.octets.specs.Fields.{puts};
+ghost use Rattle.read_answers.specs.Cases.{read_of, refused_answer, decision_answer, handle_answer, time_answer, listing_answer, holder_answer, changes_answer};
+ghost use Rattle.boundary_reads.specs.ReadAnswers.{bit_widths, bit_values, value_widths, value_values, told_of, told};
+ghost use Rattle.boundary_reads.specs.KeyHashes.{key_hash_bytes, told_key_hash};
+ghost use Rattle.boundary_reads.specs.WireAnswers.{fraction_answer, nanos_answer};
+
 use key_hash::KeyHashed;
-use model::ChangesRead;
-use model::Decision;
-use model::FoundHandle;
-use model::FoundTime;
-use model::Listing;
+use model::{ChangesRead, Decision, FoundHandle, FoundTime, Listing};
 use read_answers::ReadAnswer;
 use wire_time::WireFraction;
-ghost use mathlib.Core.Path.{_≡_};
-ghost use lib.ListN.{length};
-ghost use Rattle·octets.specs.Fields.{puts};
-ghost use Rattle·read_answers.specs.Cases.{readOf, refusedAnswer, decisionAnswer, handleAnswer, timeAnswer, listingAnswer, holderAnswer, changesAnswer};
-ghost use Rattle·boundary_reads·specs.specs.ReadAnswers.{bitWidths, bitValues, valueWidths, valueValues, toldOf, told};
-ghost use Rattle·boundary_reads·specs.specs.KeyHashes.{keyHashBytes, toldKeyHash};
-ghost use Rattle·boundary_reads·specs.specs.WireAnswers.{fractionAnswer, nanosAnswer};
 
 // ---- the answers
 
 // An answer with these values, and no time.
 pub fn read_of(number: u8, said: u8, present: bool, size: u32, value: u64) -> ReadAnswer
-    ensures { λ r. ⌜ r ≡ readOf number said present size value ⌝ }
+    ensures { result ≡ read_of number said present size value }
 {
     ReadAnswer {
         number: number,
@@ -36,14 +34,14 @@ pub fn read_of(number: u8, said: u8, present: bool, size: u32, value: u64) -> Re
 
 // A refusal: its number alone. Number 0: nothing was found.
 pub fn refused_answer(n: u8) -> ReadAnswer
-    ensures { λ r. ⌜ r ≡ refusedAnswer n ⌝ }
+    ensures { result ≡ refused_answer n }
 {
     read_of(n, 0, false, 0, 0)
 }
 
 // A yes or a no.
 pub fn decision_answer(d: Decision) -> ReadAnswer
-    ensures { λ r. ⌜ r ≡ decisionAnswer d ⌝ }
+    ensures { result ≡ decision_answer d }
 {
     match d {
         Decision::Refused(n) => refused_answer(n),
@@ -53,7 +51,7 @@ pub fn decision_answer(d: Decision) -> ReadAnswer
 
 // A handle, where one was found.
 pub fn handle_answer(f: FoundHandle) -> ReadAnswer
-    ensures { λ r. ⌜ r ≡ handleAnswer f ⌝ }
+    ensures { result ≡ handle_answer f }
 {
     match f {
         FoundHandle::Refused(n) => refused_answer(n),
@@ -64,7 +62,7 @@ pub fn handle_answer(f: FoundHandle) -> ReadAnswer
 
 // A time, where one was found.
 pub fn time_answer(f: FoundTime) -> ReadAnswer
-    ensures { λ r. ⌜ r ≡ timeAnswer f ⌝ }
+    ensures { result ≡ time_answer f }
 {
     match f {
         FoundTime::Refused(n) => refused_answer(n),
@@ -84,7 +82,7 @@ pub fn time_answer(f: FoundTime) -> ReadAnswer
 
 // How many entries were listed.
 pub fn listing_answer(l: Listing) -> ReadAnswer
-    ensures { λ r. ⌜ r ≡ listingAnswer l ⌝ }
+    ensures { result ≡ listing_answer l }
 {
     match l {
         Listing::Refused(n) => refused_answer(n),
@@ -94,7 +92,7 @@ pub fn listing_answer(l: Listing) -> ReadAnswer
 
 // Where a stored holder stands: its first byte and its length.
 pub fn holder_answer(stored: bool, offset: u64, len: u16) -> ReadAnswer
-    ensures { λ r. ⌜ r ≡ holderAnswer stored offset len ⌝ }
+    ensures { result ≡ holder_answer stored offset len }
 {
     ReadAnswer {
         number: 0,
@@ -110,7 +108,7 @@ pub fn holder_answer(stored: bool, offset: u64, len: u16) -> ReadAnswer
 
 // How many changes were counted.
 pub fn changes_answer(c: ChangesRead) -> ReadAnswer
-    ensures { λ r. ⌜ r ≡ changesAnswer c ⌝ }
+    ensures { result ≡ changes_answer c }
 {
     match c {
         ChangesRead::Refused(n) => refused_answer(n),
@@ -120,14 +118,14 @@ pub fn changes_answer(c: ChangesRead) -> ReadAnswer
 
 // A fraction and a remainder, or the refusal.
 pub fn fraction_answer(w: WireFraction) -> ReadAnswer
-    ensures { λ r. ⌜ r ≡ fractionAnswer w ⌝ }
+    ensures { result ≡ fraction_answer w }
 {
     read_of(w.number, 0, false, w.fraction, w.remainder as u64)
 }
 
 // The nanoseconds of a fraction and a remainder.
 pub fn nanos_answer(n: u32) -> ReadAnswer
-    ensures { λ r. ⌜ r ≡ nanosAnswer n ⌝ }
+    ensures { result ≡ nanos_answer n }
 {
     read_of(0, 0, false, n, 0)
 }
@@ -136,8 +134,8 @@ pub fn nanos_answer(n: u32) -> ReadAnswer
 
 // Number, yes, present and stored, from 0.
 fn write_bits(b: &mut [u8], a: ReadAnswer)
-    requires { ⌜ length (now b) ≡ 24 ⌝ }
-    ensures { λ _. ⌜ now (b .exit) ≡ puts bitWidths (bitValues a) (now (b .entry)) 0 0 ⌝ }
+    requires { length b.old ≡ 24 }
+    ensures { b.new ≡ puts bit_widths (bit_values a) b.old 0 0 }
 {
     octets::put_u8(b, 0, a.number);
     octets::put_u8(b, 1, a.said);
@@ -147,8 +145,8 @@ fn write_bits(b: &mut [u8], a: ReadAnswer)
 
 // The numbers, from 4.
 fn write_values(b: &mut [u8], a: ReadAnswer)
-    requires { ⌜ length (now b) ≡ 24 ⌝ }
-    ensures { λ _. ⌜ now (b .exit) ≡ puts valueWidths (valueValues a) (now (b .entry)) 0 4 ⌝ }
+    requires { length b.old ≡ 24 }
+    ensures { b.new ≡ puts value_widths (value_values a) b.old 0 4 }
 {
     octets::put_u32(b, 4, a.size);
     octets::put_u64(b, 8, a.value);
@@ -158,7 +156,7 @@ fn write_values(b: &mut [u8], a: ReadAnswer)
 
 // The answer where it has its length; else nothing is written, and the number is 1.
 pub fn tell(answer: &mut [u8], a: ReadAnswer) -> u32
-    ensures { λ r. ⌜ toldOf r (now (answer .exit)) ≡ told a (now (answer .entry)) ⌝ }
+    ensures { told_of result answer.new ≡ told a answer.old }
 {
     if answer.len() != 24 {
         return 1;
@@ -170,8 +168,8 @@ pub fn tell(answer: &mut [u8], a: ReadAnswer) -> u32
 
 // The number, zeros, and the KeyHash.
 fn write_key_hash(answer: &mut [u8], k: KeyHashed)
-    requires { ⌜ length (now answer) ≡ 24 ⌝ }
-    ensures { λ _. ⌜ now (answer .exit) ≡ keyHashBytes k ⌝ }
+    requires { length answer.old ≡ 24 }
+    ensures { answer.new ≡ key_hash_bytes k }
 {
     let hash = k.hash;
     octets::put_u8(answer, 0, k.number);
@@ -181,7 +179,7 @@ fn write_key_hash(answer: &mut [u8], k: KeyHashed)
 
 // A KeyHash, where the answer has its length; else nothing is written, and the number is 1.
 pub fn tell_key_hash(answer: &mut [u8], k: KeyHashed) -> u32
-    ensures { λ r. ⌜ toldOf r (now (answer .exit)) ≡ toldKeyHash k (now (answer .entry)) ⌝ }
+    ensures { told_of result answer.new ≡ told_key_hash k answer.old }
 {
     if answer.len() != 24 {
         return 1;

@@ -4,32 +4,28 @@
 // Derives from instance_tracker.rs and liveliness_tracker.rs of ZeroDDS.
 // Copyright 2026 ZeroDDS Contributors. SPDX-License-Identifier: Apache-2.0. Changed: written anew in Rattle, with the state
 // lent as head and buffers.
-use model::AcknowledgeUse;
-use model::ClockUse;
-use model::JoinedCall;
-use model::LostUse;
-use model::Sheet;
-use model::TrackerCall;
-use model::TrackerReport;
-use model::TrackerRule;
-ghost use mathlib.Core.Option.{some};
-ghost use mathlib.Core.Path.{_≡_};
-ghost use Prim.Native.Nat.{_≤_};
-ghost use mathlib.Core.Bool.{false};
-ghost use Rattle·model.specs.declared.AcknowledgeUse.the-variants.{Nothing};
-ghost use Rattle·model.specs.declared.ClockUse.the-variants.{NoClock};
-ghost use Rattle·model.specs.declared.JoinedCall.the-variants.{Admit, Lapse, Part, Depart};
-ghost use Rattle·model.specs.Calls.{tracker, joined, lastTracker, lastJoined, callOfCode};
-ghost use Rattle·model.specs.declared.LostUse.the-variants.{Leaves};
-ghost use Rattle·model.specs.declared.TrackerReport.the-variants.{Moved};
-ghost use Rattle·model.specs.Refusals.{sheetRefusal};
-ghost use Rattle·model.specs.State.{State};
-ghost use Rattle·model.specs.Writers.{trackerRule};
+#![tactic(auto)]
+
+ghost use Rattle.std.proofs.Math.Option.{some};
+ghost use Rattle.std.specs.Prelude.{◌≡◌, ◌≤◌, false};
+ghost use Rattle.model.specs.declared.AcknowledgeUse.TheVariants.{Nothing};
+ghost use Rattle.model.specs.declared.ClockUse.TheVariants.{NoClock};
+ghost use Rattle.model.specs.declared.JoinedCall.TheVariants.{Admit, Lapse, Part, Depart};
+ghost use Rattle.model.specs.Calls.{tracker, joined, last_tracker, last_joined, call_of_code};
+ghost use Rattle.model.specs.declared.LostUse.TheVariants.{Leaves};
+ghost use Rattle.model.specs.declared.TrackerReport.TheVariants.{Moved};
+ghost use Rattle.model.specs.Refusals.{sheet_refusal};
+ghost use Rattle.model.specs.State.{State};
+ghost use Rattle.model.specs.Writers.{tracker_rule};
+
+use model::{
+    AcknowledgeUse, ClockUse, JoinedCall, LostUse, Sheet, TrackerCall, TrackerReport, TrackerRule,
+};
 
 // The call on writers of a code from 32 to 40.
 pub fn tracker_call(code: u8) -> TrackerCall
-    requires { ⌜ (32 ≤ code) × (code ≤ lastTracker) ⌝ }
-    ensures { λ r. ⌜ callOfCode code ≡ some (tracker r) ⌝ }
+    requires { (32 ≤ code) × (code ≤ last_tracker) }
+    ensures { call_of_code code ≡ some (tracker result) }
 {
     match code {
         32 => TrackerCall::Matched,
@@ -46,7 +42,7 @@ pub fn tracker_call(code: u8) -> TrackerCall
 
 // The row of a call on the writers alone: it tells whether a class changed.
 fn on_writers(clocks: ClockUse, matches: bool) -> TrackerRule
-    ensures { λ r. ⌜ r ≡ record { clocks = clocks; matches = matches; lost = Leaves; acknowledges = Nothing; report = Moved } ⌝ }
+    ensures { result ≡ record { clocks = clocks; matches = matches; lost = Leaves; acknowledges = Nothing; report = Moved } }
 {
     TrackerRule {
         clocks: clocks,
@@ -59,7 +55,7 @@ fn on_writers(clocks: ClockUse, matches: bool) -> TrackerRule
 
 // The row of a call on Lost.
 fn on_lost(clocks: ClockUse, lost: LostUse, report: TrackerReport) -> TrackerRule
-    ensures { λ r. ⌜ r ≡ record { clocks = clocks; matches = false; lost = lost; acknowledges = Nothing; report = report } ⌝ }
+    ensures { result ≡ record { clocks = clocks; matches = false; lost = lost; acknowledges = Nothing; report = report } }
 {
     TrackerRule {
         clocks: clocks,
@@ -72,7 +68,7 @@ fn on_lost(clocks: ClockUse, lost: LostUse, report: TrackerReport) -> TrackerRul
 
 // The row of a call on the status.
 fn on_status(acknowledges: AcknowledgeUse, report: TrackerReport) -> TrackerRule
-    ensures { λ r. ⌜ r ≡ record { clocks = NoClock; matches = false; lost = Leaves; acknowledges = acknowledges; report = report } ⌝ }
+    ensures { result ≡ record { clocks = NoClock; matches = false; lost = Leaves; acknowledges = acknowledges; report = report } }
 {
     TrackerRule {
         clocks: ClockUse::NoClock,
@@ -85,7 +81,7 @@ fn on_status(acknowledges: AcknowledgeUse, report: TrackerReport) -> TrackerRule
 
 // The row of a call on writers.
 pub fn tracker_rule(c: TrackerCall) -> TrackerRule
-    ensures { λ r. ⌜ r ≡ trackerRule c ⌝ }
+    ensures { result ≡ tracker_rule c }
 {
     match c {
         TrackerCall::Matched => on_writers(ClockUse::ClockAndLease, true),
@@ -106,8 +102,8 @@ pub fn tracker_rule(c: TrackerCall) -> TrackerRule
 
 // The joined call of a code from 48 to 51.
 pub fn joined_call(code: u8) -> JoinedCall
-    requires { ⌜ (48 ≤ code) × (code ≤ lastJoined) ⌝ }
-    ensures { λ r. ⌜ callOfCode code ≡ some (joined r) ⌝ }
+    requires { (48 ≤ code) × (code ≤ last_joined) }
+    ensures { call_of_code code ≡ some (joined result) }
 {
     match code {
         48 => JoinedCall::Admit,
@@ -119,7 +115,7 @@ pub fn joined_call(code: u8) -> JoinedCall
 
 // The number of the refusal that the sheet of code 48 meets, 0 for none.
 pub fn admit_refusal(s: Sheet) -> u8
-    ensures { λ r. ⌜ ((st : State) → r ≡ sheetRefusal (joined Admit) s st) ⌝ }
+    ensures { (st : State) → result ≡ sheet_refusal (joined Admit) s st }
 {
     let t = s.time_1;
     let u = s.time_2;
@@ -135,7 +131,7 @@ pub fn admit_refusal(s: Sheet) -> u8
 
 // The same of code 49.
 pub fn lapse_refusal(s: Sheet) -> u8
-    ensures { λ r. ⌜ ((st : State) → r ≡ sheetRefusal (joined Lapse) s st) ⌝ }
+    ensures { (st : State) → result ≡ sheet_refusal (joined Lapse) s st }
 {
     let t = s.time_1;
     if !call_sheet::optional_ok(t) {
@@ -149,7 +145,7 @@ pub fn lapse_refusal(s: Sheet) -> u8
 
 // The same of codes 50 and 51.
 pub fn leave_refusal(s: Sheet) -> u8
-    ensures { λ r. ⌜ ((st : State) → (r ≡ sheetRefusal (joined Part) s st) × (r ≡ sheetRefusal (joined Depart) s st)) ⌝ }
+    ensures { (st : State) → (result ≡ sheet_refusal (joined Part) s st) × (result ≡ sheet_refusal (joined Depart) s st) }
 {
     let t = s.time_1;
     if !call_sheet::optional_ok(t) {

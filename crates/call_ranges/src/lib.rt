@@ -4,14 +4,13 @@
 // Derives from instance_tracker.rs and liveliness_tracker.rs of ZeroDDS.
 // Copyright 2026 ZeroDDS Contributors. SPDX-License-Identifier: Apache-2.0. Changed: written anew in Rattle, with the state
 // lent as head and buffers.
-use model::Called;
-use model::Head;
-use model::Sheet;
-ghost use mathlib.Core.Path.{_≡_};
-ghost use Prim.Native.Nat.{_*_, _≤_};
-ghost use lib.ListN.{length};
-ghost use Rattle·model.specs.Call.{coded, lentOf, leftOf};
-ghost use Rattle·model.specs.Calls.{lastInstance, lastTracker, lastJoined, callOfCode};
+#![tactic(auto)]
+
+ghost use Rattle.std.specs.Prelude.{◌≡◌, ◌*◌, ◌≤◌, length};
+ghost use Rattle.model.specs.Call.{coded, lent_of, left_of};
+ghost use Rattle.model.specs.Calls.{last_instance, last_tracker, last_joined, call_of_code};
+
+use model::{Called, Head, Sheet};
 
 // The codes of the calls on instances.
 pub fn instances(
@@ -23,10 +22,10 @@ pub fn instances(
     out: &mut [u8],
     places: usize,
 ) -> Called
-    requires { ⌜ (length (now pens) ≡ places * 512) × (length (now writers) ≡ 5120) × (length (now lost) ≡ 4096) × (length (now out) ≡ 4096)
-        × (1 ≤ s .code) × (s .code ≤ lastInstance) × (head .places ≡ places) × (places ≤ 128) ⌝ }
-    ensures { λ r. ⌜ leftOf r (now (pens .exit)) (now (writers .entry)) (now (lost .entry)) (now (out .exit))
-        ≡ coded places (callOfCode (s .code)) s (lentOf head (now (pens .entry)) (now (writers .entry)) (now (lost .entry)) (now (out .entry))) ⌝ }
+    requires { (length pens.old ≡ places * 512) × (length writers.now ≡ 5120) × (length lost.now ≡ 4096) × (length out.old ≡ 4096)
+        × (1 ≤ s.code) × (s.code ≤ last_instance) × (head.places ≡ places) × (places ≤ 128) }
+    ensures { left_of result pens.new writers.now lost.now out.new
+        ≡ coded places (call_of_code s.code) s (lent_of head pens.old writers.now lost.now out.old) }
 {
     let c = instance_rules::instance_call(s.code);
     if !lent_state::state_ok(head, pens, writers, lost, places) {
@@ -45,10 +44,10 @@ pub fn tracker(
     out: &mut [u8],
     places: usize,
 ) -> Called
-    requires { ⌜ (length (now pens) ≡ places * 512) × (length (now writers) ≡ 5120) × (length (now lost) ≡ 4096) × (length (now out) ≡ 4096)
-        × (32 ≤ s .code) × (s .code ≤ lastTracker) × (head .places ≡ places) × (places ≤ 128) ⌝ }
-    ensures { λ r. ⌜ leftOf r (now (pens .entry)) (now (writers .exit)) (now (lost .exit)) (now (out .exit))
-        ≡ coded places (callOfCode (s .code)) s (lentOf head (now (pens .entry)) (now (writers .entry)) (now (lost .entry)) (now (out .entry))) ⌝ }
+    requires { (length pens.now ≡ places * 512) × (length writers.old ≡ 5120) × (length lost.old ≡ 4096) × (length out.old ≡ 4096)
+        × (32 ≤ s.code) × (s.code ≤ last_tracker) × (head.places ≡ places) × (places ≤ 128) }
+    ensures { left_of result pens.now writers.new lost.new out.new
+        ≡ coded places (call_of_code s.code) s (lent_of head pens.now writers.old lost.old out.old) }
 {
     let c = call_codes::tracker_call(s.code);
     if !lent_state::state_ok(head, pens, writers, lost, places) {
@@ -67,10 +66,10 @@ pub fn joined(
     out: &mut [u8],
     places: usize,
 ) -> Called
-    requires { ⌜ (length (now pens) ≡ places * 512) × (length (now writers) ≡ 5120) × (length (now lost) ≡ 4096) × (length (now out) ≡ 4096)
-        × (48 ≤ s .code) × (s .code ≤ lastJoined) × (head .places ≡ places) × (places ≤ 128) ⌝ }
-    ensures { λ r. ⌜ leftOf r (now (pens .exit)) (now (writers .exit)) (now (lost .exit)) (now (out .exit))
-        ≡ coded places (callOfCode (s .code)) s (lentOf head (now (pens .entry)) (now (writers .entry)) (now (lost .entry)) (now (out .entry))) ⌝ }
+    requires { (length pens.old ≡ places * 512) × (length writers.old ≡ 5120) × (length lost.old ≡ 4096) × (length out.old ≡ 4096)
+        × (48 ≤ s.code) × (s.code ≤ last_joined) × (head.places ≡ places) × (places ≤ 128) }
+    ensures { left_of result pens.new writers.new lost.new out.new
+        ≡ coded places (call_of_code s.code) s (lent_of head pens.old writers.old lost.old out.old) }
 {
     let c = call_codes::joined_call(s.code);
     if !lent_state::state_ok(head, pens, writers, lost, places) {

@@ -1,29 +1,22 @@
 // A call's sheet: its 256 bytes as fields, and the refusals that the sheet alone decides.
-use model::ClockUse;
-use model::FieldUse;
-use model::Holder;
-use model::InstanceCall;
-use model::InstanceHandle;
-use model::MaybeTime;
-use model::Sheet;
-ghost use mathlib.Core.Path.{_≡_};
-ghost use mathlib.Core.Bool.{true};
-ghost use mathlib.Core.List.{[], _∷_};
-ghost use Prim.Native.Nat.{_+_, _≤_, _<_, min};
-ghost use lib.ListN.{length, take, drop};
-ghost use Rattle·model.specs.InstanceRecord.{flag};
-ghost use Rattle·model.specs.Calls.{instances};
-ghost use Rattle·model.specs.Refusals.{used, withTime, optional, timesUsedBy, nanosecondsOk, holderUsedBy, holderFits, sheetRefusal, clocksWith, kindWith};
-ghost use Rattle·model.specs.declared.ClockUse.the-variants.{ClockAndLease};
-ghost use Rattle·model.specs.Sheets.{padded, holderOn, sheetOf};
-ghost use Rattle·model.specs.State.{State};
-ghost use Rattle·model.specs.Tables.{all};
-ghost use Rattle·model.specs.WellFormed.{clockOk};
+#![tactic(auto)]
+
+ghost use Rattle.std.specs.Prelude.{◌≡◌, true, [], ◌∷◌, ◌+◌, ◌≤◌, ◌<◌, min, length, take, drop};
+ghost use Rattle.model.specs.InstanceRecord.{flag};
+ghost use Rattle.model.specs.Calls.{instances};
+ghost use Rattle.model.specs.Refusals.{used, with_time, optional, times_used_by, nanoseconds_ok, holder_used_by, holder_fits, sheet_refusal, clocks_with, kind_with};
+ghost use Rattle.model.specs.declared.ClockUse.TheVariants.{ClockAndLease};
+ghost use Rattle.model.specs.Sheets.{padded, holder_on, sheet_of};
+ghost use Rattle.model.specs.State.{State};
+ghost use Rattle.model.specs.Tables.{all};
+ghost use Rattle.model.specs.WellFormed.{clock_ok};
+
+use model::{ClockUse, FieldUse, Holder, InstanceCall, InstanceHandle, MaybeTime, Sheet};
 
 // The first n bytes from index 84, zeros behind them.
 fn holder_bytes(s: &[u8], n: usize) -> [u8; 144]
-    requires { ⌜ (n ≤ 144) × (length (now s) ≡ 256) ⌝ }
-    ensures { λ r. ⌜ r ≡ padded (take n (drop 84 (now (s .entry)))) ⌝ }
+    requires { (n ≤ 144) × (length s.now ≡ 256) }
+    ensures { result ≡ padded (take n (drop 84 s.now)) }
 {
     let mut bytes = [0u8; 144];
     octets::copy(s, 84, &mut bytes, 0, n);
@@ -32,15 +25,15 @@ fn holder_bytes(s: &[u8], n: usize) -> [u8; 144]
 
 // The smaller of the holder's length and its places.
 fn held(len: u16) -> usize
-    ensures { λ r. ⌜ r ≡ min len 144 ⌝ }
+    ensures { result ≡ min len 144 }
 {
     if len < 144 { len as usize } else { 144 }
 }
 
 // The holder on the sheet.
 fn read_holder(s: &[u8], present: bool) -> Holder
-    requires { ⌜ length (now s) ≡ 256 ⌝ }
-    ensures { λ r. ⌜ r ≡ holderOn (now (s .entry)) present ⌝ }
+    requires { length s.now ≡ 256 }
+    ensures { result ≡ holder_on s.now present }
 {
     let len = octets::get_u16(s, 82);
     let n = held(len);
@@ -54,16 +47,16 @@ fn read_holder(s: &[u8], present: bool) -> Holder
 
 // The bit of weight w, a divisor of 128.
 fn has_bit(bits: u8, w: u8) -> bool
-    requires { ⌜ 0 < w ⌝ }
-    ensures { λ r. ⌜ r ≡ flag w bits ⌝ }
+    requires { 0 < w }
+    ensures { result ≡ flag w bits }
 {
     bits / w % 2 == 1
 }
 
 // The fields of a sheet.
 pub fn read_sheet(s: &[u8]) -> Sheet
-    requires { ⌜ length (now s) ≡ 256 ⌝ }
-    ensures { λ r. ⌜ r ≡ sheetOf (now (s .entry)) ⌝ }
+    requires { length s.now ≡ 256 }
+    ensures { result ≡ sheet_of s.now }
 {
     let bits = octets::get_u8(s, 80);
     let key = guid::guid_at(s, 0);
@@ -96,14 +89,14 @@ pub fn read_sheet(s: &[u8]) -> Sheet
 
 // Nanoseconds below 10^9.
 pub fn nanoseconds_ok(t: MaybeTime) -> bool
-    ensures { λ r. ⌜ r ≡ all nanosecondsOk (t ∷ []) ⌝ }
+    ensures { result ≡ all nanoseconds_ok (t ∷ []) }
 {
     t.nanosec < 1_000_000_000
 }
 
 // The same of a time that is used where its presence bit is set.
 pub fn optional_ok(t: MaybeTime) -> bool
-    ensures { λ r. ⌜ r ≡ all nanosecondsOk (optional t) ⌝ }
+    ensures { result ≡ all nanoseconds_ok (optional t) }
 {
     if t.present {
         return nanoseconds_ok(t);
@@ -113,7 +106,7 @@ pub fn optional_ok(t: MaybeTime) -> bool
 
 // The same of two times.
 pub fn both_ok(t: MaybeTime, u: MaybeTime) -> bool
-    ensures { λ r. ⌜ r ≡ all nanosecondsOk (t ∷ u ∷ []) ⌝ }
+    ensures { result ≡ all nanoseconds_ok (t ∷ u ∷ []) }
 {
     if nanoseconds_ok(t) {
         return nanoseconds_ok(u);
@@ -123,7 +116,7 @@ pub fn both_ok(t: MaybeTime, u: MaybeTime) -> bool
 
 // A field is used, as the call's row says of it and its presence bit.
 fn is_used(k: FieldUse, present: bool) -> bool
-    ensures { λ r. ⌜ r ≡ used k present ⌝ }
+    ensures { result ≡ used k present }
 {
     match k {
         FieldUse::Never => false,
@@ -134,7 +127,7 @@ fn is_used(k: FieldUse, present: bool) -> bool
 
 // Nanoseconds below 10^9 where the time is used.
 fn time_ok(k: FieldUse, t: MaybeTime) -> bool
-    ensures { λ r. ⌜ r ≡ all nanosecondsOk (withTime k t []) ⌝ }
+    ensures { result ≡ all nanoseconds_ok (with_time k t []) }
 {
     if is_used(k, t.present) {
         return nanoseconds_ok(t);
@@ -144,7 +137,7 @@ fn time_ok(k: FieldUse, t: MaybeTime) -> bool
 
 // The times that a call on instances uses.
 pub fn times_ok(c: InstanceCall, s: Sheet) -> bool
-    ensures { λ r. ⌜ r ≡ all nanosecondsOk (timesUsedBy c s) ⌝ }
+    ensures { result ≡ all nanoseconds_ok (times_used_by c s) }
 {
     let r = instance_rules::rule_of(c);
     let k = r.time_1;
@@ -159,7 +152,7 @@ pub fn times_ok(c: InstanceCall, s: Sheet) -> bool
 
 // A call on instances takes the holder.
 fn holder_used(c: InstanceCall, s: Sheet) -> bool
-    ensures { λ r. ⌜ r ≡ holderUsedBy c s ⌝ }
+    ensures { result ≡ holder_used_by c s }
 {
     let r = instance_rules::rule_of(c);
     let k = r.holder;
@@ -169,7 +162,7 @@ fn holder_used(c: InstanceCall, s: Sheet) -> bool
 
 // A holder that the call takes has at most 144 bytes.
 pub fn holder_fits(c: InstanceCall, s: Sheet) -> bool
-    ensures { λ r. ⌜ r ≡ holderFits (instances c) s ⌝ }
+    ensures { result ≡ holder_fits (instances c) s }
 {
     let h = s.holder;
     if holder_used(c, s) {
@@ -180,7 +173,7 @@ pub fn holder_fits(c: InstanceCall, s: Sheet) -> bool
 
 // The number of the refusal that the sheet of a call on instances meets, 0 for none.
 pub fn instance_refusal(c: InstanceCall, s: Sheet) -> u8
-    ensures { λ r. ⌜ ((st : State) → r ≡ sheetRefusal (instances c) s st) ⌝ }
+    ensures { (st : State) → result ≡ sheet_refusal (instances c) s st }
 {
     if !times_ok(c, s) {
         return 4;
@@ -193,14 +186,14 @@ pub fn instance_refusal(c: InstanceCall, s: Sheet) -> u8
 
 // A clock below 2^62.
 pub fn clock_ok(clock: u64) -> bool
-    ensures { λ r. ⌜ r ≡ all clockOk (clock ∷ []) ⌝ }
+    ensures { result ≡ all clock_ok (clock ∷ []) }
 {
     clock < 0x4000_0000_0000_0000
 }
 
 // Clock A, and the lease in B where its bit is set.
 fn lease_ok(s: Sheet) -> bool
-    ensures { λ r. ⌜ r ≡ all clockOk (clocksWith ClockAndLease s) ⌝ }
+    ensures { result ≡ all clock_ok (clocks_with ClockAndLease s) }
 {
     if !clock_ok(s.a) {
         return false;
@@ -213,7 +206,7 @@ fn lease_ok(s: Sheet) -> bool
 
 // The clocks and leases that a call on writers uses, by its column.
 pub fn clocks_ok(used: ClockUse, s: Sheet) -> bool
-    ensures { λ r. ⌜ r ≡ all clockOk (clocksWith used s) ⌝ }
+    ensures { result ≡ all clock_ok (clocks_with used s) }
 {
     match used {
         ClockUse::NoClock => true,
@@ -224,7 +217,7 @@ pub fn clocks_ok(used: ClockUse, s: Sheet) -> bool
 
 // Kind 3 in a match is none.
 pub fn kind_ok(matches: bool, s: Sheet) -> bool
-    ensures { λ r. ⌜ r ≡ kindWith matches s ⌝ }
+    ensures { result ≡ kind_with matches s }
 {
     if matches {
         return s.kind != 3;

@@ -1,48 +1,43 @@
 -- The reads across the C boundary: what each answers is a read of section 7; keys, GUIDs and times cross as numbers.
-use Prim.Native.Nat.{ℕ}
-use mathlib.Core.Bool.{cond}
-use mathlib.Core.List.{List}
-use lib.Dec.{eqb}
-use lib.IntN.{ℤ}
-use lib.ListN.{length}
-use Rattle·model.specs.declared.Answer.{Answer}
-use Rattle·model.specs.declared.Guid.{Guid}
-use Rattle·model.specs.declared.Time.{Time}
-use Rattle·model.specs.Answers.{refusedWith}
-use Rattle·model.specs.Reads.{statusRead, changesRead, leftRead, leftOut}
-use Rattle·model.specs.State.{placesIn}
-use Rattle·boundary.specs.Layouts.{headIn, headLaid, answerBytes}
-use Rattle·boundary_reads.specs.ReadAnswers.{AnswerTold, toldOf, told}
-use Rattle·read_answers.specs.declared.ReadAnswer.{ReadAnswer}
-use Rattle·read_answers.specs.Cases.{refusedAnswer, changesAnswer, statusAnswer, listingAnswer, holderAnswer}
-use Rattle·instance_reads.specs.declared.HolderPlace.{HolderPlace}
-use Rattle·dcps_c·specs.specs.Boundary.{headSize, answerSize, unanswered}
+use Rattle.std.specs.Prelude.{ℕ, cond, List, eqb, ℤ, length}
+use Rattle.model.specs.declared.Answer.{Answer}
+use Rattle.model.specs.declared.Guid.{Guid}
+use Rattle.model.specs.declared.Time.{Time}
+use Rattle.model.specs.Answers.{refused_with}
+use Rattle.model.specs.Reads.{status_read, changes_read, left_read, left_out}
+use Rattle.model.specs.State.{places_in}
+use Rattle.boundary.specs.Layouts.{head_in, head_laid, answer_bytes}
+use Rattle.boundary_reads.specs.ReadAnswers.{AnswerTold, told_of, told}
+use Rattle.read_answers.specs.declared.ReadAnswer.{ReadAnswer}
+use Rattle.read_answers.specs.Cases.{refused_answer, changes_answer, status_answer, listing_answer, holder_answer}
+use Rattle.instance_reads.specs.declared.HolderPlace.{HolderPlace}
+use Rattle.dcps_c.specs.Boundary.{head_size, answer_size, unanswered}
 
-abbrev pub guidOf : ℕ → ℕ → Guid
-guidOf high low = record { hi = high; lo = low }
+abbrev pub guid_of : ℕ → ℕ → Guid
+guid_of high low = record { hi = high; lo = low }
 
-abbrev pub timeAt : ℤ → ℕ → Time
-timeAt sec nanosec = record { sec = sec; nanosec = nanosec }
+abbrev pub time_at : ℤ → ℕ → Time
+time_at sec nanosec = record { sec = sec; nanosec = nanosec }
 
 -- ---- of the head alone: its length belongs to 1; bytes that are no head's are refused as 3, and so is another figure
 
-unfoldable pub statusOf : List ℕ → Answer
-statusOf head =
-    cond (eqb (length head) headSize)
-    (cond (headLaid head) (statusAnswer (statusRead (headIn head))) (refusedWith 3)) (refusedWith 1)
+unfoldable pub status_of : List ℕ → Answer
+status_of head =
+    cond (eqb (length head) head_size)
+    (cond (head_laid head) (status_answer (status_read (head_in head))) (refused_with 3)) (refused_with 1)
 
-unfoldable pub boundaryStatus : List ℕ → List ℕ → AnswerTold
-boundaryStatus head answer =
-    cond (eqb (length answer) answerSize) (toldOf (statusOf head .number) (answerBytes (statusOf head)))
-    (toldOf (unanswered head) answer)
+unfoldable pub boundary_status : List ℕ → List ℕ → AnswerTold
+boundary_status head answer =
+    cond (eqb (length answer) answer_size) (told_of (status_of head).number (answer_bytes (status_of head)))
+    (told_of (unanswered head) answer)
 
-unfoldable pub changesOf : List ℕ → ReadAnswer
-changesOf head =
-    cond (eqb (length head) headSize)
-    (cond (headLaid head) (changesAnswer (changesRead (headIn head))) (refusedAnswer 3)) (refusedAnswer 1)
+unfoldable pub changes_of : List ℕ → ReadAnswer
+changes_of head =
+    cond (eqb (length head) head_size)
+    (cond (head_laid head) (changes_answer (changes_read (head_in head))) (refused_answer 3)) (refused_answer 1)
 
-unfoldable pub boundaryChanges : List ℕ → List ℕ → AnswerTold
-boundaryChanges head answer = cond (eqb (length answer) 24) (told (changesOf head) answer) (toldOf (unanswered head) answer)
+unfoldable pub boundary_changes : List ℕ → List ℕ → AnswerTold
+boundary_changes head answer = cond (eqb (length answer) 24) (told (changes_of head) answer) (told_of (unanswered head) answer)
 
 -- ---- left_writerless: Out is written where the answer has its length
 
@@ -50,17 +45,17 @@ pub record ToldList : Type 0 where
   pub told : AnswerTold
   pub out : List ℕ
 
-abbrev pub toldList : ℕ → List ℕ → List ℕ → ToldList
-toldList number out answer = record { told = toldOf number answer; out = out }
+abbrev pub told_list : ℕ → List ℕ → List ℕ → ToldList
+told_list number out answer = record { told = told_of number answer; out = out }
 
-unfoldable pub boundaryLeft : List ℕ → List ℕ → ℕ → List ℕ → List ℕ → ToldList
-boundaryLeft pens gone mask out answer =
+unfoldable pub boundary_left : List ℕ → List ℕ → ℕ → List ℕ → List ℕ → ToldList
+boundary_left pens gone mask out answer =
     record {
-      told = told (listingAnswer (leftRead (placesIn pens) pens gone mask out)) answer;
-      out = cond (eqb (length answer) 24) (leftOut (placesIn pens) pens gone mask out) out;
+      told = told (listing_answer (left_read (places_in pens) pens gone mask out)) answer;
+      out = cond (eqb (length answer) 24) (left_out (places_in pens) pens gone mask out) out;
     }
 
 -- ---- the holder in force: where it is stored, by its place in pens
 
-abbrev pub placeAnswer : HolderPlace → ReadAnswer
-placeAnswer p = holderAnswer (p .stored) (p .offset) (p .len)
+abbrev pub place_answer : HolderPlace → ReadAnswer
+place_answer p = holder_answer p.stored p.offset p.len

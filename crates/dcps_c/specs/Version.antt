@@ -1,5 +1,5 @@
 -- The version of the library as one number: major · 65536 + minor · 256 + patch.
-use Prim.Native.Nat.{ℕ, _+_, _*_}
+use Rattle.std.specs.Prelude.{ℕ, ◌+◌, ◌*◌}
 
 abbrev pub major : ℕ
 major = 0
@@ -10,5 +10,5 @@ minor = 3
 abbrev pub patch : ℕ
 patch = 0
 
-abbrev pub versionNumber : ℕ
-versionNumber = major * 65_536 + minor * 256 + patch
+abbrev pub version_number : ℕ
+version_number = major * 65_536 + minor * 256 + patch

@@ -1,41 +1,33 @@
 // The C boundary: every entry of dcps on bytes alone, numbers most significant byte first (include/dcps.h). None has a
 // `requires`: any bytes are answered, or refused with a number of documents 01 and 02 and nothing written but the answer.
-use model::Answer;
-use model::Called;
-use model::Guid;
-use model::Head;
-use model::InstanceHandle;
-use model::LastWriter;
-use model::StatusRead;
-use model::Time;
+#![tactic(auto)]
+
+ghost use Rattle.std.specs.Prelude.{not, [], ◌≡◌, eqb, length};
+ghost use Rattle.boundary.specs.Layouts.{answer_bytes};
+ghost use Rattle.boundary_reads.specs.ReadAnswers.{told_of, told};
+ghost use Rattle.boundary_reads.specs.KeyHashes.{told_key_hash};
+ghost use Rattle.boundary_reads.specs.WireAnswers.{fraction_answer, nanos_answer};
+ghost use Rattle.key_hash.specs.KeyHash.{key_hash_of};
+ghost use Rattle.wire_time.specs.WireTime.{wire_fraction_of, nanos_of};
+ghost use Rattle.read_answers.specs.Cases.{decision_answer, time_answer, handle_answer, status_answer};
+ghost use Rattle.model.specs.Answers.{refused_with};
+ghost use Rattle.model.specs.Handles.{handle};
+ghost use Rattle.model.specs.Reads.{filter_read, order_read, last_delivered_read, next_handle_read, walk_read, lookup_read, would_leave_read};
+ghost use Rattle.model.specs.State.{places_in};
+ghost use Rattle.instance_reads.specs.HolderPlaces.{holder_place};
+ghost use Rattle.dcps_c.specs.Boundary.{crossed_of, head_or, no_head, unanswered, called_head, boundary_call, boundary_fresh};
+ghost use Rattle.dcps_c.specs.Reads.{guid_of, time_at, status_of, boundary_status, changes_of, boundary_changes, told_list, boundary_left, place_answer};
+ghost use Rattle.dcps_c.specs.Version.{version_number};
+
+use model::{Answer, Called, Guid, Head, InstanceHandle, LastWriter, StatusRead, Time};
 use read_answers::ReadAnswer;
-ghost use mathlib.Core.Bool.{not};
-ghost use mathlib.Core.List.{[]};
-ghost use mathlib.Core.Path.{_≡_};
-ghost use lib.Dec.{eqb};
-ghost use lib.ListN.{length};
-ghost use Rattle·boundary.specs.Layouts.{answerBytes};
-ghost use Rattle·boundary_reads.specs.ReadAnswers.{toldOf, told};
-ghost use Rattle·boundary_reads.specs.KeyHashes.{toldKeyHash};
-ghost use Rattle·boundary_reads.specs.WireAnswers.{fractionAnswer, nanosAnswer};
-ghost use Rattle·key_hash.specs.KeyHash.{keyHashOf};
-ghost use Rattle·wire_time.specs.WireTime.{wireFractionOf, nanosOf};
-ghost use Rattle·read_answers.specs.Cases.{decisionAnswer, timeAnswer, handleAnswer, statusAnswer};
-ghost use Rattle·model.specs.Answers.{refusedWith};
-ghost use Rattle·model.specs.Handles.{handle};
-ghost use Rattle·model.specs.Reads.{filterRead, orderRead, lastDeliveredRead, nextHandleRead, walkRead, lookupRead, wouldLeaveRead};
-ghost use Rattle·model.specs.State.{placesIn};
-ghost use Rattle·instance_reads.specs.HolderPlaces.{holderPlace};
-ghost use Rattle·dcps_c·specs.specs.Boundary.{crossedOf, headOr, noHead, unanswered, calledHead, boundaryCall, boundaryFresh};
-ghost use Rattle·dcps_c·specs.specs.Reads.{guidOf, timeAt, statusOf, boundaryStatus, changesOf, boundaryChanges, toldList, boundaryLeft, placeAnswer};
-ghost use Rattle·dcps_c·specs.specs.Version.{versionNumber};
 
 // ---- the version
 
 // The version of the library, 0.3.0, as one number.
-#[no_mangle]
+#[unsafe(no_mangle)]
 pub extern "C" fn dcps_version() -> u32
-    ensures { λ r. ⌜ r ≡ versionNumber ⌝ }
+    ensures { result ≡ version_number }
 {
     768
 }
@@ -44,7 +36,7 @@ pub extern "C" fn dcps_version() -> u32
 
 // A head that no buffers make well formed, with a figure.
 fn no_head(places: u16) -> Head
-    ensures { λ r. ⌜ r ≡ noHead places ⌝ }
+    ensures { result ≡ no_head places }
 {
     Head {
         instance_count: 0,
@@ -63,8 +55,8 @@ fn no_head(places: u16) -> Head
 
 // The head of its bytes; where they are no head's, one that is refused as 3, in its turn, and has their figure.
 fn lent_head(head: &[u8]) -> Head
-    requires { ⌜ length (now head) ≡ 64 ⌝ }
-    ensures { λ r. ⌜ r ≡ headOr (now (head .entry)) ⌝ }
+    requires { length head.now ≡ 64 }
+    ensures { result ≡ head_or head.now }
 {
     if !boundary::head_laid(head) {
         return no_head(octets::get_u16(head, 30));
@@ -74,9 +66,9 @@ fn lent_head(head: &[u8]) -> Head
 
 // A refusal: the number, and zeros.
 fn refuse(answer: &mut [u8], number: u8) -> u32
-    requires { ⌜ length (now answer) ≡ 72 ⌝ }
-    ensures number { λ r. ⌜ r ≡ number ⌝ }
-    ensures bytes { λ _. ⌜ now (answer .exit) ≡ answerBytes (refusedWith number) ⌝ }
+    requires { length answer.old ≡ 72 }
+    ensures number { result ≡ number }
+    ensures bytes { answer.new ≡ answer_bytes (refused_with number) }
 {
     let a = answers::refused_with(number);
     boundary::write_answer(answer, a);
@@ -85,8 +77,8 @@ fn refuse(answer: &mut [u8], number: u8) -> u32
 
 // On number 0 the new head.
 fn write_new_head(head: &mut [u8], r: Called)
-    requires { ⌜ length (now head) ≡ 64 ⌝ }
-    ensures { λ _. ⌜ now (head .exit) ≡ calledHead r (now (head .entry)) ⌝ }
+    requires { length head.old ≡ 64 }
+    ensures { head.new ≡ called_head r head.old }
 {
     let a = r.answer;
     let h = r.head;
@@ -98,10 +90,10 @@ fn write_new_head(head: &mut [u8], r: Called)
 
 // The answer, and on number 0 the new head.
 fn settle(head: &mut [u8], answer: &mut [u8], r: Called) -> u32
-    requires { ⌜ (length (now head) ≡ 64) × (length (now answer) ≡ 72) ⌝ }
-    ensures number { λ n. ⌜ n ≡ r .answer .number ⌝ }
-    ensures head { λ _. ⌜ now (head .exit) ≡ calledHead r (now (head .entry)) ⌝ }
-    ensures answer { λ _. ⌜ now (answer .exit) ≡ answerBytes (r .answer) ⌝ }
+    requires { (length head.old ≡ 64) × (length answer.old ≡ 72) }
+    ensures number { result ≡ r.answer.number }
+    ensures head { head.new ≡ called_head r head.old }
+    ensures answer { answer.new ≡ answer_bytes r.answer }
 {
     let a = r.answer;
     boundary::write_answer(answer, a);
@@ -111,7 +103,7 @@ fn settle(head: &mut [u8], answer: &mut [u8], r: Called) -> u32
 
 // The number where an answer has another length, so that nothing is written: 3 by the head's figure, else 1.
 fn unanswered(head: &[u8]) -> u32
-    ensures { λ r. ⌜ r ≡ unanswered (now (head .entry)) ⌝ }
+    ensures { result ≡ unanswered head.now }
 {
     if head.len() != 64 {
         return 1;
@@ -125,7 +117,7 @@ fn unanswered(head: &[u8]) -> u32
 // ---- every call
 
 // A call: the sheet says which; head and buffers are the state that it is made on.
-#[no_mangle]
+#[unsafe(no_mangle)]
 pub extern "C" fn dcps_call(
     head: &mut [u8],
     sheet: &[u8],
@@ -135,8 +127,8 @@ pub extern "C" fn dcps_call(
     out: &mut [u8],
     answer: &mut [u8],
 ) -> u32
-    ensures { λ r. ⌜ crossedOf r (now (head .exit)) (now (pens .exit)) (now (writers .exit)) (now (lost .exit)) (now (out .exit)) (now (answer .exit))
-        ≡ boundaryCall (now (head .entry)) (now (sheet .entry)) (now (pens .entry)) (now (writers .entry)) (now (lost .entry)) (now (out .entry)) (now (answer .entry)) ⌝ }
+    ensures { crossed_of result head.new pens.new writers.new lost.new out.new answer.new
+        ≡ boundary_call head.old sheet.now pens.old writers.old lost.old out.old answer.old }
 {
     if answer.len() != 72 {
         return unanswered(head);
@@ -152,15 +144,15 @@ pub extern "C" fn dcps_call(
 // ---- the fresh state
 
 // Head and buffers become those of the fresh state.
-#[no_mangle]
+#[unsafe(no_mangle)]
 pub extern "C" fn dcps_fresh(
     head: &mut [u8],
     pens: &mut [u8],
     writers: &mut [u8],
     lost: &mut [u8],
 ) -> u32
-    ensures { λ r. ⌜ crossedOf r (now (head .exit)) (now (pens .exit)) (now (writers .exit)) (now (lost .exit)) [] []
-        ≡ boundaryFresh (now (head .entry)) (now (pens .entry)) (now (writers .entry)) (now (lost .entry)) ⌝ }
+    ensures { crossed_of result head.new pens.new writers.new lost.new [] []
+        ≡ boundary_fresh head.old pens.old writers.old lost.old }
 {
     if head.len() != 64 {
         return 1;
@@ -175,7 +167,7 @@ pub extern "C" fn dcps_fresh(
 
 // The answer that holds a status.
 fn status_answer(s: StatusRead) -> Answer
-    ensures { λ r. ⌜ r ≡ statusAnswer s ⌝ }
+    ensures { result ≡ status_answer s }
 {
     match s {
         StatusRead::Refused(n) => answers::refused_with(n),
@@ -185,7 +177,7 @@ fn status_answer(s: StatusRead) -> Answer
 
 // The status of a head's bytes.
 fn status_of(head: &[u8]) -> Answer
-    ensures { λ r. ⌜ r ≡ statusOf (now (head .entry)) ⌝ }
+    ensures { result ≡ status_of head.now }
 {
     if head.len() != 64 {
         return answers::refused_with(1);
@@ -195,9 +187,9 @@ fn status_of(head: &[u8]) -> Answer
 }
 
 // The liveliness status (DDS 1.4, 2.2.4.1) that the head holds, which it leaves as it is.
-#[no_mangle]
+#[unsafe(no_mangle)]
 pub extern "C" fn dcps_status(head: &[u8], answer: &mut [u8]) -> u32
-    ensures { λ r. ⌜ toldOf r (now (answer .exit)) ≡ boundaryStatus (now (head .entry)) (now (answer .entry)) ⌝ }
+    ensures { told_of result answer.new ≡ boundary_status head.now answer.old }
 {
     if answer.len() != 72 {
         return unanswered(head);
@@ -209,7 +201,7 @@ pub extern "C" fn dcps_status(head: &[u8], answer: &mut [u8]) -> u32
 
 // The changes of a head's bytes.
 fn changes_of(head: &[u8]) -> ReadAnswer
-    ensures { λ r. ⌜ r ≡ changesOf (now (head .entry)) ⌝ }
+    ensures { result ≡ changes_of head.now }
 {
     if head.len() != 64 {
         return boundary_reads::refused_answer(1);
@@ -219,9 +211,9 @@ fn changes_of(head: &[u8]) -> ReadAnswer
 }
 
 // How many changes of class the head has counted.
-#[no_mangle]
+#[unsafe(no_mangle)]
 pub extern "C" fn dcps_changes(head: &[u8], answer: &mut [u8]) -> u32
-    ensures { λ r. ⌜ toldOf r (now (answer .exit)) ≡ boundaryChanges (now (head .entry)) (now (answer .entry)) ⌝ }
+    ensures { told_of result answer.new ≡ boundary_changes head.now answer.old }
 {
     if answer.len() != 24 {
         return unanswered(head);
@@ -233,7 +225,7 @@ pub extern "C" fn dcps_changes(head: &[u8], answer: &mut [u8]) -> u32
 // ---- reads of the instances
 
 // Whether a sample is delivered under the time-based filter (DDS 1.4, 2.2.3.12).
-#[no_mangle]
+#[unsafe(no_mangle)]
 pub extern "C" fn dcps_should_deliver_under_time_based_filter(
     pens: &[u8],
     high: u64,
@@ -243,8 +235,8 @@ pub extern "C" fn dcps_should_deliver_under_time_based_filter(
     min_separation: u64,
     answer: &mut [u8],
 ) -> u32
-    ensures { λ r. ⌜ toldOf r (now (answer .exit))
-        ≡ told (decisionAnswer (filterRead (placesIn (now (pens .entry))) (now (pens .entry)) (guidOf high low) (timeAt sec nanosec) «min_separation»)) (now (answer .entry)) ⌝ }
+    ensures { told_of result answer.new
+        ≡ told (decision_answer (filter_read (places_in pens.now) pens.now (guid_of high low) (time_at sec nanosec) min_separation)) answer.old }
 {
     let key = Guid { hi: high, lo: low };
     let time = Time {
@@ -256,7 +248,7 @@ pub extern "C" fn dcps_should_deliver_under_time_based_filter(
 }
 
 // Whether a sample is delivered under the destination order (DDS 1.4, 2.2.3.17); any number but 0 is by source.
-#[no_mangle]
+#[unsafe(no_mangle)]
 pub extern "C" fn dcps_should_deliver_under_destination_order(
     pens: &[u8],
     high: u64,
@@ -266,8 +258,8 @@ pub extern "C" fn dcps_should_deliver_under_destination_order(
     by_source: u8,
     answer: &mut [u8],
 ) -> u32
-    ensures { λ r. ⌜ toldOf r (now (answer .exit))
-        ≡ told (decisionAnswer (orderRead (placesIn (now (pens .entry))) (now (pens .entry)) (guidOf high low) (timeAt sec nanosec) (not (eqb «by_source» 0)))) (now (answer .entry)) ⌝ }
+    ensures { told_of result answer.new
+        ≡ told (decision_answer (order_read (places_in pens.now) pens.now (guid_of high low) (time_at sec nanosec) (not (eqb by_source 0)))) answer.old }
 {
     let key = Guid { hi: high, lo: low };
     let time = Time {
@@ -279,9 +271,9 @@ pub extern "C" fn dcps_should_deliver_under_destination_order(
 }
 
 // When a sample of the instance was delivered last.
-#[no_mangle]
+#[unsafe(no_mangle)]
 pub extern "C" fn dcps_last_delivered_ts(pens: &[u8], high: u64, low: u64, answer: &mut [u8]) -> u32
-    ensures { λ r. ⌜ toldOf r (now (answer .exit)) ≡ told (timeAnswer (lastDeliveredRead (placesIn (now (pens .entry))) (now (pens .entry)) (guidOf high low))) (now (answer .entry)) ⌝ }
+    ensures { told_of result answer.new ≡ told (time_answer (last_delivered_read (places_in pens.now) pens.now (guid_of high low))) answer.old }
 {
     let key = Guid { hi: high, lo: low };
     let f = dcps::last_delivered_ts(pens, key);
@@ -289,27 +281,27 @@ pub extern "C" fn dcps_last_delivered_ts(pens: &[u8], high: u64, low: u64, answe
 }
 
 // The handle that follows another in the order of the keys; the first one behind nil.
-#[no_mangle]
+#[unsafe(no_mangle)]
 pub extern "C" fn dcps_next_handle_after(pens: &[u8], previous: u64, answer: &mut [u8]) -> u32
-    ensures { λ r. ⌜ toldOf r (now (answer .exit)) ≡ told (handleAnswer (nextHandleRead (placesIn (now (pens .entry))) (now (pens .entry)) (handle previous))) (now (answer .entry)) ⌝ }
+    ensures { told_of result answer.new ≡ told (handle_answer (next_handle_read (places_in pens.now) pens.now (handle previous))) answer.old }
 {
     let f = dcps::next_handle_after(pens, InstanceHandle(previous));
     boundary_reads::tell(answer, boundary_reads::handle_answer(f))
 }
 
 // The handle of the instance at a position: a walker's step.
-#[no_mangle]
+#[unsafe(no_mangle)]
 pub extern "C" fn dcps_handle_at_position(pens: &[u8], position: usize, answer: &mut [u8]) -> u32
-    ensures { λ r. ⌜ toldOf r (now (answer .exit)) ≡ told (handleAnswer (walkRead (placesIn (now (pens .entry))) (now (pens .entry)) position)) (now (answer .entry)) ⌝ }
+    ensures { told_of result answer.new ≡ told (handle_answer (walk_read (places_in pens.now) pens.now position)) answer.old }
 {
     let f = dcps::handle_at_position(pens, position);
     boundary_reads::tell(answer, boundary_reads::handle_answer(f))
 }
 
 // Where the bytes from which the key was made are stored in pens; where they are not, the caller's own are in force.
-#[no_mangle]
+#[unsafe(no_mangle)]
 pub extern "C" fn dcps_holder_in_force(pens: &[u8], high: u64, low: u64, answer: &mut [u8]) -> u32
-    ensures { λ r. ⌜ toldOf r (now (answer .exit)) ≡ told (placeAnswer (holderPlace (placesIn (now (pens .entry))) (now (pens .entry)) (guidOf high low))) (now (answer .entry)) ⌝ }
+    ensures { told_of result answer.new ≡ told (place_answer (holder_place (places_in pens.now) pens.now (guid_of high low))) answer.old }
 {
     let key = Guid { hi: high, lo: low };
     let p = dcps::holder_place(pens, key);
@@ -318,9 +310,9 @@ pub extern "C" fn dcps_holder_in_force(pens: &[u8], high: u64, low: u64, answer:
 }
 
 // The first alive instance in key order that the writer writes.
-#[no_mangle]
+#[unsafe(no_mangle)]
 pub extern "C" fn dcps_writer_lookup(pens: &[u8], high: u64, low: u64, answer: &mut [u8]) -> u32
-    ensures { λ r. ⌜ toldOf r (now (answer .exit)) ≡ told (handleAnswer (lookupRead (placesIn (now (pens .entry))) (now (pens .entry)) (guidOf high low))) (now (answer .entry)) ⌝ }
+    ensures { told_of result answer.new ≡ told (handle_answer (lookup_read (places_in pens.now) pens.now (guid_of high low))) answer.old }
 {
     let guid = Guid { hi: high, lo: low };
     let f = dcps::writer_lookup(pens, guid);
@@ -328,22 +320,22 @@ pub extern "C" fn dcps_writer_lookup(pens: &[u8], high: u64, low: u64, answer: &
 }
 
 // Whether the loss of the writers of a list would leave an instance without writers.
-#[no_mangle]
+#[unsafe(no_mangle)]
 pub extern "C" fn dcps_would_leave_writerless(
     pens: &[u8],
     gone: &[u8],
     view_states: u32,
     answer: &mut [u8],
 ) -> u32
-    ensures { λ r. ⌜ toldOf r (now (answer .exit))
-        ≡ told (decisionAnswer (wouldLeaveRead (placesIn (now (pens .entry))) (now (pens .entry)) (now (gone .entry)) «view_states»)) (now (answer .entry)) ⌝ }
+    ensures { told_of result answer.new
+        ≡ told (decision_answer (would_leave_read (places_in pens.now) pens.now gone.now view_states)) answer.old }
 {
     let d = dcps::would_leave_writerless(pens, gone, view_states);
     boundary_reads::tell(answer, boundary_reads::decision_answer(d))
 }
 
 // The handles of the instances that it would leave so, to the front of Out.
-#[no_mangle]
+#[unsafe(no_mangle)]
 pub extern "C" fn dcps_left_writerless(
     pens: &[u8],
     gone: &[u8],
@@ -351,8 +343,8 @@ pub extern "C" fn dcps_left_writerless(
     out: &mut [u8],
     answer: &mut [u8],
 ) -> u32
-    ensures { λ r. ⌜ toldList r (now (out .exit)) (now (answer .exit))
-        ≡ boundaryLeft (now (pens .entry)) (now (gone .entry)) «view_states» (now (out .entry)) (now (answer .entry)) ⌝ }
+    ensures { told_list result out.new answer.new
+        ≡ boundary_left pens.now gone.now view_states out.old answer.old }
 {
     if answer.len() != 24 {
         return 1;
@@ -364,9 +356,9 @@ pub extern "C" fn dcps_left_writerless(
 // ---- keys
 
 // The key of an instance from its serialized key, whose type's largest size is stated (DDSI-RTPS 2.5, 9.6.4.8).
-#[no_mangle]
+#[unsafe(no_mangle)]
 pub extern "C" fn dcps_key_hash(serialized: &[u8], largest: u64, answer: &mut [u8]) -> u32
-    ensures { λ r. ⌜ toldOf r (now (answer .exit)) ≡ toldKeyHash (keyHashOf (now (serialized .entry)) largest) (now (answer .entry)) ⌝ }
+    ensures { told_of result answer.new ≡ told_key_hash (key_hash_of serialized.now largest) answer.old }
 {
     let k = dcps::key_hash(serialized, largest);
     boundary_reads::tell_key_hash(answer, k)
@@ -375,18 +367,18 @@ pub extern "C" fn dcps_key_hash(serialized: &[u8], largest: u64, answer: &mut [u
 // ---- wire time
 
 // Nanoseconds as the fraction of a second that a stamp of RTPS carries, with the remainder of the division.
-#[no_mangle]
+#[unsafe(no_mangle)]
 pub extern "C" fn dcps_wire_fraction(nanosec: u32, answer: &mut [u8]) -> u32
-    ensures { λ r. ⌜ toldOf r (now (answer .exit)) ≡ told (fractionAnswer (wireFractionOf nanosec)) (now (answer .entry)) ⌝ }
+    ensures { told_of result answer.new ≡ told (fraction_answer (wire_fraction_of nanosec)) answer.old }
 {
     let w = dcps::wire_fraction(nanosec);
     boundary_reads::tell(answer, boundary_reads::fraction_answer(w))
 }
 
 // The nanoseconds that a fraction and a remainder came from.
-#[no_mangle]
+#[unsafe(no_mangle)]
 pub extern "C" fn dcps_wire_nanos(fraction: u32, remainder: u32, answer: &mut [u8]) -> u32
-    ensures { λ r. ⌜ toldOf r (now (answer .exit)) ≡ told (nanosAnswer (nanosOf fraction remainder)) (now (answer .entry)) ⌝ }
+    ensures { told_of result answer.new ≡ told (nanos_answer (nanos_of fraction remainder)) answer.old }
 {
     let n = dcps::nanos_of(fraction, remainder);
     boundary_reads::tell(answer, boundary_reads::nanos_answer(n))

@@ -1,48 +1,48 @@
 -- Numbers of two digits, h and l, to a base m. The base stays a variable, so that no proof computes with numbers of 128
 -- bits.
---     digit-lt              the high digit decides
---     digit-high            the high digit is what division by the base gives
---     digits-div            division by a part of the base
+--     digit_lt              the high digit decides
+--     digit_high            the high digit is what division by the base gives
+--     digits_div            division by a part of the base
 --     digits-eq             equal numbers have equal digits
---     eqb-low, eqb-high     the test of two numbers is that of the low digits where the high ones agree, else false
---     ltb-low               the same of their order
-use mathlib.Core.Path.{_≡_, refl, sym, ap, _∙_}
+--     eqb_low, eqb_high     the test of two numbers is that of the low digits where the high ones agree, else false
+--     ltb_low               the same of their order
+use mathlib.Core.Path.{◌≡◌, refl, sym, ap, ◌∙◌}
 use mathlib.Core.Bool.{Bool, true, false}
-use Prim.Native.Nat.{ℕ, _+_, _*_, _/_, _<_}
-use native.Mathlib.Nat.{add-zero, suc-mul, mul-assoc, mul-le-mul-right, mul-add-div-right, div-eq-of-lt}
+use Prim.Native.Nat.{ℕ, ◌+◌, ◌*◌, ◌/◌, ◌<◌}
+use native.Mathlib.Nat.{add-zero, suc-mul, mul_assoc, mul-le-mul_right, mul-add-div_right, div-eq_of_lt}
 use native.Mathlib.Omega.{arith}
 use lib.Dec.{eqb, ltb}
-use borrow.Author.Tests.{eqb-true, eqb-false, ltb-true, ltb-false, eq-eqb, ne-eqb, lt-ltb, le-ltb}
+use borrow.Author.Tests.{eqb-true, eqb-false, ltb-true, ltb-false, eq-eqb, ne_eqb, lt-ltb, le-ltb}
 
-module _ (m : ℕ) {h h′ l : ℕ} (l′ : ℕ) where
-  pub digit-lt : l < m → h < h′ → h * m + l < h′ * m + l′
-  digit-lt p q = omega (arith, mul-le-mul-right m q, suc-mul h m)
+module _ (m : ℕ) {h h' l : ℕ} (l' : ℕ) where
+  pub digit_lt : l < m → h < h' → h * m + l < h' * m + l'
+  digit_lt p q = omega (arith, mul-le-mul_right m q, suc-mul h m)
 
-pub digit-high : (m h l : ℕ) → l < m → (h * m + l) / m ≡ h
-digit-high m h l p = mul-add-div-right (omega arith) h l ∙ rw (div-eq-of-lt p) (add-zero h)
+pub digit_high : (m h l : ℕ) → l < m → (h * m + l) / m ≡ h
+digit_high m h l p = mul-add-div_right (omega arith) h l ∙ rw (div-eq_of_lt p) (add-zero h)
 
-pub digits-div : (m k h l : ℕ) → 0 < k → (h * (m * k) + l) / k ≡ h * m + l / k
-digits-div m k h l p = rw (← mul-assoc h m k) (mul-add-div-right p (h * m) l)
+pub digits_div : (m k h l : ℕ) → 0 < k → (h * (m * k) + l) / k ≡ h * m + l / k
+digits_div m k h l p = rw (← mul_assoc h m k) (mul-add-div_right p (h * m) l)
 
-module _ (m h h′ l l′ : ℕ) where
-  pub digits-eq : l < m → l′ < m → h * m + l ≡ h′ * m + l′ → (h ≡ h′) × (l ≡ l′)
-  digits-eq p p′ e =
-      let q : h ≡ h′ = sym (digit-high m h l p) ∙ ap (λ (k : ℕ). k / m) e ∙ digit-high m h′ l′ p′ in
+module _ (m h h' l l' : ℕ) where
+  pub digits-eq : l < m → l' < m → h * m + l ≡ h' * m + l' → (h ≡ h') × (l ≡ l')
+  digits-eq p p' e =
+      let q : h ≡ h' = sym (digit_high m h l p) ∙ ap (λ (k : ℕ). k / m) e ∙ digit_high m h' l' p' in
       (q, omega (arith, ap (λ (k : ℕ). k * m) q))
 
-  pub eqb-high : l < m → l′ < m → (h ≡ h′ → ⊥) → eqb (h * m + l) (h′ * m + l′) ≡ false
-  eqb-high p p′ n = ne-eqb (h * m + l) (h′ * m + l′) (λ e. n (digits-eq p p′ e .0))
+  pub eqb_high : l < m → l' < m → (h ≡ h' → ⊥) → eqb (h * m + l) (h' * m + l') ≡ false
+  eqb_high p p' n = ne_eqb (h * m + l) (h' * m + l') (λ e. n (digits-eq p p' e).0)
 
-  pub eqb-low : h ≡ h′ → eqb (h * m + l) (h′ * m + l′) ≡ eqb l l′
-  eqb-low e = each (eqb l l′) refl
+  pub eqb_low : h ≡ h' → eqb (h * m + l) (h' * m + l') ≡ eqb l l'
+  eqb_low e = each (eqb l l') refl
     where
-      each : (t : Bool) → eqb l l′ ≡ t → eqb (h * m + l) (h′ * m + l′) ≡ t
-      each true q = eq-eqb (h * m + l) (h′ * m + l′) (rw (e, eqb-true l l′ q))
-      each false q = ne-eqb (h * m + l) (h′ * m + l′) (λ z. eqb-false l l′ q (omega (arith, ap (λ (k : ℕ). k * m) e)))
+      each : (t : Bool) → eqb l l' ≡ t → eqb (h * m + l) (h' * m + l') ≡ t
+      each true q = eq-eqb (h * m + l) (h' * m + l') (rw (e, eqb-true l l' q))
+      each false q = ne_eqb (h * m + l) (h' * m + l') (λ z. eqb-false l l' q (omega (arith, ap (λ (k : ℕ). k * m) e)))
 
-  pub ltb-low : h ≡ h′ → ltb (h * m + l) (h′ * m + l′) ≡ ltb l l′
-  ltb-low e = each (ltb l l′) refl
+  pub ltb_low : h ≡ h' → ltb (h * m + l) (h' * m + l') ≡ ltb l l'
+  ltb_low e = each (ltb l l') refl
     where
-      each : (t : Bool) → ltb l l′ ≡ t → ltb (h * m + l) (h′ * m + l′) ≡ t
-      each true q = lt-ltb (h * m + l) (h′ * m + l′) (omega (arith, ap (λ (k : ℕ). k * m) e, ltb-true l l′ q))
-      each false q = le-ltb (h * m + l) (h′ * m + l′) (omega (arith, ap (λ (k : ℕ). k * m) e, ltb-false l l′ q))
+      each : (t : Bool) → ltb l l' ≡ t → ltb (h * m + l) (h' * m + l') ≡ t
+      each true q = lt-ltb (h * m + l) (h' * m + l') (omega (arith, ap (λ (k : ℕ). k * m) e, ltb-true l l' q))
+      each false q = le-ltb (h * m + l) (h' * m + l') (omega (arith, ap (λ (k : ℕ). k * m) e, ltb-false l l' q))

@@ -1,15 +1,16 @@
 // Keys and GUIDs: their bytes, their order, their equality and their prefix, as model's definitions say.
+#![tactic(auto)]
+
+ghost use Rattle.std.specs.Prelude.{◌≡◌, ◌+◌, ◌≤◌, length};
+ghost use Rattle.octets.specs.Octets.{put};
+ghost use Rattle.model.specs.Guids.{guid_at, less, same, same_prefix, nil};
+
 use model::Guid;
-ghost use mathlib.Core.Path.{_≡_};
-ghost use Prim.Native.Nat.{_+_, _≤_};
-ghost use lib.ListN.{length};
-ghost use Rattle·octets.specs.Octets.{put};
-ghost use Rattle·model.specs.Guids.{guidAt, less, same, samePrefix, nil};
 
 // The GUID of the 16 bytes from at.
 pub fn guid_at(s: &[u8], at: usize) -> Guid
-    requires { ⌜ at + 16 ≤ length (now s) ⌝ }
-    ensures { λ r. ⌜ r ≡ guidAt (now (s .entry)) at ⌝ }
+    requires { at + 16 ≤ length s.now }
+    ensures { result ≡ guid_at s.now at }
 {
     let hi = octets::get_u64(s, at);
     let lo = octets::get_u64(s, at + 8);
@@ -18,8 +19,8 @@ pub fn guid_at(s: &[u8], at: usize) -> Guid
 
 // The 16 bytes of g are written from at.
 pub fn put_guid(s: &mut [u8], at: usize, g: Guid)
-    requires { ⌜ at + 16 ≤ length (now s) ⌝ }
-    ensures { λ _. ⌜ now (s .exit) ≡ put 8 (put 8 (now (s .entry)) at (g .hi)) (at + 8) (g .lo) ⌝ }
+    requires { at + 16 ≤ length s.old }
+    ensures { s.new ≡ put 8 (put 8 s.old at g.hi) (at + 8) g.lo }
 {
     octets::put_u64(s, at, g.hi);
     octets::put_u64(s, at + 8, g.lo);
@@ -27,7 +28,7 @@ pub fn put_guid(s: &mut [u8], at: usize, g: Guid)
 
 // Whether a stands before b in byte order.
 pub fn is_less(a: Guid, b: Guid) -> bool
-    ensures { λ r. ⌜ r ≡ less a b ⌝ }
+    ensures { result ≡ less a b }
 {
     if a.hi < b.hi {
         return true;
@@ -40,7 +41,7 @@ pub fn is_less(a: Guid, b: Guid) -> bool
 
 // Whether a and b are the same 16 bytes.
 pub fn is_same(a: Guid, b: Guid) -> bool
-    ensures { λ r. ⌜ r ≡ same a b ⌝ }
+    ensures { result ≡ same a b }
 {
     if a.hi != b.hi {
         return false;
@@ -50,7 +51,7 @@ pub fn is_same(a: Guid, b: Guid) -> bool
 
 // Whether a and b share their first 12 bytes, the prefix of their participant.
 pub fn same_prefix(a: Guid, b: Guid) -> bool
-    ensures { λ r. ⌜ r ≡ samePrefix a b ⌝ }
+    ensures { result ≡ same_prefix a b }
 {
     if a.hi != b.hi {
         return false;
@@ -60,7 +61,7 @@ pub fn same_prefix(a: Guid, b: Guid) -> bool
 
 // The GUID of zeros, which stands where none is present.
 pub fn nil() -> Guid
-    ensures { λ r. ⌜ r ≡ nil ⌝ }
+    ensures { result ≡ nil }
 {
     Guid { hi: 0, lo: 0 }
 }

@@ -4,19 +4,22 @@
 // Derives from instance_handle.rs of ZeroDDS.
 // Copyright 2026 ZeroDDS Contributors. SPDX-License-Identifier: Apache-2.0. Changed: written anew in Rattle, lent by `&mut`
 // in place of an atomic number.
-ghost use mathlib.Core.Path.{_≡_};
-ghost use Rattle·model.specs.Handles.{allocated};
-use model::Allocated;
-use model::InstanceHandle;
+#![tactic(auto)]
+
+ghost use Rattle.std.specs.Prelude.{◌≡◌};
+ghost use Rattle.model.specs.Handles.{allocated};
+
+use model::{Allocated, InstanceHandle};
 
 // The number that is given next; 0, which is nil, is skipped.
+#[derive(Clone, Copy)]
 pub struct InstanceHandleAllocator {
     pub counter: u64,
 }
 
 // One handle. The counter moves on.
 pub fn allocate(a: &mut InstanceHandleAllocator) -> InstanceHandle
-    ensures { λ r. ⌜ (r ≡ allocated (now (a .entry) .counter) .handle) × (now (a .exit) .counter ≡ allocated (now (a .entry) .counter) .counter) ⌝ }
+    ensures { (result ≡ (allocated a.old.counter).handle) × (a.new.counter ≡ (allocated a.old.counter).counter) }
 {
     let step = instance_handle::allocate_step(a.counter);
     a.counter = step.counter;
@@ -25,7 +28,7 @@ pub fn allocate(a: &mut InstanceHandleAllocator) -> InstanceHandle
 
 // One handle from an allocator at the counter, and where its counter is then: for callers that have plain numbers.
 pub fn allocate_at(counter: u64) -> Allocated
-    ensures { λ r. ⌜ r ≡ allocated counter ⌝ }
+    ensures { result ≡ allocated counter }
 {
     let mut a = InstanceHandleAllocator { counter: counter };
     let handle = allocate(&mut a);

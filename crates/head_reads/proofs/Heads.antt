@@ -1,38 +1,38 @@
 -- The test of a head by itself, from its parts in the order of the code, and the status of a head.
---     sizes-by, alone-by     of the head
---     status-made            the status that is put together
-use Prim.Native.Nat.{_+_}
-use mathlib.Core.Bool.{Bool, _&&_}
-use mathlib.Core.Path.{_≡_, sym}
+--     sizes_by, alone_by     of the head
+--     status_made            the status that is put together
+use Prim.Native.Nat.{◌+◌}
+use mathlib.Core.Bool.{Bool, ◌&&◌}
+use mathlib.Core.Path.{◌≡◌, sym}
 use lib.Dec.{leb, ltb}
 use lib.IntN.{ℤ}
-use Rattle·model.specs.declared.Head.{Head}
-use Rattle·model.specs.declared.InstanceHandle.{InstanceHandle}
-use Rattle·model.specs.declared.LivelinessChangedStatus.{LivelinessChangedStatus}
-use Rattle·model.specs.Reads.{headAlone, headStatus}
-use Rattle·model.specs.State.{figureOk}
-use Rattle·model.specs.WellFormed.{headOk}
-use Rattle·model.specs.Writers.{publication}
-use Rattle·head_reads·specs.specs.Sizes.{sizesOk}
+use Rattle.model.specs.declared.Head.{Head}
+use Rattle.model.specs.declared.InstanceHandle.{InstanceHandle}
+use Rattle.model.specs.declared.LivelinessChangedStatus.{LivelinessChangedStatus}
+use Rattle.model.specs.Reads.{head_alone, head_status}
+use Rattle.model.specs.State.{figure_ok}
+use Rattle.model.specs.WellFormed.{head_ok}
+use Rattle.model.specs.Writers.{publication}
+use Rattle.head_reads.specs.Sizes.{sizes_ok}
 
-pub sizes-by : (h : Head) {a b x y z : Bool} → leb (h .«instance_count») (h .places) ≡ a → ltb (h .«instance_count») (h .«next_handle» .0) ≡ b →
-    leb (h .«writer_count») 128 ≡ x → leb (h .alive + h .«not_alive») (h .«writer_count») ≡ y → leb (h .«lost_count») 256 ≡ z →
-    (a && (b && (x && (y && z)))) ≡ sizesOk h
-unfolding sizesOk
-sizes-by h p q r s u = sym (rw (p, q, r, s, u))
+pub sizes_by : (h : Head) {a b x y z : Bool} → leb h.instance_count h.places ≡ a → ltb h.instance_count h.next_handle.0 ≡ b →
+    leb h.writer_count 128 ≡ x → leb (h.alive + h.not_alive) h.writer_count ≡ y → leb h.lost_count 256 ≡ z →
+    (a && (b && (x && (y && z)))) ≡ sizes_ok h
+unfolding sizes_ok
+sizes_by h p q r s u = sym (rw (p, q, r, s, u))
 
-pub alone-by : (h : Head) {a b c : Bool} → figureOk (h .places) ≡ a → headOk h ≡ b → sizesOk h ≡ c → (a && (b && c)) ≡ headAlone h
-unfolding headAlone sizesOk
-alone-by h p q r = sym (rw (p, q, r))
+pub alone_by : (h : Head) {a b c : Bool} → figure_ok h.places ≡ a → head_ok h ≡ b → sizes_ok h ≡ c → (a && (b && c)) ≡ head_alone h
+unfolding head_alone sizes_ok
+alone_by h p q r = sym (rw (p, q, r))
 
-pub status-made : (h : Head) (a b : ℤ) (p : InstanceHandle) → a ≡ h .«alive_change» → b ≡ h .«not_alive_change» → p ≡ publication (h .«last_writer») →
-    _≡_ {A = LivelinessChangedStatus}
+pub status_made : (h : Head) (a b : ℤ) (p : InstanceHandle) → a ≡ h.alive_change → b ≡ h.not_alive_change → p ≡ publication h.last_writer →
+    ◌≡◌ {A = LivelinessChangedStatus}
     record {
-      «alive_count» = h .alive;
-      «not_alive_count» = h .«not_alive»;
-      «alive_count_change» = a;
-      «not_alive_count_change» = b;
-      «last_publication_handle» = p;
+      alive_count = h.alive;
+      not_alive_count = h.not_alive;
+      alive_count_change = a;
+      not_alive_count_change = b;
+      last_publication_handle = p;
     }
-    (headStatus h)
-status-made h a b p d e f = rw (d, e, f)
+    (head_status h)
+status_made h a b p d e f = rw (d, e, f)

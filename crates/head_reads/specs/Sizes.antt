@@ -1,11 +1,9 @@
 -- The head's counts of records, with no buffers.
-use Prim.Native.Nat.{_+_}
-use mathlib.Core.Bool.{Bool, _&&_}
-use lib.Dec.{leb, ltb}
-use Rattle·model.specs.declared.Head.{Head}
+use Rattle.std.specs.Prelude.{◌+◌, Bool, ◌&&◌, leb, ltb}
+use Rattle.model.specs.declared.Head.{Head}
 
--- what model's headAlone asks of a head beside its figure and headOk
-unfoldable pub sizesOk : Head → Bool
-sizesOk h =
-    leb (h .«instance_count») (h .places) && (ltb (h .«instance_count») (h .«next_handle» .0)
-    && (leb (h .«writer_count») 128 && (leb (h .alive + h .«not_alive») (h .«writer_count») && leb (h .«lost_count») 256)))
+-- what model's head_alone asks of a head beside its figure and head_ok
+unfoldable pub sizes_ok : Head → Bool
+sizes_ok h =
+    leb h.instance_count h.places && (ltb h.instance_count h.next_handle.0
+    && (leb h.writer_count 128 && (leb (h.alive + h.not_alive) h.writer_count && leb h.lost_count 256)))

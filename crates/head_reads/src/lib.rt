@@ -3,22 +3,20 @@
 // Derives from liveliness_tracker.rs of ZeroDDS (status and changes).
 // Copyright 2026 ZeroDDS Contributors. SPDX-License-Identifier: Apache-2.0. Changed: written anew in Rattle, over the head by
 // value.
-use model::ChangesRead;
-use model::Head;
-use model::InstanceHandle;
-use model::LastWriter;
-use model::LivelinessChangedStatus;
-use model::StatusRead;
-ghost use mathlib.Core.Path.{_≡_};
-ghost use Rattle·model.specs.Reads.{headAlone, headStatus, statusRead, changesRead};
-ghost use Rattle·model.specs.Writers.{publication};
-ghost use Rattle·head_reads·specs.specs.Sizes.{sizesOk};
+#![tactic(auto)]
+
+ghost use Rattle.std.specs.Prelude.{◌≡◌};
+ghost use Rattle.model.specs.Reads.{head_alone, head_status, status_read, changes_read};
+ghost use Rattle.model.specs.Writers.{publication};
+ghost use Rattle.head_reads.specs.Sizes.{sizes_ok};
+
+use model::{ChangesRead, Head, InstanceHandle, LastWriter, LivelinessChangedStatus, StatusRead};
 
 // ---- the head
 
 // Whether the head's counts of records can be those of some buffers.
 fn sizes_ok(h: Head) -> bool
-    ensures { λ r. ⌜ r ≡ sizesOk h ⌝ }
+    ensures { result ≡ sizes_ok h }
 {
     let places = h.places as u32;
     let instances = h.instance_count;
@@ -40,7 +38,7 @@ fn sizes_ok(h: Head) -> bool
 
 // Whether the head's figure is one of the two, and some buffers make it well formed.
 fn head_alone(h: Head) -> bool
-    ensures { λ r. ⌜ r ≡ headAlone h ⌝ }
+    ensures { result ≡ head_alone h }
 {
     let figure = h.places;
     if !instance_places::figure_ok(figure) {
@@ -56,7 +54,7 @@ fn head_alone(h: Head) -> bool
 
 // The handle of the last writer, nil where there is none.
 fn publication_handle(last: LastWriter) -> InstanceHandle
-    ensures { λ r. ⌜ r ≡ publication last ⌝ }
+    ensures { result ≡ publication last }
 {
     match last {
         LastWriter::Nobody => instance_handle::nil(),
@@ -66,7 +64,7 @@ fn publication_handle(last: LastWriter) -> InstanceHandle
 
 // The liveliness status (DDS 1.4, 2.2.4.1) that the head holds, which it leaves as it is.
 pub fn head_status(h: Head) -> LivelinessChangedStatus
-    ensures { λ r. ⌜ r ≡ headStatus h ⌝ }
+    ensures { result ≡ head_status h }
 {
     let last = h.last_writer;
     let handle = publication_handle(last);
@@ -81,7 +79,7 @@ pub fn head_status(h: Head) -> LivelinessChangedStatus
 
 // The liveliness status of a head, refused as 3 where its figure is another or no buffers make the head well formed.
 pub fn status(h: Head) -> StatusRead
-    ensures { λ r. ⌜ r ≡ statusRead h ⌝ }
+    ensures { result ≡ status_read h }
 {
     if !head_alone(h) {
         return StatusRead::Refused(3);
@@ -91,7 +89,7 @@ pub fn status(h: Head) -> StatusRead
 
 // How many changes of class a head has counted, refused in the same case.
 pub fn changes(h: Head) -> ChangesRead
-    ensures { λ r. ⌜ r ≡ changesRead h ⌝ }
+    ensures { result ≡ changes_read h }
 {
     if !head_alone(h) {
         return ChangesRead::Refused(3);

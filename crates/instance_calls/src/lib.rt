@@ -3,21 +3,18 @@
 // Derives from instance_tracker.rs of ZeroDDS.
 // Copyright 2026 ZeroDDS Contributors. SPDX-License-Identifier: Apache-2.0. Changed: written anew in Rattle, with the state
 // lent as head and buffers.
-use model::Called;
-use model::Head;
-use model::InstanceCall;
-use model::Sheet;
-ghost use mathlib.Core.Bool.{true};
-ghost use mathlib.Core.Path.{_≡_};
-ghost use Prim.Native.Nat.{_*_, _≤_};
-ghost use lib.ListN.{length};
-ghost use Rattle·model.specs.Instances.{onEvery};
-ghost use Rattle·model.specs.WellFormed.{instanceTableOk};
-ghost use Rattle·call_laws.specs.Entered.{InstancesJudged};
+#![tactic(auto)]
+
+ghost use Rattle.std.specs.Prelude.{true, ◌≡◌, ◌*◌, ◌≤◌, length};
+ghost use Rattle.model.specs.Instances.{on_every};
+ghost use Rattle.model.specs.WellFormed.{instance_table_ok};
+ghost use Rattle.call_laws.specs.Entered.{InstancesJudged};
+
+use model::{Called, Head, InstanceCall, Sheet};
 
 // Whether a call is one on every instance.
 fn on_every(c: InstanceCall) -> bool
-    ensures { λ r. ⌜ r ≡ onEvery c ⌝ }
+    ensures { result ≡ on_every c }
 {
     let r = instance_rules::rule_of(c);
     let k = r.reach;
@@ -33,9 +30,9 @@ pub fn instance_turn(
     out: &mut [u8],
     places: usize,
 ) -> Called
-    requires { ⌜ (places ≤ 128) × (length (now pens) ≡ places * 512) × (length (now out) ≡ 4096)
-        × (instanceTableOk places (head .«instance_count») (head .«next_handle» .0) (now pens) ≡ true) ⌝ }
-    ensures { λ r. ⌜ InstancesJudged places c s head (now (pens .entry)) (now (out .entry)) r (now (pens .exit)) (now (out .exit)) ⌝ }
+    requires { (places ≤ 128) × (length pens.old ≡ places * 512) × (length out.old ≡ 4096)
+        × (instance_table_ok places head.instance_count head.next_handle.0 pens.old ≡ true) }
+    ensures { InstancesJudged places c s head pens.old out.old result pens.new out.new }
 {
     let number = call_sheet::instance_refusal(c, s);
     if number != 0 {

@@ -1,26 +1,26 @@
 -- Records at their places in a list of bytes.
 --     drop-take                     the rest of the first elements
 --     guid-in                       a GUID of the writer set
---     guids-turn                    one turn of the loop that reads the set
---     holder-read, holder-tail      the holder's bytes, and those behind its length
---     kind-rest                     each number from 2 on is the last kind
---     lent-part, put-back           a record lent as a part of a table, and what it becomes when it is back
-use Prim.Native.Nat.{ℕ, zero, suc, _+_, _-_, _*_, _<_}
-use mathlib.Core.Path.{_≡_, refl, sym, ap, _∙_}
-use mathlib.Core.List.{List, [], _∷_, append-nil}
+--     guids_turn                    one turn of the loop that reads the set
+--     holder_read, holder_tail      the holder's bytes, and those behind its length
+--     kind_rest                     each number from 2 on is the last kind
+--     lent-part, put_back           a record lent as a part of a table, and what it becomes when it is back
+use Prim.Native.Nat.{ℕ, zero, suc, ◌+◌, ◌-◌, ◌*◌, ◌<◌}
+use mathlib.Core.Path.{◌≡◌, refl, sym, ap, ◌∙◌}
+use mathlib.Core.List.{List, [], ◌∷◌, append-nil}
 use native.Mathlib.Numerals.{add-one}
 use native.Mathlib.Omega.{arith}
-use borrow.Rule.Slice.PartMut.{putMid}
+use borrow.Rule.Slice.PartMut.{put_mid}
 use lib.ListN.{length, take, drop, set, replicate}
 use lib.Seq.{drop-drop, take-nil, take-suc-set, paste}
-use Rattle·octets.specs.Patch.{patch}
-use Rattle·octets.specs.Zeros.{allZero}
-use Rattle·model.specs.declared.Guid.{Guid}
-use Rattle·model.specs.declared.InstanceStateKind.the-variants.{NotAliveNoWriters}
-use Rattle·model.specs.Guids.{guidAt, guidOf, guidsIn}
-use Rattle·model.specs.InstanceRecord.{kindNumbered}
-use Rattle·model.proofs.GuidLaws.{guid-part}
-use Rattle·model.proofs.RowLaws.{read-snoc}
+use Rattle.octets.specs.Patch.{patch}
+use Rattle.octets.specs.Zeros.{all_zero}
+use Rattle.model.specs.declared.Guid.{Guid}
+use Rattle.model.specs.declared.InstanceStateKind.TheVariants.{NotAliveNoWriters}
+use Rattle.model.specs.Guids.{guid_at, guid_of, guids_in}
+use Rattle.model.specs.InstanceRecord.{kind_numbered}
+use Rattle.model.proofs.GuidLaws.{guid-part}
+use Rattle.model.proofs.RowLaws.{read_snoc}
 
 pub drop-take : {A : Type 0} (n m : ℕ) (l : List A) → drop n (take m l) ≡ take (m - n) (drop n l)
 drop-take zero m l = let e : m - 0 ≡ m = omega arith in rw e
@@ -28,29 +28,29 @@ drop-take (suc n) zero l = let e : 0 - suc n ≡ 0 = omega arith in rw e
 drop-take (suc n) (suc m) [] = sym (take-nil (suc m - suc n))
 drop-take (suc n) (suc m) (x ∷ l) = let e : suc m - suc n ≡ m - n = omega arith in rw e (drop-take n m l)
 
-pub guid-in : (s : List ℕ) (i : ℕ) → guidOf (take 16 (drop (i * 16) (drop 256 s))) ≡ guidAt s (256 + i * 16)
+pub guid-in : (s : List ℕ) (i : ℕ) → guid_of (take 16 (drop (i * 16) (drop 256 s))) ≡ guid_at s (256 + i * 16)
 guid-in s i = rw (drop-drop (i * 16) 256 s) (guid-part 16 (256 + i * 16) s (omega arith))
 
-pub guids-turn : (r : List Guid) (s : List ℕ) (i : ℕ) (g : Guid) → i < length r → take i r ≡ guidsIn i (drop 256 s) → g ≡ guidAt s (256 + i * 16) →
-    take (i + 1) (set r i g) ≡ guidsIn (i + 1) (drop 256 s)
-guids-turn r s i g h e q = rw (read-snoc guidOf 16 i (drop 256 s), guid-in s i, add-one, take-suc-set r i g h, e, q)
+pub guids_turn : (r : List Guid) (s : List ℕ) (i : ℕ) (g : Guid) → i < length r → take i r ≡ guids_in i (drop 256 s) → g ≡ guid_at s (256 + i * 16) →
+    take (i + 1) (set r i g) ≡ guids_in (i + 1) (drop 256 s)
+guids_turn r s i g h e q = rw (read_snoc guid_of 16 i (drop 256 s), guid-in s i, add-one, take-suc-set r i g h, e, q)
 
-pub holder-read : (s : List ℕ) → paste (replicate 144 0) 0 (drop 112 s) 144 ≡ take 144 (drop 112 s)
-holder-read s = append-nil (take 144 (drop 112 s))
+pub holder_read : (s : List ℕ) → paste (replicate 144 0) 0 (drop 112 s) 144 ≡ take 144 (drop 112 s)
+holder_read s = append-nil (take 144 (drop 112 s))
 
-pub holder-tail : (s : List ℕ) (n : ℕ) → allZero (drop n (take 144 (drop 112 s))) ≡ allZero (take (256 - (112 + n)) (drop (112 + n) s))
-holder-tail s n =
+pub holder_tail : (s : List ℕ) (n : ℕ) → all_zero (drop n (take 144 (drop 112 s))) ≡ all_zero (take (256 - (112 + n)) (drop (112 + n) s))
+holder_tail s n =
     let e : 256 - (112 + n) ≡ 144 - n = omega arith in
-    ap allZero (drop-take n 144 (drop 112 s)) ∙ rw (drop-drop n 112 s, e)
+    ap all_zero (drop-take n 144 (drop 112 s)) ∙ rw (drop-drop n 112 s, e)
 
-pub kind-rest : (n : ℕ) → (n ≡ 0 → ⊥) → (n ≡ 1 → ⊥) → NotAliveNoWriters ≡ kindNumbered n
-kind-rest zero a b = absurd (a refl)
-kind-rest (suc zero) a b = absurd (b refl)
-kind-rest (suc (suc n)) a b = refl
+pub kind_rest : (n : ℕ) → (n ≡ 0 → ⊥) → (n ≡ 1 → ⊥) → NotAliveNoWriters ≡ kind_numbered n
+kind_rest zero a b = absurd (a refl)
+kind_rest (suc zero) a b = absurd (b refl)
+kind_rest (suc (suc n)) a b = refl
 
 -- a record of `size` bytes lent as the part from o up to o + size
 pub lent-part : (o size : ℕ) (t : List ℕ) → take (o + size - o) (drop o t) ≡ take size (drop o t)
 lent-part o size t = let e : o + size - o ≡ size = omega arith in rw e
 
-pub put-back : (o size : ℕ) (t r : List ℕ) → putMid o (o + size - o) t r ≡ patch t o size r
-put-back o size t r = let e : o + size - o ≡ size = omega arith in rw (e, drop-drop size o t)
+pub put_back : (o size : ℕ) (t r : List ℕ) → put_mid o (o + size - o) t r ≡ patch t o size r
+put_back o size t r = let e : o + size - o ≡ size = omega arith in rw (e, drop-drop size o t)

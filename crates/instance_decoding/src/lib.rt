@@ -4,29 +4,23 @@
 // Derives from instance_tracker.rs of ZeroDDS.
 // Copyright 2026 ZeroDDS Contributors. SPDX-License-Identifier: Apache-2.0. Changed: written anew in Rattle, with the
 // instance as bytes of a fixed layout.
-use model::Guid;
-use model::Holder;
-use model::Instance;
-use model::InstanceHandle;
-use model::InstanceState;
-use model::InstanceStateKind;
-use model::Life;
-use model::MaybeOwner;
-use model::MaybeTime;
-use model::Times;
-use model::WriterSet;
-ghost use mathlib.Core.Path.{_≡_};
-ghost use Prim.Native.Nat.{_+_, _*_, _≤_};
-ghost use lib.ListN.{length, drop};
-ghost use Rattle·model.specs.Guids.{guidsIn};
-ghost use Rattle·model.specs.InstanceRecord.{kindNumbered, timeAt, lifeOf, timesOf, ownerOf, holderOf, writerSetOf, stateBy, instanceOf};
-ghost use Rattle·instance_decoding·specs.specs.Parts.{recordAt};
+#![tactic(auto)]
+
+ghost use Rattle.std.specs.Prelude.{◌≡◌, ◌+◌, ◌*◌, ◌≤◌, length, drop};
+ghost use Rattle.model.specs.Guids.{guids_in};
+ghost use Rattle.model.specs.InstanceRecord.{kind_numbered, time_at, life_of, times_of, owner_of, holder_of, writer_set_of, state_by, instance_of};
+ghost use Rattle.instance_decoding.specs.Parts.{record_at};
+
+use model::{
+    Guid, Holder, Instance, InstanceHandle, InstanceState, InstanceStateKind, Life, MaybeOwner,
+    MaybeTime, Times, WriterSet,
+};
 
 // ---- one record
 
 // The kind that a number stands for.
 fn kind_of(n: u16) -> InstanceStateKind
-    ensures { λ r. ⌜ r ≡ kindNumbered n ⌝ }
+    ensures { result ≡ kind_numbered n }
 {
     match n {
         0 => InstanceStateKind::Alive,
@@ -37,8 +31,8 @@ fn kind_of(n: u16) -> InstanceStateKind
 
 // The time of the 8 bytes from at, present or not.
 pub fn read_time(s: &[u8], at: usize, present: bool) -> MaybeTime
-    requires { ⌜ at + 8 ≤ length (now s) ⌝ }
-    ensures { λ r. ⌜ r ≡ timeAt (now (s .entry)) at present ⌝ }
+    requires { at + 8 ≤ length s.now }
+    ensures { result ≡ time_at s.now at present }
 {
     let sec = octets::get_u32(s, at);
     let nanosec = octets::get_u32(s, at + 4);
@@ -51,8 +45,8 @@ pub fn read_time(s: &[u8], at: usize, present: bool) -> MaybeTime
 
 // The lifecycle and the counts.
 fn read_life(s: &[u8], f: u16) -> Life
-    requires { ⌜ length (now s) ≡ 512 ⌝ }
-    ensures { λ r. ⌜ r ≡ lifeOf (now (s .entry)) f ⌝ }
+    requires { length s.now ≡ 512 }
+    ensures { result ≡ life_of s.now f }
 {
     let k = kind_of(f / 16384);
     let d = octets::get_u32(s, 28);
@@ -71,8 +65,8 @@ fn read_life(s: &[u8], f: u16) -> Life
 
 // The six times.
 fn read_times(s: &[u8], f: u16) -> Times
-    requires { ⌜ length (now s) ≡ 512 ⌝ }
-    ensures { λ r. ⌜ r ≡ timesOf (now (s .entry)) f ⌝ }
+    requires { length s.now ≡ 512 }
+    ensures { result ≡ times_of s.now f }
 {
     let a = read_time(s, 44, f / 4096 % 2 == 1);
     let b = read_time(s, 52, f / 2048 % 2 == 1);
@@ -92,8 +86,8 @@ fn read_times(s: &[u8], f: u16) -> Times
 
 // The owner.
 fn read_owner(s: &[u8], f: u16) -> MaybeOwner
-    requires { ⌜ length (now s) ≡ 512 ⌝ }
-    ensures { λ r. ⌜ r ≡ ownerOf (now (s .entry)) f ⌝ }
+    requires { length s.now ≡ 512 }
+    ensures { result ≡ owner_of s.now f }
 {
     let g = guid::guid_at(s, 92);
     let n = octets::get_u32(s, 108);
@@ -106,8 +100,8 @@ fn read_owner(s: &[u8], f: u16) -> MaybeOwner
 
 // The holder.
 fn read_holder(s: &[u8], f: u16) -> Holder
-    requires { ⌜ length (now s) ≡ 512 ⌝ }
-    ensures { λ r. ⌜ r ≡ holderOf (now (s .entry)) f ⌝ }
+    requires { length s.now ≡ 512 }
+    ensures { result ≡ holder_of s.now f }
 {
     let n = octets::get_u16(s, 26);
     let mut b = [0u8; 144];
@@ -121,8 +115,8 @@ fn read_holder(s: &[u8], f: u16) -> Holder
 
 // The 16 GUIDs of the writer set.
 fn read_guids(s: &[u8]) -> [Guid; 16]
-    requires { ⌜ length (now s) ≡ 512 ⌝ }
-    ensures { λ r. ⌜ r ≡ guidsIn 16 (drop 256 (now (s .entry))) ⌝ }
+    requires { length s.now ≡ 512 }
+    ensures { result ≡ guids_in 16 (drop 256 s.now) }
 {
     let z = Guid { hi: 0, lo: 0 };
     let mut r = [z; 16];
@@ -137,8 +131,8 @@ fn read_guids(s: &[u8]) -> [Guid; 16]
 
 // The writer set.
 fn read_writers(s: &[u8], f: u16) -> WriterSet
-    requires { ⌜ length (now s) ≡ 512 ⌝ }
-    ensures { λ r. ⌜ r ≡ writerSetOf (now (s .entry)) f ⌝ }
+    requires { length s.now ≡ 512 }
+    ensures { result ≡ writer_set_of s.now f }
 {
     let items = read_guids(s);
     WriterSet {
@@ -149,8 +143,8 @@ fn read_writers(s: &[u8], f: u16) -> WriterSet
 
 // All but key and handle, by the flags f.
 fn read_state(s: &[u8], f: u16) -> InstanceState
-    requires { ⌜ length (now s) ≡ 512 ⌝ }
-    ensures { λ r. ⌜ r ≡ stateBy (now (s .entry)) f ⌝ }
+    requires { length s.now ≡ 512 }
+    ensures { result ≡ state_by s.now f }
 {
     let life = read_life(s, f);
     let times = read_times(s, f);
@@ -168,24 +162,24 @@ fn read_state(s: &[u8], f: u16) -> InstanceState
 
 // The key alone.
 pub fn read_key(s: &[u8]) -> Guid
-    requires { ⌜ length (now s) ≡ 512 ⌝ }
-    ensures { λ r. ⌜ r ≡ instanceOf (now (s .entry)) .key ⌝ }
+    requires { length s.now ≡ 512 }
+    ensures { result ≡ (instance_of s.now).key }
 {
     guid::guid_at(s, 0)
 }
 
 // The handle alone.
 pub fn read_handle(s: &[u8]) -> InstanceHandle
-    requires { ⌜ length (now s) ≡ 512 ⌝ }
-    ensures { λ r. ⌜ r ≡ instanceOf (now (s .entry)) .handle ⌝ }
+    requires { length s.now ≡ 512 }
+    ensures { result ≡ (instance_of s.now).handle }
 {
     InstanceHandle(octets::get_u64(s, 16))
 }
 
 // The whole instance.
 pub fn read_instance(s: &[u8]) -> Instance
-    requires { ⌜ length (now s) ≡ 512 ⌝ }
-    ensures { λ r. ⌜ r ≡ instanceOf (now (s .entry)) ⌝ }
+    requires { length s.now ≡ 512 }
+    ensures { result ≡ instance_of s.now }
 {
     let key = read_key(s);
     let handle = read_handle(s);
@@ -202,8 +196,8 @@ pub fn read_instance(s: &[u8]) -> Instance
 
 // Instance i of a table.
 pub fn instance_at(t: &[u8], i: usize) -> Instance
-    requires { ⌜ i * 512 + 512 ≤ length (now t) ⌝ }
-    ensures { λ r. ⌜ r ≡ instanceOf (recordAt (now (t .entry)) i) ⌝ }
+    requires { i * 512 + 512 ≤ length t.now }
+    ensures { result ≡ instance_of (record_at t.now i) }
 {
     let o = i * 512;
     let e = o + 512;
@@ -212,8 +206,8 @@ pub fn instance_at(t: &[u8], i: usize) -> Instance
 
 // The handle of instance i.
 pub fn handle_at(t: &[u8], i: usize) -> InstanceHandle
-    requires { ⌜ i * 512 + 512 ≤ length (now t) ⌝ }
-    ensures { λ r. ⌜ r ≡ instanceOf (recordAt (now (t .entry)) i) .handle ⌝ }
+    requires { i * 512 + 512 ≤ length t.now }
+    ensures { result ≡ (instance_of (record_at t.now i)).handle }
 {
     let o = i * 512;
     let e = o + 512;

@@ -1,28 +1,27 @@
 -- The writers of a list lost to an instance, all at once.
---     emptiedBy           the list takes its last writers from an alive instance
---     droppedOf           the writers of the list are taken out of its set
---     ownedBy             its owner is in the list
---     disownedBy          such an owner is cleared
-use mathlib.Core.Bool.{Bool, _&&_, cond}
-use mathlib.Core.List.{List}
-use Rattle·model.specs.declared.Guid.{Guid}
-use Rattle·model.specs.declared.InstanceState.{InstanceState}
-use Rattle·model.specs.declared.MaybeOwner.{MaybeOwner}
-use Rattle·model.specs.declared.MaybeTime.{MaybeTime}
-use Rattle·model.specs.Instances.{noOwner, withOwner, writersIn}
-use Rattle·model.specs.Sets.{has}
-use Rattle·writer_set_bytes.specs.Others.{others}
-use Rattle·instance_edits·specs.specs.Edits.{emptiedTo, settled}
+--     emptied_by           the list takes its last writers from an alive instance
+--     dropped_of           the writers of the list are taken out of its set
+--     owned_by             its owner is in the list
+--     disowned_by          such an owner is cleared
+use Rattle.std.specs.Prelude.{Bool, ◌&&◌, cond, List}
+use Rattle.model.specs.declared.Guid.{Guid}
+use Rattle.model.specs.declared.InstanceState.{InstanceState}
+use Rattle.model.specs.declared.MaybeOwner.{MaybeOwner}
+use Rattle.model.specs.declared.MaybeTime.{MaybeTime}
+use Rattle.model.specs.Instances.{no_owner, with_owner, writers_in}
+use Rattle.model.specs.Sets.{has}
+use Rattle.writer_set_bytes.specs.Others.{others}
+use Rattle.instance_edits.specs.Edits.{emptied_to, settled}
 
-abbrev pub emptiedBy : List Guid → InstanceState → Bool
-emptiedBy gone x = emptiedTo (others gone (writersIn x)) x
+abbrev pub emptied_by : List Guid → InstanceState → Bool
+emptied_by gone x = emptied_to (others gone (writers_in x)) x
 
 -- times are given only to an instance that is left writerless
-abbrev pub droppedOf : List Guid → MaybeTime → InstanceState → InstanceState
-droppedOf gone at x = settled (others gone (writersIn x)) at x
+abbrev pub dropped_of : List Guid → MaybeTime → InstanceState → InstanceState
+dropped_of gone at x = settled (others gone (writers_in x)) at x
 
-abbrev pub ownedBy : List Guid → MaybeOwner → Bool
-ownedBy gone o = o .present && has (o .guid) gone
+abbrev pub owned_by : List Guid → MaybeOwner → Bool
+owned_by gone o = o.present && has o.guid gone
 
-unfoldable pub disownedBy : List Guid → InstanceState → InstanceState
-disownedBy gone x = cond (ownedBy gone (x .owner)) (withOwner noOwner x) x
+unfoldable pub disowned_by : List Guid → InstanceState → InstanceState
+disowned_by gone x = cond (owned_by gone x.owner) (with_owner no_owner x) x

@@ -5,22 +5,22 @@
 // Derives from instance_tracker.rs of ZeroDDS.
 // Copyright 2026 ZeroDDS Contributors. SPDX-License-Identifier: Apache-2.0. Changed: written anew in Rattle, over records in
 // lent bytes.
-use model::Guid;
-use model::MaybeTime;
+#![tactic(auto)]
+
+ghost use Rattle.std.specs.Prelude.{true, ◌≡◌, ◌+◌, ◌<◌, ◌≤◌, ◌%◌, length};
+ghost use Rattle.model.specs.Guids.{less, guid_at};
+ghost use Rattle.model.specs.InstanceRecord.{flag, flags_at, instance_of};
+ghost use Rattle.model.specs.Instances.{owns, owns_prefix, writers_in};
+ghost use Rattle.instance_edits.specs.Edits.{Formed, OwnerCleared, StrengthPut, WriterlessLeft, Settled, with_bit};
+ghost use Rattle.writer_set_bytes.specs.Lists.{gones_in, Listed};
+ghost use Rattle.instance_edits.specs.Losses.{owned_by};
+ghost use Rattle.instance_edits.specs.Spans.{Outside, AllOutside};
+
+use model::{Guid, MaybeTime};
 use tables::Found;
-ghost use mathlib.Core.Bool.{true};
-ghost use mathlib.Core.Path.{_≡_};
-ghost use Prim.Native.Nat.{_+_, _<_, _≤_, _%_};
-ghost use lib.ListN.{length};
-ghost use Rattle·model.specs.Guids.{less, guidAt};
-ghost use Rattle·model.specs.InstanceRecord.{flag, flagsAt, instanceOf};
-ghost use Rattle·model.specs.Instances.{owns, ownsPrefix, writersIn};
-ghost use Rattle·instance_edits·specs.specs.Edits.{Formed, OwnerCleared, StrengthPut, WriterlessLeft, Settled, withBit};
-ghost use Rattle·writer_set_bytes.specs.Lists.{gonesIn, Listed};
-ghost use Rattle·instance_edits·specs.specs.Losses.{ownedBy};
-ghost use Rattle·instance_edits·specs.specs.Spans.{Outside, AllOutside};
 
 // The GUIDs from low to high.
+#[derive(Clone, Copy)]
 pub struct Span {
     pub low: Guid,
     pub high: Guid,
@@ -30,8 +30,8 @@ pub struct Span {
 
 // Whether the instance has that owner. Its entity comes first, which differs more often than its participant.
 pub fn owner_is(s: &[u8], g: Guid) -> bool
-    requires { ⌜ length (now s) ≡ 512 ⌝ }
-    ensures { λ r. ⌜ r ≡ owns g (instanceOf (now (s .entry)) .state .owner) ⌝ }
+    requires { length s.now ≡ 512 }
+    ensures { result ≡ owns g (instance_of s.now).state.owner }
 {
     if octets::get_u64(s, 100) != g.lo {
         return false;
@@ -44,8 +44,8 @@ pub fn owner_is(s: &[u8], g: Guid) -> bool
 
 // Whether the instance has an owner of that participant.
 pub fn owner_of_prefix(s: &[u8], g: Guid) -> bool
-    requires { ⌜ length (now s) ≡ 512 ⌝ }
-    ensures { λ r. ⌜ r ≡ ownsPrefix g (instanceOf (now (s .entry)) .state .owner) ⌝ }
+    requires { length s.now ≡ 512 }
+    ensures { result ≡ owns_prefix g (instance_of s.now).state.owner }
 {
     if octets::get_u64(s, 92) != g.hi {
         return false;
@@ -58,8 +58,8 @@ pub fn owner_of_prefix(s: &[u8], g: Guid) -> bool
 
 // Whether the instance has an owner that is in the list.
 pub fn owner_listed(s: &[u8], gone: &[u8], guesses: &[u8; 1024]) -> bool
-    requires { ⌜ (length (now s) ≡ 512) × Listed (now gone) ⌝ }
-    ensures { λ r. ⌜ r ≡ ownedBy (gonesIn (now (gone .entry))) (instanceOf (now (s .entry)) .state .owner) ⌝ }
+    requires { (length s.now ≡ 512) × Listed gone.now }
+    ensures { result ≡ owned_by (gones_in gone.now) (instance_of s.now).state.owner }
 {
     if octets::get_u16(s, 24) / 128 % 2 == 0 {
         return false;
@@ -73,8 +73,8 @@ pub fn owner_listed(s: &[u8], gone: &[u8], guesses: &[u8; 1024]) -> bool
 
 // The owner is cleared; owner_at stays.
 pub fn clear_owner(s: &mut [u8])
-    requires { ⌜ (length (now s) ≡ 512) × (flag 128 (flagsAt (now s)) ≡ true) ⌝ }
-    ensures { λ _. ⌜ OwnerCleared (now (s .entry)) (now (s .exit)) ⌝ }
+    requires { (length s.old ≡ 512) × (flag 128 (flags_at s.old) ≡ true) }
+    ensures { OwnerCleared s.old s.new }
 {
     let f = octets::get_u16(s, 24);
     octets::put_u64(s, 92, 0);
@@ -85,8 +85,8 @@ pub fn clear_owner(s: &mut [u8])
 
 // The owner has another strength.
 pub fn put_strength(s: &mut [u8], strength: u32)
-    requires { ⌜ length (now s) ≡ 512 ⌝ }
-    ensures { λ _. ⌜ StrengthPut strength (now (s .entry)) (now (s .exit)) ⌝ }
+    requires { length s.old ≡ 512 }
+    ensures { StrengthPut strength s.old s.new }
 {
     octets::put_u32(s, 108, strength);
 }
@@ -95,16 +95,16 @@ pub fn put_strength(s: &mut [u8], strength: u32)
 
 // The flags with the bit of weight w set.
 fn with_bit(f: u16, w: u16) -> u16
-    requires { ⌜ (0 < w) × (f + w < 65536) ⌝ }
-    ensures { λ r. ⌜ (r ≡ withBit w f) × (r ≤ f + w) ⌝ }
+    requires { (0 < w) × (f + w < 65536) }
+    ensures { (result ≡ with_bit w f) × (result ≤ f + w) }
 {
     if f / w % 2 == 1 { f } else { f + w }
 }
 
 // An alive instance is left without writers; f are the flags that it has as an alive one.
 fn leave_writerless(s: &mut [u8], f: u16, at: MaybeTime)
-    requires { ⌜ (length (now s) ≡ 512) × (f < 16384) ⌝ }
-    ensures { λ _. ⌜ WriterlessLeft f at (now (s .entry)) (now (s .exit)) ⌝ }
+    requires { (length s.old ≡ 512) × (f < 16384) }
+    ensures { WriterlessLeft f at s.old s.new }
 {
     let g = f + 32768;
     if at.present {
@@ -120,8 +120,8 @@ fn leave_writerless(s: &mut [u8], f: u16, at: MaybeTime)
 
 // What is left to write of a record whose set was just reduced from n to k GUIDs; whether that leaves it writerless.
 pub fn write_remainder(s: &mut [u8], n: usize, k: usize, at: MaybeTime) -> bool
-    requires { ⌜ (length (now s) ≡ 512) × (flagsAt (now s) % 32 ≡ n) × (k ≤ n) ⌝ }
-    ensures { λ r. ⌜ Settled n k at (now (s .entry)) (now (s .exit)) r ⌝ }
+    requires { (length s.old ≡ 512) × (flags_at s.old % 32 ≡ n) × (k ≤ n) }
+    ensures { Settled n k at s.old s.new result }
 {
     if k == n {
         return false;
@@ -142,8 +142,8 @@ pub fn write_remainder(s: &mut [u8], n: usize, k: usize, at: MaybeTime) -> bool
 
 // Whether the GUID at `at` stands before g: the low half is read only where the high ones are the same.
 fn is_before(s: &[u8], at: usize, g: Guid) -> bool
-    requires { ⌜ at + 16 ≤ length (now s) ⌝ }
-    ensures { λ r. ⌜ r ≡ less (guidAt (now (s .entry)) at) g ⌝ }
+    requires { at + 16 ≤ length s.now }
+    ensures { result ≡ less (guid_at s.now at) g }
 {
     let a = octets::get_u64(s, at);
     if a != g.hi {
@@ -154,8 +154,8 @@ fn is_before(s: &[u8], at: usize, g: Guid) -> bool
 
 // Whether the GUID at `at` stands behind g.
 fn is_behind(s: &[u8], at: usize, g: Guid) -> bool
-    requires { ⌜ at + 16 ≤ length (now s) ⌝ }
-    ensures { λ r. ⌜ r ≡ less g (guidAt (now (s .entry)) at) ⌝ }
+    requires { at + 16 ≤ length s.now }
+    ensures { result ≡ less g (guid_at s.now at) }
 {
     let a = octets::get_u64(s, at);
     if a != g.hi {
@@ -167,8 +167,8 @@ fn is_behind(s: &[u8], at: usize, g: Guid) -> bool
 // Whether the writers of the record stand behind the span or before it: its first and its last tell, as they rise. Of most
 // records no other bytes are read.
 pub fn set_apart(s: &[u8], w: Span) -> bool
-    requires { ⌜ Formed (now s) ⌝ }
-    ensures { λ r. ⌜ (r ≡ true → AllOutside w (writersIn (instanceOf (now (s .entry)) .state))) ⌝ }
+    requires { Formed s.now }
+    ensures { result ≡ true → AllOutside w (writers_in (instance_of s.now).state) }
 {
     let high = w.high;
     if is_behind(s, 256, high) {
@@ -184,8 +184,8 @@ pub fn set_apart(s: &[u8], w: Span) -> bool
 
 // Whether the owner's GUID stands before the span or behind it, with an owner or without.
 pub fn owner_apart(s: &[u8], w: Span) -> bool
-    requires { ⌜ length (now s) ≡ 512 ⌝ }
-    ensures { λ r. ⌜ (r ≡ true → Outside w (instanceOf (now (s .entry)) .state .owner .guid)) ⌝ }
+    requires { length s.now ≡ 512 }
+    ensures { result ≡ true → Outside w (instance_of s.now).state.owner.guid }
 {
     let low = w.low;
     if is_before(s, 92, low) {

@@ -5,32 +5,24 @@
 // Derives from instance_tracker.rs of ZeroDDS.
 // Copyright 2026 ZeroDDS Contributors. SPDX-License-Identifier: Apache-2.0. Changed: written anew in Rattle; an instance is
 // a value that goes in and comes back, and its writers are a set of fixed size.
-use instance_fields::always;
-use instance_fields::if_present;
-use model::Guid;
-use model::Holder;
-use model::Instance;
-use model::InstanceCall;
-use model::InstanceHandle;
-use model::InstanceState;
-use model::InstanceStateKind;
-use model::Life;
-use model::MaybeOwner;
-use model::MaybeTime;
-use model::Sheet;
-use model::Times;
-use model::WriterSet;
-ghost use mathlib.Core.Bool.{true, false};
-ghost use mathlib.Core.Option.{some};
-ghost use mathlib.Core.Path.{_≡_};
-ghost use Rattle·model.specs.Instances.{effect, rule, onEvery, startedState, started};
-ghost use Rattle·instance_fields.specs.Usable.{Usable, Room};
+#![tactic(auto)]
+
+ghost use Rattle.std.specs.Prelude.{true, false, ◌≡◌};
+ghost use Rattle.std.proofs.Math.Option.{some};
+ghost use Rattle.model.specs.Instances.{effect, rule, on_every, started_state, started};
+ghost use Rattle.instance_fields.specs.Usable.{Usable, Room};
+
+use instance_fields::{always, if_present};
+use model::{
+    Guid, Holder, Instance, InstanceCall, InstanceHandle, InstanceState, InstanceStateKind, Life,
+    MaybeOwner, MaybeTime, Sheet, Times, WriterSet,
+};
 
 // ---- a started instance
 
 // Alive, view-new, all else zero or absent.
 pub fn started_state() -> InstanceState
-    ensures { λ r. ⌜ r ≡ startedState ⌝ }
+    ensures { result ≡ started_state }
 {
     let no = MaybeTime {
         present: false,
@@ -74,7 +66,7 @@ pub fn started_state() -> InstanceState
 
 // The instance of a key with its handle, as a call starts it.
 pub fn started(key: Guid, handle: u64) -> Instance
-    ensures { λ r. ⌜ r ≡ started key handle ⌝ }
+    ensures { result ≡ started key handle }
 {
     let x = started_state();
     Instance {
@@ -88,8 +80,8 @@ pub fn started(key: Guid, handle: u64) -> Instance
 
 // What a call that reaches one instance leaves of it. A call on every instance does not come here.
 pub fn take_effect(c: InstanceCall, s: Sheet, x: InstanceState) -> InstanceState
-    requires { ⌜ (onEvery c ≡ false) × Usable x × (rule c .«adds_writer» ≡ true → Room (s .guid) x) ⌝ }
-    ensures { λ r. ⌜ effect c s x ≡ some r ⌝ }
+    requires { (on_every c ≡ false) × Usable x × ((rule c).adds_writer ≡ true → Room s.guid x) }
+    ensures { effect c s x ≡ some result }
 {
     let g = s.guid;
     let t = s.time_1;

@@ -4,29 +4,24 @@
 // Derives from instance_tracker.rs of ZeroDDS.
 // Copyright 2026 ZeroDDS Contributors. SPDX-License-Identifier: Apache-2.0. Changed: written anew in Rattle, with the
 // instance as bytes of a fixed layout.
-use model::Guid;
-use model::Instance;
-use model::InstanceState;
-use model::InstanceStateKind;
-use model::Life;
-use model::MaybeTime;
-use model::Times;
-ghost use mathlib.Core.Path.{_≡_};
-ghost use Prim.Native.Nat.{_+_, _*_, _≤_, _<_};
-ghost use lib.ListN.{length};
-ghost use lib.Seq.{paste};
-ghost use Rattle·octets.specs.Octets.{put};
-ghost use Rattle·octets.specs.Fields.{puts};
-ghost use Rattle·octets.specs.Patch.{patch};
-ghost use Rattle·model.specs.Guids.{guidsBytes};
-ghost use Rattle·model.specs.InstanceRecord.{bit, kindNumber, instanceBytes, instanceWidths, instanceValues, flagsOf};
-ghost use Rattle·instance_encoding·specs.specs.Parts.{lifeWidths, lifeValues, timesWidths, timesValues};
+#![tactic(auto)]
+
+ghost use Rattle.std.specs.Prelude.{◌≡◌, ◌+◌, ◌*◌, ◌≤◌, ◌<◌, length};
+ghost use Rattle.std.proofs.Math.Seq.{paste};
+ghost use Rattle.octets.specs.Octets.{put};
+ghost use Rattle.octets.specs.Fields.{puts};
+ghost use Rattle.octets.specs.Patch.{patch};
+ghost use Rattle.model.specs.Guids.{guids_bytes};
+ghost use Rattle.model.specs.InstanceRecord.{bit, kind_number, instance_bytes, instance_widths, instance_values, flags_of};
+ghost use Rattle.instance_encoding.specs.Parts.{life_widths, life_values, times_widths, times_values};
+
+use model::{Guid, Instance, InstanceState, InstanceStateKind, Life, MaybeTime, Times};
 
 // ---- one record
 
 // The number of a kind.
 fn kind_number(k: InstanceStateKind) -> u32
-    ensures { λ r. ⌜ (r ≡ kindNumber k) × (r < 3) ⌝ }
+    ensures { (result ≡ kind_number k) × (result < 3) }
 {
     match k {
         InstanceStateKind::Alive => 0,
@@ -37,16 +32,16 @@ fn kind_number(k: InstanceStateKind) -> u32
 
 // One bit more.
 fn push(acc: u32, b: bool) -> u32
-    requires { ⌜ acc < 65536 ⌝ }
-    ensures { λ r. ⌜ (r ≡ acc * 2 + bit b) × (r < acc * 2 + 2) ⌝ }
+    requires { acc < 65536 }
+    ensures { (result ≡ acc * 2 + bit b) × (result < acc * 2 + 2) }
 {
     if b { acc * 2 + 1 } else { acc * 2 }
 }
 
 // The 16 bits of the flags.
 fn flags_of(x: InstanceState) -> u16
-    requires { ⌜ x .writers .len < 32 ⌝ }
-    ensures { λ r. ⌜ r ≡ flagsOf x ⌝ }
+    requires { x.writers.len < 32 }
+    ensures { result ≡ flags_of x }
 {
     let l = x.life;
     let k = l.kind;
@@ -65,8 +60,8 @@ fn flags_of(x: InstanceState) -> u16
 
 // The 8 bytes of a time are written from at.
 fn write_time(s: &mut [u8], at: usize, m: MaybeTime)
-    requires { ⌜ at + 8 ≤ length (now s) ⌝ }
-    ensures { λ _. ⌜ now (s .exit) ≡ put 4 (put 4 (now (s .entry)) at (m .sec)) (at + 4) (m .nanosec) ⌝ }
+    requires { at + 8 ≤ length s.old }
+    ensures { s.new ≡ put 4 (put 4 s.old at m.sec) (at + 4) m.nanosec }
 {
     octets::put_u32(s, at, m.sec);
     octets::put_u32(s, at + 4, m.nanosec);
@@ -74,8 +69,8 @@ fn write_time(s: &mut [u8], at: usize, m: MaybeTime)
 
 // The flags, the holder's length and the counts are written.
 fn write_life(s: &mut [u8], f: u16, n: u16, l: Life)
-    requires { ⌜ length (now s) ≡ 512 ⌝ }
-    ensures { λ _. ⌜ now (s .exit) ≡ puts lifeWidths (lifeValues f n l) (now (s .entry)) 0 24 ⌝ }
+    requires { length s.old ≡ 512 }
+    ensures { s.new ≡ puts life_widths (life_values f n l) s.old 0 24 }
 {
     octets::put_u16(s, 24, f);
     octets::put_u16(s, 26, n);
@@ -87,8 +82,8 @@ fn write_life(s: &mut [u8], f: u16, n: u16, l: Life)
 
 // The six times are written.
 fn write_times(s: &mut [u8], m: Times)
-    requires { ⌜ length (now s) ≡ 512 ⌝ }
-    ensures { λ _. ⌜ now (s .exit) ≡ puts timesWidths (timesValues m) (now (s .entry)) 0 44 ⌝ }
+    requires { length s.old ≡ 512 }
+    ensures { s.new ≡ puts times_widths (times_values m) s.old 0 44 }
 {
     let a = m.last_sample;
     let b = m.last_delivered;
@@ -106,8 +101,8 @@ fn write_times(s: &mut [u8], m: Times)
 
 // The fields before the holder are written; f are the flags.
 fn write_fields(s: &mut [u8], f: u16, x: Instance)
-    requires { ⌜ (length (now s) ≡ 512) × (f ≡ flagsOf (x .state)) ⌝ }
-    ensures { λ _. ⌜ now (s .exit) ≡ puts instanceWidths (instanceValues x) (now (s .entry)) 0 0 ⌝ }
+    requires { (length s.old ≡ 512) × (f ≡ flags_of x.state) }
+    ensures { s.new ≡ puts instance_widths (instance_values x) s.old 0 0 }
 {
     let key = x.key;
     let y = x.state;
@@ -125,8 +120,8 @@ fn write_fields(s: &mut [u8], f: u16, x: Instance)
 
 // The 16 GUIDs of the writer set are written.
 fn write_guids(s: &mut [u8], gs: [Guid; 16])
-    requires { ⌜ length (now s) ≡ 512 ⌝ }
-    ensures { λ _. ⌜ now (s .exit) ≡ patch (now (s .entry)) 256 256 (guidsBytes gs) ⌝ }
+    requires { length s.old ≡ 512 }
+    ensures { s.new ≡ patch s.old 256 256 (guids_bytes gs) }
 {
     let mut i: usize = 0;
     while i < 16 {
@@ -138,17 +133,17 @@ fn write_guids(s: &mut [u8], gs: [Guid; 16])
 
 // The bytes of the holder are written; there are 144.
 fn write_holder(s: &mut [u8], bytes: [u8; 144])
-    requires { ⌜ length (now s) ≡ 512 ⌝ }
-    ensures written { λ _. ⌜ now (s .exit) ≡ paste (now (s .entry)) 112 bytes 144 ⌝ }
-    ensures size { λ _. ⌜ length bytes ≡ 144 ⌝ }
+    requires { length s.old ≡ 512 }
+    ensures written { s.new ≡ paste s.old 112 bytes 144 }
+    ensures size { length bytes ≡ 144 }
 {
     octets::copy(&bytes, 0, s, 112, 144);
 }
 
 // The whole instance is written.
 pub fn write_instance(s: &mut [u8], x: Instance)
-    requires { ⌜ (length (now s) ≡ 512) × (x .state .writers .len < 32) ⌝ }
-    ensures { λ _. ⌜ now (s .exit) ≡ instanceBytes x ⌝ }
+    requires { (length s.old ≡ 512) × (x.state.writers.len < 32) }
+    ensures { s.new ≡ instance_bytes x }
 {
     let y = x.state;
     let holder = y.holder;
@@ -165,8 +160,8 @@ pub fn write_instance(s: &mut [u8], x: Instance)
 
 // Instance i becomes x.
 pub fn put_instance(t: &mut [u8], i: usize, x: Instance)
-    requires { ⌜ (i * 512 + 512 ≤ length (now t)) × (x .state .writers .len < 32) ⌝ }
-    ensures { λ _. ⌜ now (t .exit) ≡ patch (now (t .entry)) (i * 512) 512 (instanceBytes x) ⌝ }
+    requires { (i * 512 + 512 ≤ length t.old) × (x.state.writers.len < 32) }
+    ensures { t.new ≡ patch t.old (i * 512) 512 (instance_bytes x) }
 {
     let o = i * 512;
     let e = o + 512;

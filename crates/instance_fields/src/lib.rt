@@ -4,27 +4,23 @@
 // Derives from instance_tracker.rs of ZeroDDS.
 // Copyright 2026 ZeroDDS Contributors. SPDX-License-Identifier: Apache-2.0. Changed: written anew in Rattle; an instance is
 // a value that goes in and comes back, and its writers are a set of fixed size.
-use model::Guid;
-use model::Holder;
-use model::InstanceState;
-use model::InstanceStateKind;
-use model::Life;
-use model::MaybeOwner;
-use model::MaybeTime;
-use model::Times;
-use model::WriterSet;
-ghost use mathlib.Core.Bool.{cond};
-ghost use mathlib.Core.Path.{_≡_};
-ghost use Rattle·model.specs.Instances.{withLife, withTimes, withOwner, withHolder, withWriters, withKind, withView, withGenerations, withWriterCount, withSamples, withLastSample, withDelivery, withDisposedAt, withNoWritersAt, withOwnerAt, isAlive, isDisposed, revived, revivedNew, sampledAt, stored, writerNoted};
-ghost use Rattle·model.specs.Times.{always, ifPresent, given};
-ghost use Rattle·writer_set.specs.Places.{Sound};
-ghost use Rattle·instance_fields·specs.specs.Usable.{UsableLife, Room};
+#![tactic(auto)]
+
+ghost use Rattle.std.specs.Prelude.{cond, ◌≡◌};
+ghost use Rattle.model.specs.Instances.{with_life, with_times, with_owner, with_holder, with_writers, with_kind, with_view, with_generations, with_writer_count, with_samples, with_last_sample, with_delivery, with_disposed_at, with_no_writers_at, with_owner_at, is_alive, is_disposed, revived, revived_new, sampled_at, stored, writer_noted};
+ghost use Rattle.model.specs.Times.{always, if_present, given};
+ghost use Rattle.writer_set.specs.Places.{Sound};
+ghost use Rattle.instance_fields.specs.Usable.{UsableLife, Room};
+
+use model::{
+    Guid, Holder, InstanceState, InstanceStateKind, Life, MaybeOwner, MaybeTime, Times, WriterSet,
+};
 
 // ---- an instance with one group of its fields changed
 
 // x with another life.
 pub fn with_life(l: Life, x: InstanceState) -> InstanceState
-    ensures { λ r. ⌜ r ≡ withLife l x ⌝ }
+    ensures { result ≡ with_life l x }
 {
     let mut r = x;
     r.life = l;
@@ -33,7 +29,7 @@ pub fn with_life(l: Life, x: InstanceState) -> InstanceState
 
 // x with other times.
 pub fn with_times(t: Times, x: InstanceState) -> InstanceState
-    ensures { λ r. ⌜ r ≡ withTimes t x ⌝ }
+    ensures { result ≡ with_times t x }
 {
     let mut r = x;
     r.times = t;
@@ -42,7 +38,7 @@ pub fn with_times(t: Times, x: InstanceState) -> InstanceState
 
 // x with another owner.
 pub fn with_owner(o: MaybeOwner, x: InstanceState) -> InstanceState
-    ensures { λ r. ⌜ r ≡ withOwner o x ⌝ }
+    ensures { result ≡ with_owner o x }
 {
     let mut r = x;
     r.owner = o;
@@ -51,7 +47,7 @@ pub fn with_owner(o: MaybeOwner, x: InstanceState) -> InstanceState
 
 // x with another holder.
 pub fn with_holder(h: Holder, x: InstanceState) -> InstanceState
-    ensures { λ r. ⌜ r ≡ withHolder h x ⌝ }
+    ensures { result ≡ with_holder h x }
 {
     let mut r = x;
     r.holder = h;
@@ -60,7 +56,7 @@ pub fn with_holder(h: Holder, x: InstanceState) -> InstanceState
 
 // x with other writers.
 pub fn with_writers(w: WriterSet, x: InstanceState) -> InstanceState
-    ensures { λ r. ⌜ r ≡ withWriters w x ⌝ }
+    ensures { result ≡ with_writers w x }
 {
     let mut r = x;
     r.writers = w;
@@ -69,7 +65,7 @@ pub fn with_writers(w: WriterSet, x: InstanceState) -> InstanceState
 
 // l with another kind.
 pub fn with_kind(k: InstanceStateKind, l: Life) -> Life
-    ensures { λ r. ⌜ r ≡ withKind k l ⌝ }
+    ensures { result ≡ with_kind k l }
 {
     Life {
         kind: k,
@@ -83,7 +79,7 @@ pub fn with_kind(k: InstanceStateKind, l: Life) -> Life
 
 // l with view-new set or cleared.
 pub fn with_view(v: bool, l: Life) -> Life
-    ensures { λ r. ⌜ r ≡ withView v l ⌝ }
+    ensures { result ≡ with_view v l }
 {
     let mut r = l;
     r.view_new = v;
@@ -92,7 +88,7 @@ pub fn with_view(v: bool, l: Life) -> Life
 
 // l with other generations.
 pub fn with_generations(disposed: u32, no_writers: u32, l: Life) -> Life
-    ensures { λ r. ⌜ r ≡ withGenerations disposed «no_writers» l ⌝ }
+    ensures { result ≡ with_generations disposed no_writers l }
 {
     let mut r = l;
     r.disposed_generations = disposed;
@@ -102,7 +98,7 @@ pub fn with_generations(disposed: u32, no_writers: u32, l: Life) -> Life
 
 // l with another count of writers.
 pub fn with_writer_count(n: u32, l: Life) -> Life
-    ensures { λ r. ⌜ r ≡ withWriterCount n l ⌝ }
+    ensures { result ≡ with_writer_count n l }
 {
     let mut r = l;
     r.writer_count = n;
@@ -111,7 +107,7 @@ pub fn with_writer_count(n: u32, l: Life) -> Life
 
 // l with another count of samples.
 pub fn with_samples(n: u32, l: Life) -> Life
-    ensures { λ r. ⌜ r ≡ withSamples n l ⌝ }
+    ensures { result ≡ with_samples n l }
 {
     let mut r = l;
     r.samples = n;
@@ -120,7 +116,7 @@ pub fn with_samples(n: u32, l: Life) -> Life
 
 // t with another time of the last sample.
 pub fn with_last_sample(at: MaybeTime, t: Times) -> Times
-    ensures { λ r. ⌜ r ≡ withLastSample at t ⌝ }
+    ensures { result ≡ with_last_sample at t }
 {
     let mut r = t;
     r.last_sample = at;
@@ -129,7 +125,7 @@ pub fn with_last_sample(at: MaybeTime, t: Times) -> Times
 
 // t with other times of the last delivery, for the order and for the filter.
 pub fn with_delivery(delivered: MaybeTime, filtered: MaybeTime, t: Times) -> Times
-    ensures { λ r. ⌜ r ≡ withDelivery delivered filtered t ⌝ }
+    ensures { result ≡ with_delivery delivered filtered t }
 {
     let mut r = t;
     r.last_delivered = delivered;
@@ -139,7 +135,7 @@ pub fn with_delivery(delivered: MaybeTime, filtered: MaybeTime, t: Times) -> Tim
 
 // t with another time of disposal.
 pub fn with_disposed_at(at: MaybeTime, t: Times) -> Times
-    ensures { λ r. ⌜ r ≡ withDisposedAt at t ⌝ }
+    ensures { result ≡ with_disposed_at at t }
 {
     let mut r = t;
     r.disposed_at = at;
@@ -148,7 +144,7 @@ pub fn with_disposed_at(at: MaybeTime, t: Times) -> Times
 
 // t with another time at which the last writer was gone.
 pub fn with_no_writers_at(at: MaybeTime, t: Times) -> Times
-    ensures { λ r. ⌜ r ≡ withNoWritersAt at t ⌝ }
+    ensures { result ≡ with_no_writers_at at t }
 {
     let mut r = t;
     r.no_writers_at = at;
@@ -157,7 +153,7 @@ pub fn with_no_writers_at(at: MaybeTime, t: Times) -> Times
 
 // t with another time of the owner's last sample.
 pub fn with_owner_at(at: MaybeTime, t: Times) -> Times
-    ensures { λ r. ⌜ r ≡ withOwnerAt at t ⌝ }
+    ensures { result ≡ with_owner_at at t }
 {
     let mut r = t;
     r.owner_at = at;
@@ -168,14 +164,14 @@ pub fn with_owner_at(at: MaybeTime, t: Times) -> Times
 
 // A given time, else what was there.
 pub fn given_time(new: MaybeTime, old: MaybeTime) -> MaybeTime
-    ensures { λ r. ⌜ r ≡ given new old ⌝ }
+    ensures { result ≡ given new old }
 {
     if new.present { new } else { old }
 }
 
 // The time that a call takes where its presence bit is set.
 pub fn if_present(t: MaybeTime) -> MaybeTime
-    ensures { λ r. ⌜ r ≡ ifPresent t ⌝ }
+    ensures { result ≡ if_present t }
 {
     if t.present {
         return t;
@@ -189,7 +185,7 @@ pub fn if_present(t: MaybeTime) -> MaybeTime
 
 // The time that a call takes in any case.
 pub fn always(t: MaybeTime) -> MaybeTime
-    ensures { λ r. ⌜ r ≡ always t ⌝ }
+    ensures { result ≡ always t }
 {
     let mut r = t;
     r.present = true;
@@ -198,14 +194,14 @@ pub fn always(t: MaybeTime) -> MaybeTime
 
 // A given holder, else the other.
 pub fn given_holder(h: Holder, other: Holder) -> Holder
-    ensures { λ r. ⌜ r ≡ cond (h .present) h other ⌝ }
+    ensures { result ≡ cond h.present h other }
 {
     if h.present { h } else { other }
 }
 
 // The sheet's holder, given.
 pub fn stored(h: Holder) -> Holder
-    ensures { λ r. ⌜ r ≡ stored h ⌝ }
+    ensures { result ≡ stored h }
 {
     let mut r = h;
     r.present = true;
@@ -216,7 +212,7 @@ pub fn stored(h: Holder) -> Holder
 
 // Whether the kind is alive.
 pub fn is_alive(k: InstanceStateKind) -> bool
-    ensures { λ r. ⌜ r ≡ isAlive k ⌝ }
+    ensures { result ≡ is_alive k }
 {
     match k {
         InstanceStateKind::Alive => true,
@@ -227,7 +223,7 @@ pub fn is_alive(k: InstanceStateKind) -> bool
 
 // Whether the kind is disposed.
 pub fn is_disposed(k: InstanceStateKind) -> bool
-    ensures { λ r. ⌜ r ≡ isDisposed k ⌝ }
+    ensures { result ≡ is_disposed k }
 {
     match k {
         InstanceStateKind::Alive => false,
@@ -240,8 +236,8 @@ pub fn is_disposed(k: InstanceStateKind) -> bool
 
 // Alive again, and one more in the matching generation (DDS 1.4, 2.2.2.5.1.5); an alive instance stays as it is.
 pub fn revived(l: Life) -> Life
-    requires { ⌜ UsableLife l ⌝ }
-    ensures { λ r. ⌜ r ≡ revived l ⌝ }
+    requires { UsableLife l }
+    ensures { result ≡ revived l }
 {
     let k = l.kind;
     let disposed = l.disposed_generations;
@@ -261,8 +257,8 @@ pub fn revived(l: Life) -> Life
 
 // Revived, with view-new set where it was not alive.
 pub fn revived_new(l: Life) -> Life
-    requires { ⌜ UsableLife l ⌝ }
-    ensures { λ r. ⌜ r ≡ revivedNew l ⌝ }
+    requires { UsableLife l }
+    ensures { result ≡ revived_new l }
 {
     let k = l.kind;
     let v = l.view_new;
@@ -275,7 +271,7 @@ pub fn revived_new(l: Life) -> Life
 
 // A given time goes to last sample.
 pub fn sampled_at(at: MaybeTime, x: InstanceState) -> InstanceState
-    ensures { λ r. ⌜ r ≡ sampledAt at x ⌝ }
+    ensures { result ≡ sampled_at at x }
 {
     let t = x.times;
     let old = t.last_sample;
@@ -284,8 +280,8 @@ pub fn sampled_at(at: MaybeTime, x: InstanceState) -> InstanceState
 
 // A writer is noted as one of the instance's: code 6, and a part of code 10.
 pub fn writer_noted(g: Guid, x: InstanceState) -> InstanceState
-    requires { ⌜ Sound (x .writers) × Room g x ⌝ }
-    ensures { λ r. ⌜ r ≡ writerNoted g x ⌝ }
+    requires { Sound x.writers × Room g x }
+    ensures { result ≡ writer_noted g x }
 {
     let w = x.writers;
     with_writers(writer_set::with_writer(w, g), x)

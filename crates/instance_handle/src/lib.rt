@@ -3,29 +3,30 @@
 // Derives from instance_handle.rs of ZeroDDS.
 // Copyright 2026 ZeroDDS Contributors. SPDX-License-Identifier: Apache-2.0. Changed: written anew in Rattle, with the
 // counter as a plain number; the hash is over a slice of any length.
-ghost use mathlib.Core.Path.{_≡_};
-ghost use Rattle·model.specs.Handles.{handle, notNil, allocated, fnvStep, fnv, fromGuid};
-use model::Allocated;
-use model::Guid;
-use model::InstanceHandle;
+#![tactic(auto)]
+
+ghost use Rattle.std.specs.Prelude.{◌≡◌};
+ghost use Rattle.model.specs.Handles.{handle, not_nil, allocated, fnv_step, fnv, from_guid};
+
+use model::{Allocated, Guid, InstanceHandle};
 
 // The reserved "no handle" (DDS 1.4, 2.3.3).
 pub fn nil() -> InstanceHandle
-    ensures { λ r. ⌜ r ≡ handle 0 ⌝ }
+    ensures { result ≡ handle 0 }
 {
     InstanceHandle(0)
 }
 
 // n, with 0, which is nil, replaced by 1.
 fn not_nil(n: u64) -> u64
-    ensures { λ r. ⌜ r ≡ notNil n ⌝ }
+    ensures { result ≡ not_nil n }
 {
     if n == 0 { 1 } else { n }
 }
 
 // The allocator's step: nil is skipped.
 pub fn allocate_step(counter: u64) -> Allocated
-    ensures { λ r. ⌜ r ≡ allocated counter ⌝ }
+    ensures { result ≡ allocated counter }
 {
     let given = not_nil(counter);
     let next = numbers::wrapping_add_u64(given, 1);
@@ -37,14 +38,14 @@ pub fn allocate_step(counter: u64) -> Allocated
 
 // One byte more of 64-bit FNV-1a: xor, then times the prime.
 fn fnv_step(hash: u64, byte: u8) -> u64
-    ensures { λ r. ⌜ r ≡ fnvStep hash byte ⌝ }
+    ensures { result ≡ fnv_step hash byte }
 {
     numbers::wrapping_mul_u64(byte as u64 ^ hash, 0x100_0000_01b3)
 }
 
 // 64-bit FNV-1a of the bytes.
 pub fn fnv_1a(bytes: &[u8]) -> u64
-    ensures { λ r. ⌜ r ≡ fnv (now (bytes .entry)) ⌝ }
+    ensures { result ≡ fnv bytes.now }
 {
     let mut hash: u64 = 0xcbf2_9ce4_8422_2325;
     let mut i = 0;
@@ -57,7 +58,7 @@ pub fn fnv_1a(bytes: &[u8]) -> u64
 
 // The handle of a GUID, as the ignore and discovery calls take it: never nil.
 pub fn from_guid(g: Guid) -> InstanceHandle
-    ensures { λ r. ⌜ r ≡ fromGuid g ⌝ }
+    ensures { result ≡ from_guid g }
 {
     let mut bytes = [0u8; 16];
     guid::put_guid(&mut bytes, 0, g);

@@ -4,42 +4,26 @@
 // Derives from instance_tracker.rs of ZeroDDS.
 // Copyright 2026 ZeroDDS Contributors. SPDX-License-Identifier: Apache-2.0. Changed: written anew in Rattle; an instance is
 // a value that goes in and comes back, and its writers are a set of fixed size.
-use instance_fields::given_time;
-use instance_fields::if_present;
-use instance_fields::is_alive;
-use instance_fields::is_disposed;
-use instance_fields::revived;
-use instance_fields::revived_new;
-use instance_fields::sampled_at;
-use instance_fields::stored;
-use instance_fields::with_disposed_at;
-use instance_fields::with_holder;
-use instance_fields::with_kind;
-use instance_fields::with_life;
-use instance_fields::with_no_writers_at;
-use instance_fields::with_times;
-use instance_fields::with_writer_count;
-use instance_fields::with_writers;
-use model::Guid;
-use model::InstanceState;
-use model::InstanceStateKind;
-use model::Life;
-use model::MaybeTime;
-use model::Sheet;
-ghost use mathlib.Core.Bool.{not, _&&_};
-ghost use mathlib.Core.Path.{_≡_};
-ghost use lib.Dec.{eqb};
-ghost use Prim.Native.Nat.{_-_, max};
-ghost use Rattle·model.specs.Instances.{isAlive, isDisposed, writerless, writersIn, countedDown, without, registered, ensured, disposed, unregistered, writerUnregistered};
-ghost use Rattle·model.specs.Sets.{isEmpty};
-ghost use Rattle·writer_set.specs.Places.{Sound};
-ghost use Rattle·instance_fields.specs.Usable.{UsableLife};
+#![tactic(auto)]
+
+ghost use Rattle.std.specs.Prelude.{not, ◌&&◌, ◌≡◌, eqb, ◌-◌, max};
+ghost use Rattle.model.specs.Instances.{is_alive, is_disposed, writerless, writers_in, counted_down, without, registered, ensured, disposed, unregistered, writer_unregistered};
+ghost use Rattle.model.specs.Sets.{is_empty};
+ghost use Rattle.writer_set.specs.Places.{Sound};
+ghost use Rattle.instance_fields.specs.Usable.{UsableLife};
+
+use instance_fields::{
+    given_time, if_present, is_alive, is_disposed, revived, revived_new, sampled_at, stored,
+    with_disposed_at, with_holder, with_kind, with_life, with_no_writers_at, with_times,
+    with_writer_count, with_writers,
+};
+use model::{Guid, InstanceState, InstanceStateKind, Life, MaybeTime, Sheet};
 
 // ---- the parts of which the calls are made
 
 // No writers are left: the kind, and a given time.
 fn writerless(at: MaybeTime, x: InstanceState) -> InstanceState
-    ensures { λ r. ⌜ r ≡ writerless at x ⌝ }
+    ensures { result ≡ writerless at x }
 {
     let l = x.life;
     let t = x.times;
@@ -50,7 +34,7 @@ fn writerless(at: MaybeTime, x: InstanceState) -> InstanceState
 
 // One writer fewer is counted, stopping at 0.
 fn counted_down(x: InstanceState) -> InstanceState
-    ensures { λ r. ⌜ r ≡ countedDown x ⌝ }
+    ensures { result ≡ counted_down x }
 {
     let l = x.life;
     let n = numbers::saturating_sub_u32(l.writer_count, 1);
@@ -59,8 +43,8 @@ fn counted_down(x: InstanceState) -> InstanceState
 
 // The GUID taken out of the writers.
 fn without(g: Guid, x: InstanceState) -> InstanceState
-    requires { ⌜ Sound (x .writers) ⌝ }
-    ensures { λ r. ⌜ r ≡ without g x ⌝ }
+    requires { Sound x.writers }
+    ensures { result ≡ without g x }
 {
     let w = x.writers;
     with_writers(writer_set::without_writer(w, g), x)
@@ -70,8 +54,8 @@ fn without(g: Guid, x: InstanceState) -> InstanceState
 
 // A writer registers the instance (DDS 1.4, 2.2.2.4.2.5): its holder is stored, and one writer more is counted.
 pub fn registered(s: Sheet, x: InstanceState) -> InstanceState
-    requires { ⌜ UsableLife (x .life) ⌝ }
-    ensures { λ r. ⌜ r ≡ registered s x ⌝ }
+    requires { UsableLife x.life }
+    ensures { result ≡ registered s x }
 {
     let l = x.life;
     let h = s.holder;
@@ -84,15 +68,15 @@ pub fn registered(s: Sheet, x: InstanceState) -> InstanceState
 
 // n, and 1 at least.
 fn at_least_one(n: u32) -> u32
-    ensures { λ r. ⌜ r ≡ max n 1 ⌝ }
+    ensures { result ≡ max n 1 }
 {
     if n == 0 { 1 } else { n }
 }
 
 // A sample implies the registration: at least one writer is counted.
 pub fn ensured(x: InstanceState) -> InstanceState
-    requires { ⌜ UsableLife (x .life) ⌝ }
-    ensures { λ r. ⌜ r ≡ ensured x ⌝ }
+    requires { UsableLife x.life }
+    ensures { result ≡ ensured x }
 {
     let l = x.life;
     let n = at_least_one(l.writer_count);
@@ -103,7 +87,7 @@ pub fn ensured(x: InstanceState) -> InstanceState
 
 // A writer declares the instance not alive (DDS 1.4, 2.2.2.4.2.10).
 pub fn disposed(at: MaybeTime, x: InstanceState) -> InstanceState
-    ensures { λ r. ⌜ r ≡ disposed at x ⌝ }
+    ensures { result ≡ disposed at x }
 {
     let l = x.life;
     let t = x.times;
@@ -115,7 +99,7 @@ pub fn disposed(at: MaybeTime, x: InstanceState) -> InstanceState
 
 // The count of writers runs out on an instance that is not disposed: losing a writer does not undo a disposal.
 fn runs_out(l: Life) -> bool
-    ensures { λ r. ⌜ r ≡ (eqb (l .«writer_count» - 1) 0 && not (isDisposed (l .kind))) ⌝ }
+    ensures { result ≡ (eqb (l.writer_count - 1) 0 && not (is_disposed l.kind)) }
 {
     let k = l.kind;
     let n = numbers::saturating_sub_u32(l.writer_count, 1);
@@ -127,7 +111,7 @@ fn runs_out(l: Life) -> bool
 
 // A counted writer unregisters (DDS 1.4, 2.2.2.4.2.7). The writer set stays as it is.
 pub fn unregistered(at: MaybeTime, x: InstanceState) -> InstanceState
-    ensures { λ r. ⌜ r ≡ unregistered at x ⌝ }
+    ensures { result ≡ unregistered at x }
 {
     let l = x.life;
     let y = counted_down(x);
@@ -139,8 +123,8 @@ pub fn unregistered(at: MaybeTime, x: InstanceState) -> InstanceState
 
 // An alive instance whose set is empty.
 fn is_writerless(x: InstanceState) -> bool
-    requires { ⌜ Sound (x .writers) ⌝ }
-    ensures { λ r. ⌜ r ≡ (isEmpty (writersIn x) && isAlive (x .life .kind)) ⌝ }
+    requires { Sound x.writers }
+    ensures { result ≡ (is_empty (writers_in x) && is_alive x.life.kind) }
 {
     let w = x.writers;
     let l = x.life;
@@ -153,8 +137,8 @@ fn is_writerless(x: InstanceState) -> bool
 
 // A writer named by its GUID unregisters; a disposed instance loses it too, and stays disposed.
 pub fn writer_unregistered(g: Guid, at: MaybeTime, x: InstanceState) -> InstanceState
-    requires { ⌜ Sound (x .writers) ⌝ }
-    ensures { λ r. ⌜ r ≡ writerUnregistered g at x ⌝ }
+    requires { Sound x.writers }
+    ensures { result ≡ writer_unregistered g at x }
 {
     let rest = without(g, x);
     if is_writerless(rest) {

@@ -4,19 +4,21 @@
 // Derives from instance_tracker.rs of ZeroDDS.
 // Copyright 2026 ZeroDDS Contributors. SPDX-License-Identifier: Apache-2.0. Changed: written anew in Rattle, over records in
 // lent bytes, and for several writers at once.
+#![tactic(auto)]
+
+ghost use Rattle.std.specs.Prelude.{true, ◌&&◌, ◌≡◌, length};
+ghost use Rattle.octets.specs.Lay.{All};
+ghost use Rattle.model.specs.InstanceRecord.{flag, flags_at, instance_of, instance_bytes};
+ghost use Rattle.writer_set_bytes.specs.Lists.{gones_in, Listed};
+ghost use Rattle.instance_edits.specs.Edits.{changed, Formed};
+ghost use Rattle.instance_edits.specs.Losses.{emptied_by, dropped_of, owned_by};
+ghost use Rattle.instance_loss.specs.Lost.{Within, ClearedIf, lost_by, told_of};
+
 use instance_edits::Span;
 use model::MaybeTime;
-ghost use mathlib.Core.Bool.{true, _&&_};
-ghost use mathlib.Core.Path.{_≡_};
-ghost use lib.ListN.{length};
-ghost use Rattle·octets.specs.Lay.{All};
-ghost use Rattle·model.specs.InstanceRecord.{flag, flagsAt, instanceOf, instanceBytes};
-ghost use Rattle·writer_set_bytes.specs.Lists.{gonesIn, Listed};
-ghost use Rattle·instance_edits.specs.Edits.{changed, Formed};
-ghost use Rattle·instance_edits.specs.Losses.{emptiedBy, droppedOf, ownedBy};
-ghost use Rattle·instance_loss·specs.specs.Lost.{Within, ClearedIf, lostBy, toldOf};
 
 // Whether the instance is left writerless, and whether its owner was cleared.
+#[derive(Clone, Copy)]
 pub struct Told {
     pub left: bool,
     pub cleared: bool,
@@ -26,9 +28,9 @@ pub struct Told {
 
 // The writers of the list are dropped from the set. Whether that leaves the instance writerless.
 fn drop_listed(s: &mut [u8], gone: &[u8], guesses: &[u8; 1024], at: MaybeTime) -> bool
-    requires { ⌜ Formed (now s) × Listed (now gone) ⌝ }
-    ensures { λ r. ⌜ (now (s .exit) ≡ instanceBytes (changed (droppedOf (gonesIn (now (gone .entry))) at) (instanceOf (now (s .entry)))))
-        × (r ≡ emptiedBy (gonesIn (now (gone .entry))) (instanceOf (now (s .entry)) .state)) ⌝ }
+    requires { Formed s.old × Listed gone.now }
+    ensures { (s.new ≡ instance_bytes (changed (dropped_of (gones_in gone.now) at) (instance_of s.old)))
+        × (result ≡ emptied_by (gones_in gone.now) (instance_of s.old).state) }
 {
     let n = (octets::get_u16(s, 24) % 32) as usize;
     let k = writer_set_bytes::keep_others(&mut s[256..512], n, gone, guesses);
@@ -37,9 +39,9 @@ fn drop_listed(s: &mut [u8], gone: &[u8], guesses: &[u8; 1024], at: MaybeTime) -
 
 // The same of a list within a span: a set apart from the span stays as it is.
 fn drop_within(s: &mut [u8], w: Span, gone: &[u8], guesses: &[u8; 1024], at: MaybeTime) -> bool
-    requires { ⌜ Formed (now s) × Listed (now gone) × All (Within w) (gonesIn (now gone)) ⌝ }
-    ensures { λ r. ⌜ (now (s .exit) ≡ instanceBytes (changed (droppedOf (gonesIn (now (gone .entry))) at) (instanceOf (now (s .entry)))))
-        × (r ≡ emptiedBy (gonesIn (now (gone .entry))) (instanceOf (now (s .entry)) .state)) ⌝ }
+    requires { Formed s.old × Listed gone.now × All (Within w) (gones_in gone.now) }
+    ensures { (s.new ≡ instance_bytes (changed (dropped_of (gones_in gone.now) at) (instance_of s.old)))
+        × (result ≡ emptied_by (gones_in gone.now) (instance_of s.old).state) }
 {
     if instance_edits::set_apart(s, w) {
         return false;
@@ -51,8 +53,8 @@ fn drop_within(s: &mut [u8], w: Span, gone: &[u8], guesses: &[u8; 1024], at: May
 
 // Whether the owner is to be cleared, as it is in the list, which is within a span.
 fn owner_goes(clears: bool, s: &[u8], w: Span, gone: &[u8], guesses: &[u8; 1024]) -> bool
-    requires { ⌜ (length (now s) ≡ 512) × Listed (now gone) × All (Within w) (gonesIn (now gone)) ⌝ }
-    ensures { λ r. ⌜ r ≡ (clears && ownedBy (gonesIn (now (gone .entry))) (instanceOf (now (s .entry)) .state .owner)) ⌝ }
+    requires { (length s.now ≡ 512) × Listed gone.now × All (Within w) (gones_in gone.now) }
+    ensures { result ≡ (clears && owned_by (gones_in gone.now) (instance_of s.now).state.owner) }
 {
     if !clears {
         return false;
@@ -65,8 +67,8 @@ fn owner_goes(clears: bool, s: &[u8], w: Span, gone: &[u8], guesses: &[u8; 1024]
 
 // The owner is cleared where it is to be.
 fn clear_if(s: &mut [u8], yes: bool)
-    requires { ⌜ (length (now s) ≡ 512) × (yes ≡ true → flag 128 (flagsAt (now s)) ≡ true) ⌝ }
-    ensures { λ _. ⌜ ClearedIf yes (now (s .entry)) (now (s .exit)) ⌝ }
+    requires { (length s.old ≡ 512) × (yes ≡ true → flag 128 (flags_at s.old) ≡ true) }
+    ensures { ClearedIf yes s.old s.new }
 {
     if yes {
         instance_edits::clear_owner(s);
@@ -84,9 +86,9 @@ pub fn lose(
     at: MaybeTime,
     clears: bool,
 ) -> Told
-    requires { ⌜ Formed (now s) × Listed (now gone) × All (Within w) (gonesIn (now gone)) ⌝ }
-    ensures { λ r. ⌜ (now (s .exit) ≡ instanceBytes (changed (lostBy clears (gonesIn (now (gone .entry))) at) (instanceOf (now (s .entry)))))
-        × (r ≡ toldOf clears (gonesIn (now (gone .entry))) (instanceOf (now (s .entry)) .state)) ⌝ }
+    requires { Formed s.old × Listed gone.now × All (Within w) (gones_in gone.now) }
+    ensures { (s.new ≡ instance_bytes (changed (lost_by clears (gones_in gone.now) at) (instance_of s.old)))
+        × (result ≡ told_of clears (gones_in gone.now) (instance_of s.old).state) }
 {
     let cleared = owner_goes(clears, s, w, gone, guesses);
     let left = drop_within(s, w, gone, guesses, at);

@@ -5,20 +5,17 @@
 // Derives from instance_tracker.rs of ZeroDDS.
 // Copyright 2026 ZeroDDS Contributors. SPDX-License-Identifier: Apache-2.0. Changed: written anew in Rattle; an instance is
 // a value that goes in and comes back.
-use instance_fields::always;
-use instance_fields::with_owner;
-use instance_fields::with_owner_at;
-use instance_fields::with_times;
-use model::Guid;
-use model::InstanceState;
-use model::MaybeOwner;
-use model::Sheet;
-ghost use mathlib.Core.Path.{_≡_};
-ghost use Rattle·model.specs.Instances.{withOwner, noOwner, owns, outbids, takesOver, ownedFrom, ownershipTried, ownerCleared};
+#![tactic(auto)]
+
+ghost use Rattle.std.specs.Prelude.{◌≡◌};
+ghost use Rattle.model.specs.Instances.{with_owner, no_owner, owns, outbids, takes_over, owned_from, ownership_tried, owner_cleared};
+
+use instance_fields::{always, with_owner, with_owner_at, with_times};
+use model::{Guid, InstanceState, MaybeOwner, Sheet};
 
 // Whether o is the writer's ownership.
 pub fn owns(g: Guid, o: MaybeOwner) -> bool
-    ensures { λ r. ⌜ r ≡ owns g o ⌝ }
+    ensures { result ≡ owns g o }
 {
     let og = o.guid;
     if o.present {
@@ -31,7 +28,7 @@ pub fn owns(g: Guid, o: MaybeOwner) -> bool
 // whatever strength it carries: one that lowered its strength would else be turned away by itself. On a tie the standard asks
 // only that all readers choose alike (2.2.3.9.2); the lower GUID is what other implementations take.
 pub fn outbids(g: Guid, strength: u32, o: MaybeOwner) -> bool
-    ensures { λ r. ⌜ r ≡ outbids g strength o ⌝ }
+    ensures { result ≡ outbids g strength o }
 {
     let og = o.guid;
     if !o.present {
@@ -54,7 +51,7 @@ pub fn outbids(g: Guid, strength: u32, o: MaybeOwner) -> bool
 // So does a missed deadline of the owner: one that is silent for the period it committed to gives the instance up, to a
 // weaker writer too (2.2.3.9.2).
 pub fn takes_over(s: Sheet, x: InstanceState) -> bool
-    ensures { λ r. ⌜ r ≡ takesOver s x ⌝ }
+    ensures { result ≡ takes_over s x }
 {
     let g = s.guid;
     let o = x.owner;
@@ -72,7 +69,7 @@ pub fn takes_over(s: Sheet, x: InstanceState) -> bool
 
 // The sheet's writer owns the instance, with the strength that this sample carries. Its deadline counts from time 2.
 pub fn owned_from(s: Sheet, x: InstanceState) -> InstanceState
-    ensures { λ r. ⌜ r ≡ ownedFrom s x ⌝ }
+    ensures { result ≡ owned_from s x }
 {
     let g = s.guid;
     let t = x.times;
@@ -88,7 +85,7 @@ pub fn owned_from(s: Sheet, x: InstanceState) -> InstanceState
 
 // A sample under exclusive ownership: its writer owns the instance where it takes over.
 pub fn ownership_tried(s: Sheet, x: InstanceState) -> InstanceState
-    ensures { λ r. ⌜ r ≡ ownershipTried s x ⌝ }
+    ensures { result ≡ ownership_tried s x }
 {
     if takes_over(s, x) {
         return owned_from(s, x);
@@ -99,7 +96,7 @@ pub fn ownership_tried(s: Sheet, x: InstanceState) -> InstanceState
 // The instance with no owner: the next sample of any writer takes it over. The time of the last owner stays, as in the original;
 // nothing asks for it until there is an owner again.
 fn unowned(x: InstanceState) -> InstanceState
-    ensures { λ r. ⌜ r ≡ withOwner noOwner x ⌝ }
+    ensures { result ≡ with_owner no_owner x }
 {
     let g = guid::nil();
     let o = MaybeOwner {
@@ -112,7 +109,7 @@ fn unowned(x: InstanceState) -> InstanceState
 
 // The writer's ownership is cleared: it unregistered the instance and gave it up (2.2.3.23.3).
 pub fn owner_cleared(g: Guid, x: InstanceState) -> InstanceState
-    ensures { λ r. ⌜ r ≡ ownerCleared g x ⌝ }
+    ensures { result ≡ owner_cleared g x }
 {
     let o = x.owner;
     if owns(g, o) {

@@ -5,40 +5,34 @@
 // Derives from instance_tracker.rs of ZeroDDS.
 // Copyright 2026 ZeroDDS Contributors. SPDX-License-Identifier: Apache-2.0. Changed: written anew in Rattle, with the
 // instances as a table of records in lent bytes and every such call as a step on each.
+#![tactic(auto)]
+
+ghost use Rattle.std.specs.Prelude.{true, cond, List, ◌≡◌, ℕ, ◌+◌, ◌*◌, ◌≤◌, ◌<◌, length};
+ghost use Rattle.octets.specs.Lay.{All};
+ghost use Rattle.octets.specs.Octets.{put};
+ghost use Rattle.octets.specs.Patch.{patch};
+ghost use Rattle.model.specs.declared.InstanceCall.TheVariants.{Autopurge, DropWriter, UpdateOwnerStrength};
+ghost use Rattle.model.specs.InstanceCalls.{instance_call};
+ghost use Rattle.model.specs.InstanceRecord.{bit, instance_of};
+ghost use Rattle.model.specs.Instances.{rule, on_every, purged, strength_updated};
+ghost use Rattle.model.specs.State.{instances_in};
+ghost use Rattle.instance_decoding.specs.Parts.{record_at};
+ghost use Rattle.writer_set_bytes.specs.Lists.{gones_in, Listed};
+ghost use Rattle.instance_edits.specs.Edits.{Formed};
+ghost use Rattle.instance_loss.specs.Lost.{Within};
+ghost use Rattle.instance_table.specs.TableCalls.{TableFormed, state_with};
+ghost use Rattle.instance_pass.specs.EveryCalls.{answer_as, LeavesTableAndOut};
+ghost use Rattle.instance_pass.specs.Passes.{Editable, Ahead, TookOne, EditedAt, Passed, with_told};
+ghost use Rattle.instance_pass.specs.Purges.{Delays, PurgedOne};
+ghost use Rattle.instance_pass.specs.Steps.{call_act, loss_act, loss_by, owns_as, cleared_as, owner_act};
+
 use instance_edits::Span;
 use instance_loss::Told;
 use instance_table::TableCall;
-use model::Answer;
-use model::Guid;
-use model::InstanceCall;
-use model::InstanceHandle;
-use model::MaybeTime;
-use model::Report;
-use model::Sheet;
-ghost use mathlib.Core.Bool.{true, cond};
-ghost use mathlib.Core.List.{List};
-ghost use mathlib.Core.Path.{_≡_};
-ghost use Prim.Native.Nat.{ℕ, _+_, _*_, _≤_, _<_};
-ghost use lib.ListN.{length};
-ghost use Rattle·octets.specs.Lay.{All};
-ghost use Rattle·octets.specs.Octets.{put};
-ghost use Rattle·octets.specs.Patch.{patch};
-ghost use Rattle·model.specs.declared.InstanceCall.the-variants.{Autopurge, DropWriter, UpdateOwnerStrength};
-ghost use Rattle·model.specs.InstanceCalls.{instanceCall};
-ghost use Rattle·model.specs.InstanceRecord.{bit, instanceOf};
-ghost use Rattle·model.specs.Instances.{rule, onEvery, purged, strengthUpdated};
-ghost use Rattle·model.specs.State.{instancesIn};
-ghost use Rattle·instance_decoding.specs.Parts.{recordAt};
-ghost use Rattle·writer_set_bytes.specs.Lists.{gonesIn, Listed};
-ghost use Rattle·instance_edits.specs.Edits.{Formed};
-ghost use Rattle·instance_loss.specs.Lost.{Within};
-ghost use Rattle·instance_table.specs.TableCalls.{TableFormed, stateWith};
-ghost use Rattle·instance_pass·specs.specs.EveryCalls.{answerAs, LeavesTableAndOut};
-ghost use Rattle·instance_pass·specs.specs.Passes.{Editable, Ahead, TookOne, EditedAt, Passed, withTold};
-ghost use Rattle·instance_pass·specs.specs.Purges.{Delays, PurgedOne};
-ghost use Rattle·instance_pass·specs.specs.Steps.{callAct, lossAct, lossBy, ownsAs, clearedAs, ownerAct};
+use model::{Answer, Guid, InstanceCall, InstanceHandle, MaybeTime, Report, Sheet};
 
 // How many instances stay and are listed, and what was counted.
+#[derive(Clone, Copy)]
 pub struct PassCounts {
     pub kept: usize,
     pub listed: usize,
@@ -47,7 +41,7 @@ pub struct PassCounts {
 
 // What a call reports of an instance.
 fn report_of(c: InstanceCall) -> Report
-    ensures { λ r. ⌜ r ≡ rule c .reports ⌝ }
+    ensures { result ≡ (rule c).reports }
 {
     let r = instance_rules::rule_of(c);
     let k = r.reports;
@@ -56,15 +50,15 @@ fn report_of(c: InstanceCall) -> Report
 
 // 1 for yes, 0 for no.
 fn one(yes: bool) -> usize
-    ensures { λ r. ⌜ r ≡ bit yes ⌝ }
+    ensures { result ≡ bit yes }
 {
     if yes { 1 } else { 0 }
 }
 
 // The handle h is noted behind l others.
 fn note(out: &mut [u8], l: usize, yes: bool, h: u64)
-    requires { ⌜ (l < 128) × (l * 8 + 8 ≤ length (now out)) ⌝ }
-    ensures { λ _. ⌜ now (out .exit) ≡ cond yes (put 8 (now (out .entry)) (l * 8) h) (now (out .entry)) ⌝ }
+    requires { (l < 128) × (l * 8 + 8 ≤ length out.old) }
+    ensures { out.new ≡ cond yes (put 8 out.old (l * 8) h) out.old }
 {
     if yes {
         octets::put_u64(out, l * 8, h);
@@ -75,8 +69,8 @@ fn note(out: &mut [u8], l: usize, yes: bool, h: u64)
 
 // From the first GUID of a list that rises to its last; of a list with none, any span.
 fn span_of(gone: &[u8]) -> Span
-    requires { ⌜ Listed (now gone) ⌝ }
-    ensures { λ r. ⌜ All (Within r) (gonesIn (now (gone .entry))) ⌝ }
+    requires { Listed gone.now }
+    ensures { All (Within result) (gones_in gone.now) }
 {
     let n = gone.len() / 16;
     if n == 0 {
@@ -93,8 +87,8 @@ fn span_of(gone: &[u8]) -> Span
 
 // The counts with one instance more, which stays.
 fn with_told(c: PassCounts, r: Told) -> PassCounts
-    requires { ⌜ (c .kept < 128) × (c .listed < 128) × (c .counted ≤ 32768) ⌝ }
-    ensures { λ t. ⌜ t ≡ withTold c r ⌝ }
+    requires { (c.kept < 128) × (c.listed < 128) × (c.counted ≤ 32768) }
+    ensures { result ≡ with_told c r }
 {
     let l = one(r.left);
     let n = one(r.cleared);
@@ -117,8 +111,8 @@ fn lose_at(
     at: MaybeTime,
     clears: bool,
 ) -> PassCounts
-    requires { ⌜ Ahead (now pens) (now out) i tally × Formed (recordAt (now pens) i) × Listed (now gone) × All (Within w) (gonesIn (now gone)) ⌝ }
-    ensures { λ r. ⌜ TookOne (lossBy clears (gonesIn (now (gone .entry))) at) (instanceOf (recordAt (now (pens .entry)) i)) (now (pens .entry)) (now (out .entry)) tally (now (pens .exit)) (now (out .exit)) r ⌝ }
+    requires { Ahead pens.old out.old i tally × Formed (record_at pens.old i) × Listed gone.now × All (Within w) (gones_in gone.now) }
+    ensures { TookOne (loss_by clears (gones_in gone.now) at) (instance_of (record_at pens.old i)) pens.old out.old tally pens.new out.new result }
 {
     let from = i * 512;
     let end = from + 512;
@@ -137,8 +131,8 @@ fn lose_every(
     at: MaybeTime,
     clears: bool,
 ) -> PassCounts
-    requires { ⌜ Editable count (now pens) × Listed (now gone) × (1024 ≤ length (now out)) ⌝ }
-    ensures { λ r. ⌜ Passed (lossBy clears (gonesIn (now (gone .entry))) at) (instancesIn count (now (pens .entry))) (now (pens .entry)) (now (out .entry)) (now (pens .exit)) (now (out .exit)) r ⌝ }
+    requires { Editable count pens.old × Listed gone.now × (1024 ≤ length out.old) }
+    ensures { Passed (loss_by clears (gones_in gone.now) at) (instances_in count pens.old) pens.old out.old pens.new out.new result }
 {
     let w = span_of(gone);
     let mut guesses = [0u8; 1024]; // made once for all instances
@@ -164,8 +158,8 @@ pub fn lose_writers(
     gone: &[u8],
     at: MaybeTime,
 ) -> PassCounts
-    requires { ⌜ Editable count (now pens) × Listed (now gone) × (1024 ≤ length (now out)) ⌝ }
-    ensures { λ r. ⌜ Passed (lossAct (gonesIn (now (gone .entry))) at) (instancesIn count (now (pens .entry))) (now (pens .entry)) (now (out .entry)) (now (pens .exit)) (now (out .exit)) r ⌝ }
+    requires { Editable count pens.old × Listed gone.now × (1024 ≤ length out.old) }
+    ensures { Passed (loss_act (gones_in gone.now) at) (instances_in count pens.old) pens.old out.old pens.new out.new result }
 {
     if gone.len() < 16 {
         return PassCounts {
@@ -179,8 +173,8 @@ pub fn lose_writers(
 
 // Code 7: the writer of the sheet alone, and no owner is cleared.
 fn drop_writer(pens: &mut [u8], out: &mut [u8], count: usize, s: Sheet) -> PassCounts
-    requires { ⌜ Editable count (now pens) × (1024 ≤ length (now out)) ⌝ }
-    ensures { λ r. ⌜ Passed (callAct DropWriter s) (instancesIn count (now (pens .entry))) (now (pens .entry)) (now (out .entry)) (now (pens .exit)) (now (out .exit)) r ⌝ }
+    requires { Editable count pens.old × (1024 ≤ length out.old) }
+    ensures { Passed (call_act DropWriter s) (instances_in count pens.old) pens.old out.old pens.new out.new result }
 {
     let g = s.guid;
     let t = s.time_1;
@@ -200,8 +194,8 @@ fn drop_writer(pens: &mut [u8], out: &mut [u8], count: usize, s: Sheet) -> PassC
 
 // The owner of record i has another strength, if it is g.
 fn strength_at(pens: &mut [u8], i: usize, g: Guid, strength: u32)
-    requires { ⌜ i * 512 + 512 ≤ length (now pens) ⌝ }
-    ensures { λ _. ⌜ EditedAt (strengthUpdated g strength) i (now (pens .entry)) (now (pens .exit)) ⌝ }
+    requires { i * 512 + 512 ≤ length pens.old }
+    ensures { EditedAt (strength_updated g strength) i pens.old pens.new }
 {
     let from = i * 512;
     let end = from + 512;
@@ -212,8 +206,8 @@ fn strength_at(pens: &mut [u8], i: usize, g: Guid, strength: u32)
 
 // Code 17.
 fn set_strengths(pens: &mut [u8], count: usize, s: Sheet) -> PassCounts
-    requires { ⌜ (count ≤ 128) × (count * 512 ≤ length (now pens)) ⌝ }
-    ensures { λ r. ⌜ ((out : List ℕ) → 1024 ≤ length out → Passed (callAct UpdateOwnerStrength s) (instancesIn count (now (pens .entry))) (now (pens .entry)) out (now (pens .exit)) out r) ⌝ }
+    requires { (count ≤ 128) × (count * 512 ≤ length pens.old) }
+    ensures { (out : List ℕ) → 1024 ≤ length out → Passed (call_act UpdateOwnerStrength s) (instances_in count pens.old) pens.old out pens.new out result }
 {
     let g = s.guid;
     let strength = s.second;
@@ -231,8 +225,8 @@ fn set_strengths(pens: &mut [u8], count: usize, s: Sheet) -> PassCounts
 
 // Whether the owner is g, or of its participant.
 fn owned_in(r: &[u8], g: Guid, prefix: bool) -> bool
-    requires { ⌜ length (now r) ≡ 512 ⌝ }
-    ensures { λ y. ⌜ y ≡ ownsAs prefix g (instanceOf (now (r .entry)) .state .owner) ⌝ }
+    requires { length r.now ≡ 512 }
+    ensures { result ≡ owns_as prefix g (instance_of r.now).state.owner }
 {
     if prefix {
         return instance_edits::owner_of_prefix(r, g);
@@ -242,8 +236,8 @@ fn owned_in(r: &[u8], g: Guid, prefix: bool) -> bool
 
 // The owner of record i is cleared, if it is g or of its participant. Whether it was.
 fn owner_at(pens: &mut [u8], i: usize, g: Guid, prefix: bool) -> bool
-    requires { ⌜ i * 512 + 512 ≤ length (now pens) ⌝ }
-    ensures { λ r. ⌜ (r ≡ ownsAs prefix g (instanceOf (recordAt (now (pens .entry)) i) .state .owner)) × EditedAt (clearedAs prefix g) i (now (pens .entry)) (now (pens .exit)) ⌝ }
+    requires { i * 512 + 512 ≤ length pens.old }
+    ensures { (result ≡ owns_as prefix g (instance_of (record_at pens.old i)).state.owner) × EditedAt (cleared_as prefix g) i pens.old pens.new }
 {
     let from = i * 512;
     let end = from + 512;
@@ -256,8 +250,8 @@ fn owner_at(pens: &mut [u8], i: usize, g: Guid, prefix: bool) -> bool
 
 // Codes 18 and 19.
 fn clear_owners(pens: &mut [u8], count: usize, g: Guid, prefix: bool) -> PassCounts
-    requires { ⌜ (count ≤ 128) × (count * 512 ≤ length (now pens)) ⌝ }
-    ensures { λ r. ⌜ ((out : List ℕ) → 1024 ≤ length out → Passed (ownerAct prefix g) (instancesIn count (now (pens .entry))) (now (pens .entry)) out (now (pens .exit)) out r) ⌝ }
+    requires { (count ≤ 128) × (count * 512 ≤ length pens.old) }
+    ensures { (out : List ℕ) → 1024 ≤ length out → Passed (owner_act prefix g) (instances_in count pens.old) pens.old out pens.new out result }
 {
     let mut n = 0;
     let mut i = 0;
@@ -276,8 +270,8 @@ fn clear_owners(pens: &mut [u8], count: usize, g: Guid, prefix: bool) -> PassCou
 
 // Record i, which stays as it is, goes to place k, where it may stand already.
 fn close_up(pens: &mut [u8], k: usize, i: usize)
-    requires { ⌜ (k ≤ i) × (i * 512 + 512 ≤ length (now pens)) ⌝ }
-    ensures { λ _. ⌜ now (pens .exit) ≡ patch (now (pens .entry)) (k * 512) 512 (recordAt (now (pens .entry)) i) ⌝ }
+    requires { (k ≤ i) × (i * 512 + 512 ≤ length pens.old) }
+    ensures { pens.new ≡ patch pens.old (k * 512) 512 (record_at pens.old i) }
 {
     if k != i {
         octets::move_down(pens, k * 512, i * 512, 512);
@@ -286,8 +280,8 @@ fn close_up(pens: &mut [u8], k: usize, i: usize)
 
 // Whether the instance of a record is purged: its kind, in the two highest bits of the flags, says since when and which delay.
 fn purged_in(r: &[u8], at: MaybeTime, a: u64, b: u64) -> bool
-    requires { ⌜ length (now r) ≡ 512 ⌝ }
-    ensures { λ yes. ⌜ ((s : Sheet) → Delays s at a b → yes ≡ purged s (instanceOf (now (r .entry)) .state)) ⌝ }
+    requires { length r.now ≡ 512 }
+    ensures { (s : Sheet) → Delays s at a b → result ≡ purged s (instance_of r.now).state }
 {
     let f = octets::get_u16(r, 24);
     if f < 16384 {
@@ -301,8 +295,8 @@ fn purged_in(r: &[u8], at: MaybeTime, a: u64, b: u64) -> bool
 
 // Record i goes behind the k kept, unless it is purged. How many are kept then.
 fn purge_at(pens: &mut [u8], i: usize, k: usize, at: MaybeTime, a: u64, b: u64) -> usize
-    requires { ⌜ (k ≤ i) × (i < 128) × (i * 512 + 512 ≤ length (now pens)) ⌝ }
-    ensures { λ r. ⌜ ((s : Sheet) → Delays s at a b → PurgedOne (purged s (instanceOf (recordAt (now (pens .entry)) i) .state)) i k (now (pens .entry)) (now (pens .exit)) r) ⌝ }
+    requires { (k ≤ i) × (i < 128) × (i * 512 + 512 ≤ length pens.old) }
+    ensures { (s : Sheet) → Delays s at a b → PurgedOne (purged s (instance_of (record_at pens.old i)).state) i k pens.old pens.new result }
 {
     let from = i * 512;
     let end = from + 512;
@@ -315,8 +309,8 @@ fn purge_at(pens: &mut [u8], i: usize, k: usize, at: MaybeTime, a: u64, b: u64) 
 
 // The instances whose delay has run out are taken out of the table; Out has no part in it.
 fn purge(pens: &mut [u8], count: usize, s: Sheet) -> PassCounts
-    requires { ⌜ (count ≤ 128) × (count * 512 ≤ length (now pens)) ⌝ }
-    ensures { λ r. ⌜ ((out : List ℕ) → 1024 ≤ length out → Passed (callAct Autopurge s) (instancesIn count (now (pens .entry))) (now (pens .entry)) out (now (pens .exit)) out r) ⌝ }
+    requires { (count ≤ 128) × (count * 512 ≤ length pens.old) }
+    ensures { (out : List ℕ) → 1024 ≤ length out → Passed (call_act Autopurge s) (instances_in count pens.old) pens.old out pens.new out result }
 {
     let at = s.time_2;
     let a = s.a;
@@ -339,8 +333,8 @@ fn purge(pens: &mut [u8], count: usize, s: Sheet) -> PassCounts
 
 // The pass of a call, by what it reports: the one that reports nothing is an update of the owner's strength.
 fn call_pass(pens: &mut [u8], out: &mut [u8], count: usize, c: InstanceCall, s: Sheet) -> PassCounts
-    requires { ⌜ (onEvery c ≡ true) × Editable count (now pens) × (1024 ≤ length (now out)) ⌝ }
-    ensures { λ r. ⌜ Passed (callAct c s) (instancesIn count (now (pens .entry))) (now (pens .entry)) (now (out .entry)) (now (pens .exit)) (now (out .exit)) r ⌝ }
+    requires { (on_every c ≡ true) × Editable count pens.old × (1024 ≤ length out.old) }
+    ensures { Passed (call_act c s) (instances_in count pens.old) pens.old out.old pens.new out.new result }
 {
     let g = s.guid;
     match report_of(c) {
@@ -354,8 +348,8 @@ fn call_pass(pens: &mut [u8], out: &mut [u8], count: usize, c: InstanceCall, s: 
 
 // What a call answers, from the counts of its pass.
 fn answered(k: Report, t: PassCounts) -> Answer
-    requires { ⌜ (t .listed ≤ 128) × (t .counted ≤ 32768) ⌝ }
-    ensures { λ r. ⌜ r ≡ answerAs k (t .listed) (t .counted) ⌝ }
+    requires { (t.listed ≤ 128) × (t.counted ≤ 32768) }
+    ensures { result ≡ answer_as k t.listed t.counted }
 {
     let l = t.listed as u32;
     let n = t.counted as u32;
@@ -378,8 +372,8 @@ pub fn every_call(
     count: u32,
     next: InstanceHandle,
 ) -> TableCall
-    requires { ⌜ TableFormed places count (next .0) (now pens) × (1024 ≤ length (now out)) × (onEvery c ≡ true) ⌝ }
-    ensures { λ r. ⌜ LeavesTableAndOut places (instanceCall places c s (stateWith (instancesIn count (now (pens .entry))) (next .0))) (now (out .entry)) r (now (pens .exit)) (now (out .exit)) ⌝ }
+    requires { TableFormed places count next.0 pens.old × (1024 ≤ length out.old) × (on_every c ≡ true) }
+    ensures { LeavesTableAndOut places (instance_call places c s (state_with (instances_in count pens.old) next.0)) out.old result pens.new out.new }
 {
     let tally = call_pass(pens, out, count as usize, c, s);
     let k = report_of(c);

@@ -5,36 +5,29 @@
 // Derives from instance_tracker.rs of ZeroDDS.
 // Copyright 2026 ZeroDDS Contributors. SPDX-License-Identifier: Apache-2.0. Changed: written anew in Rattle, with the
 // instances as a table of records in lent bytes and each call as a way to reach an instance and an effect on it.
+#![tactic(auto)]
+
+ghost use Rattle.std.specs.Prelude.{true, false, not, ◌&&◌, ◌≡◌, ◌<◌, leb};
+ghost use Rattle.std.proofs.Math.Option.{none, some};
+ghost use Rattle.model.specs.Answers.{refused_with};
+ghost use Rattle.model.specs.InstanceCalls.{crowds, samples_answer, answer_of};
+ghost use Rattle.model.specs.Instances.{rule, starts_by, limited_by};
+ghost use Rattle.model.specs.State.{instances_in};
+ghost use Rattle.model.specs.Times.{negative};
+ghost use Rattle.instance_fields.specs.Usable.{Usable, Room};
+ghost use Rattle.instance_reach.specs.Rules.{single, handled};
+ghost use Rattle.instance_table.specs.TableCalls.{TableFormed, left};
+ghost use Rattle.instance_reach.specs.Turned.{start_refusal, Turned, Acted, Reached, Starts};
+
 use instance_table::TableCall;
-use model::Answer;
-use model::Instance;
-use model::InstanceCall;
-use model::InstanceHandle;
-use model::InstanceState;
-use model::Reach;
-use model::Says;
-use model::Sheet;
+use model::{Answer, Instance, InstanceCall, InstanceHandle, InstanceState, Reach, Says, Sheet};
 use tables::Found;
-ghost use mathlib.Core.Bool.{true, false, not, _&&_};
-ghost use mathlib.Core.Option.{none, some};
-ghost use mathlib.Core.Path.{_≡_};
-ghost use Prim.Native.Nat.{_<_};
-ghost use lib.Dec.{leb};
-ghost use Rattle·model.specs.Answers.{refusedWith};
-ghost use Rattle·model.specs.InstanceCalls.{crowds, samplesAnswer, answerOf};
-ghost use Rattle·model.specs.Instances.{rule, startsBy, limitedBy};
-ghost use Rattle·model.specs.State.{instancesIn};
-ghost use Rattle·model.specs.Times.{negative};
-ghost use Rattle·instance_fields.specs.Usable.{Usable, Room};
-ghost use Rattle·instance_reach·specs.specs.Rules.{single, handled};
-ghost use Rattle·instance_table.specs.TableCalls.{TableFormed, left};
-ghost use Rattle·instance_reach·specs.specs.Turned.{startRefusal, Turned, Acted, Reached, Starts};
 
 // ---- the row of a call
 
 // The call reaches its instance by handle.
 fn reaches_by_handle(c: InstanceCall) -> bool
-    ensures { λ r. ⌜ r ≡ handled (rule c .reach) ⌝ }
+    ensures { result ≡ handled (rule c).reach }
 {
     let r = instance_rules::rule_of(c);
     let k = r.reach;
@@ -49,7 +42,7 @@ fn reaches_by_handle(c: InstanceCall) -> bool
 
 // The call starts an absent instance.
 fn starts(c: InstanceCall) -> bool
-    ensures { λ r. ⌜ r ≡ startsBy (rule c .reach) ⌝ }
+    ensures { result ≡ starts_by (rule c).reach }
 {
     let r = instance_rules::rule_of(c);
     let k = r.reach;
@@ -58,7 +51,7 @@ fn starts(c: InstanceCall) -> bool
 
 // It does so up to a limit.
 fn is_limited(c: InstanceCall) -> bool
-    ensures { λ r. ⌜ r ≡ limitedBy (rule c .reach) ⌝ }
+    ensures { result ≡ limited_by (rule c).reach }
 {
     let r = instance_rules::rule_of(c);
     let k = r.reach;
@@ -67,7 +60,7 @@ fn is_limited(c: InstanceCall) -> bool
 
 // The call puts a GUID into the writer set.
 fn adds_writer(c: InstanceCall) -> bool
-    ensures { λ r. ⌜ r ≡ rule c .«adds_writer» ⌝ }
+    ensures { result ≡ (rule c).adds_writer }
 {
     let r = instance_rules::rule_of(c);
     r.adds_writer
@@ -75,7 +68,7 @@ fn adds_writer(c: InstanceCall) -> bool
 
 // What the call answers.
 fn says_of(c: InstanceCall) -> Says
-    ensures { λ r. ⌜ r ≡ rule c .says ⌝ }
+    ensures { result ≡ (rule c).says }
 {
     let r = instance_rules::rule_of(c);
     let k = r.says;
@@ -86,7 +79,7 @@ fn says_of(c: InstanceCall) -> Says
 
 // So many instances meet the limit; a negative limit is none.
 pub fn at_limit(limit: u32, count: u32) -> bool
-    ensures { λ r. ⌜ r ≡ (not (negative limit) && leb limit count) ⌝ }
+    ensures { result ≡ (not (negative limit) && leb limit count) }
 {
     if 2147483648 <= limit {
         return false;
@@ -96,7 +89,7 @@ pub fn at_limit(limit: u32, count: u32) -> bool
 
 // The call has a limit, which so many instances meet.
 fn limited(c: InstanceCall, limit: u32, count: u32) -> bool
-    ensures { λ r. ⌜ r ≡ (limitedBy (rule c .reach) && (not (negative limit) && leb limit count)) ⌝ }
+    ensures { result ≡ (limited_by (rule c).reach && (not (negative limit) && leb limit count)) }
 {
     if !is_limited(c) {
         return false;
@@ -106,7 +99,7 @@ fn limited(c: InstanceCall, limit: u32, count: u32) -> bool
 
 // What refuses a new instance, else 0: 9 where every place is taken, 13 where the next handle is 2^63.
 pub fn start_refusal(places: usize, count: u32, next: InstanceHandle) -> u8
-    ensures { λ r. ⌜ r ≡ startRefusal places count (next .0) ⌝ }
+    ensures { result ≡ start_refusal places count next.0 }
 {
     if places <= count as usize {
         return 9;
@@ -119,8 +112,8 @@ pub fn start_refusal(places: usize, count: u32, next: InstanceHandle) -> u8
 
 // The writer is new to an instance that has 16.
 pub fn crowds(s: Sheet, x: Instance) -> bool
-    requires { ⌜ Usable (x .state) ⌝ }
-    ensures { λ r. ⌜ r ≡ crowds s (some x) ⌝ }
+    requires { Usable x.state }
+    ensures { result ≡ crowds s (some x) }
 {
     let g = s.guid;
     let y = x.state;
@@ -133,8 +126,8 @@ pub fn crowds(s: Sheet, x: Instance) -> bool
 
 // The call adds a writer to an instance that has 16 others.
 fn crowded(c: InstanceCall, s: Sheet, x: Instance) -> bool
-    requires { ⌜ Usable (x .state) ⌝ }
-    ensures { λ r. ⌜ r ≡ (rule c .«adds_writer» && crowds s (some x)) ⌝ }
+    requires { Usable x.state }
+    ensures { result ≡ ((rule c).adds_writer && crowds s (some x)) }
 {
     if !adds_writer(c) {
         return false;
@@ -146,7 +139,7 @@ fn crowded(c: InstanceCall, s: Sheet, x: Instance) -> bool
 
 // The handle and the samples of an instance.
 fn samples_of(y: Instance) -> Answer
-    ensures { λ r. ⌜ r ≡ samplesAnswer (some y) ⌝ }
+    ensures { result ≡ samples_answer (some y) }
 {
     let h = y.handle;
     let z = y.state;
@@ -156,7 +149,7 @@ fn samples_of(y: Instance) -> Answer
 
 // What the call answers of its instance, as it was before the call and after it.
 fn answered(c: InstanceCall, s: Sheet, x: Instance, y: Instance) -> Answer
-    ensures { λ r. ⌜ r ≡ answerOf (rule c .says) s (some x) (some y) ⌝ }
+    ensures { result ≡ answer_of (rule c).says s (some x) (some y) }
 {
     let h = x.handle;
     let g = s.guid;
@@ -177,7 +170,7 @@ fn answered(c: InstanceCall, s: Sheet, x: Instance, y: Instance) -> Answer
 
 // What it answers where it reaches none: an unknown instance accepts.
 fn unanswered(c: InstanceCall) -> Answer
-    ensures { λ r. ⌜ ((s : Sheet) → r ≡ answerOf (rule c .says) s none none) ⌝ }
+    ensures { (s : Sheet) → result ≡ answer_of (rule c).says s none none }
 {
     let k = says_of(c);
     match k {
@@ -195,7 +188,7 @@ fn unanswered(c: InstanceCall) -> Answer
 
 // The call is refused with this number, or with 0 answers none.
 fn stopped(n: u8, count: u32, next: InstanceHandle) -> TableCall
-    ensures { λ r. ⌜ r ≡ left (refusedWith n) count next ⌝ }
+    ensures { result ≡ left (refused_with n) count next }
 {
     let a = answers::refused_with(n);
     TableCall {
@@ -207,7 +200,7 @@ fn stopped(n: u8, count: u32, next: InstanceHandle) -> TableCall
 
 // The call reaches no instance and starts none.
 fn idle(c: InstanceCall, count: u32, next: InstanceHandle) -> TableCall
-    ensures { λ r. ⌜ ((s : Sheet) → r ≡ left (answerOf (rule c .says) s none none) count next) ⌝ }
+    ensures { (s : Sheet) → result ≡ left (answer_of (rule c).says s none none) count next }
 {
     let a = unanswered(c);
     TableCall {
@@ -221,8 +214,8 @@ fn idle(c: InstanceCall, count: u32, next: InstanceHandle) -> TableCall
 
 // What the call leaves of an instance: its key and its handle stay.
 fn acted(c: InstanceCall, s: Sheet, x: Instance) -> Instance
-    requires { ⌜ (single (rule c .reach) ≡ true) × Usable (x .state) × (rule c .«adds_writer» ≡ true → Room (s .guid) (x .state)) ⌝ }
-    ensures { λ r. ⌜ Acted c s x r ⌝ }
+    requires { (single (rule c).reach ≡ true) × Usable x.state × ((rule c).adds_writer ≡ true → Room s.guid x.state) }
+    ensures { Acted c s x result }
 {
     let key = x.key;
     let handle = x.handle;
@@ -245,8 +238,8 @@ fn change(
     count: u32,
     next: InstanceHandle,
 ) -> TableCall
-    requires { ⌜ TableFormed places count (next .0) (now pens) × Reached c s (instancesIn count (now pens)) i ⌝ }
-    ensures { λ r. ⌜ Turned places c s (instancesIn count (now (pens .entry))) (next .0) r (now (pens .exit)) ⌝ }
+    requires { TableFormed places count next.0 pens.old × Reached c s (instances_in count pens.old) i }
+    ensures { Turned places c s (instances_in count pens.old) next.0 result pens.new }
 {
     let x = instance_decoding::instance_at(pens, i);
     if crowded(c, s, x) {
@@ -271,9 +264,9 @@ fn start(
     count: u32,
     next: InstanceHandle,
 ) -> TableCall
-    requires { ⌜ TableFormed places count (next .0) (now pens) × Starts c s (instancesIn count (now pens)) i × (count < places) × (next .0 < 9223372036854775808)
-        × ((limitedBy (rule c .reach) && (not (negative (s .first)) && leb (s .first) count)) ≡ false) ⌝ }
-    ensures { λ r. ⌜ Turned places c s (instancesIn count (now (pens .entry))) (next .0) r (now (pens .exit)) ⌝ }
+    requires { TableFormed places count next.0 pens.old × Starts c s (instances_in count pens.old) i × (count < places) × (next.0 < 9223372036854775808)
+        × ((limited_by (rule c).reach && (not (negative s.first) && leb s.first count)) ≡ false) }
+    ensures { Turned places c s (instances_in count pens.old) next.0 result pens.new }
 {
     let key = s.key;
     let a = instance_handle::allocate_step(next.0);
@@ -298,8 +291,8 @@ fn begin(
     count: u32,
     next: InstanceHandle,
 ) -> TableCall
-    requires { ⌜ TableFormed places count (next .0) (now pens) × Starts c s (instancesIn count (now pens)) i ⌝ }
-    ensures { λ r. ⌜ Turned places c s (instancesIn count (now (pens .entry))) (next .0) r (now (pens .exit)) ⌝ }
+    requires { TableFormed places count next.0 pens.old × Starts c s (instances_in count pens.old) i }
+    ensures { Turned places c s (instances_in count pens.old) next.0 result pens.new }
 {
     if limited(c, s.first, count) {
         return stopped(0, count, next);
@@ -322,8 +315,8 @@ pub fn by_key(
     count: u32,
     next: InstanceHandle,
 ) -> TableCall
-    requires { ⌜ TableFormed places count (next .0) (now pens) × (single (rule c .reach) ≡ true) × (handled (rule c .reach) ≡ false) ⌝ }
-    ensures { λ r. ⌜ Turned places c s (instancesIn count (now (pens .entry))) (next .0) r (now (pens .exit)) ⌝ }
+    requires { TableFormed places count next.0 pens.old × (single (rule c).reach ≡ true) × (handled (rule c).reach ≡ false) }
+    ensures { Turned places c s (instances_in count pens.old) next.0 result pens.new }
 {
     let key = s.key;
     let f = instance_table::find_key(pens, count as usize, key);
@@ -347,8 +340,8 @@ pub fn by_handle(
     count: u32,
     next: InstanceHandle,
 ) -> TableCall
-    requires { ⌜ TableFormed places count (next .0) (now pens) × (handled (rule c .reach) ≡ true) ⌝ }
-    ensures { λ r. ⌜ Turned places c s (instancesIn count (now (pens .entry))) (next .0) r (now (pens .exit)) ⌝ }
+    requires { TableFormed places count next.0 pens.old × (handled (rule c).reach ≡ true) }
+    ensures { Turned places c s (instances_in count pens.old) next.0 result pens.new }
 {
     let h = s.handle;
     let n = count as usize;
@@ -368,8 +361,8 @@ pub fn single_call(
     count: u32,
     next: InstanceHandle,
 ) -> TableCall
-    requires { ⌜ TableFormed places count (next .0) (now pens) × (single (rule c .reach) ≡ true) ⌝ }
-    ensures { λ r. ⌜ Turned places c s (instancesIn count (now (pens .entry))) (next .0) r (now (pens .exit)) ⌝ }
+    requires { TableFormed places count next.0 pens.old × (single (rule c).reach ≡ true) }
+    ensures { Turned places c s (instances_in count pens.old) next.0 result pens.new }
 {
     if reaches_by_handle(c) {
         return by_handle(c, s, pens, places, count, next);

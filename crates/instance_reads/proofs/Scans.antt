@@ -1,59 +1,59 @@
 -- Records that are tested one after the other, from the front.
---     some-row, no-row                whether p holds of some: of record i, or of none
---     each-row, not-each-row          whether it holds of all
---     place-row                       the place of the first
---     has-any, guid-test, has-here, has-nowhere     a GUID in a list of them
-use Prim.Native.Nat.{ℕ, _*_, _≤_, _<_}
+--     some_row, no_row                whether p holds of some: of record i, or of none
+--     each_row, not_each_row          whether it holds of all
+--     place_row                       the place of the first
+--     has-any, guid-test, has_here, has-nowhere     a GUID in a list of them
+use Prim.Native.Nat.{ℕ, ◌*◌, ◌≤◌, ◌<◌}
 use mathlib.Core.Bool.{Bool, true, false}
-use mathlib.Core.List.{List, [], _∷_}
-use mathlib.Core.Path.{_≡_, refl, sym, _∙_}
+use mathlib.Core.List.{List, [], ◌∷◌}
+use mathlib.Core.Path.{◌≡◌, refl, sym, ◌∙◌}
 use native.Mathlib.Omega.{arith}
-use lib.ListN.{length, getD, take, drop}
-use Rattle·model.specs.declared.Guid.{Guid}
-use Rattle·model.specs.Guids.{same, guidOf, guidAt, guidsIn}
-use Rattle·model.specs.Layout.{readRows}
-use Rattle·model.specs.Sets.{has}
-use Rattle·model.specs.Tables.{all, any}
-use Rattle·model.proofs.RowLaws.{length-read, get-read}
-use Rattle·model.proofs.GuidLaws.{guid-part}
-use Rattle·tables.specs.Places.{placeOf}
-use Rattle·model.proofs.Tests.{split, clash}
-use Rattle·tables.proofs.Finds.{all-at, at-all, nowhere-any, any-nowhere, place-unique}
+use lib.ListN.{length, get_or, take, drop}
+use Rattle.model.specs.declared.Guid.{Guid}
+use Rattle.model.specs.Guids.{same, guid_of, guid_at, guids_in}
+use Rattle.model.specs.Layout.{read_rows}
+use Rattle.model.specs.Sets.{has}
+use Rattle.model.specs.Tables.{all, any}
+use Rattle.model.proofs.RowLaws.{length_read, get_read}
+use Rattle.model.proofs.GuidLaws.{guid-part}
+use Rattle.tables.specs.Places.{place_of}
+use Rattle.model.proofs.Tests.{split, clash}
+use Rattle.tables.proofs.Finds.{all-at, at_all, nowhere-any, any-nowhere, place_unique}
 
 -- record i
 abbrev pub row : {A : Type 0} → (List ℕ → A) → ℕ → List ℕ → ℕ → A
-row recordOf size t i = recordOf (take size (drop (i * size) t))
+row record_of size t i = record_of (take size (drop (i * size) t))
 
-module _ {A : Type 0} (recordOf : List ℕ → A) (size n : ℕ) (t : List ℕ) (p : A → Bool) where
+module _ {A : Type 0} (record_of : List ℕ → A) (size n : ℕ) (t : List ℕ) (p : A → Bool) where
   abbrev xs : List A
-  xs = readRows recordOf size n t
+  xs = read_rows record_of size n t
 
   count : length xs ≡ n
-  count = length-read recordOf size n t
+  count = length_read record_of size n t
 
-  here : (i : ℕ) (b : Bool) → i < n → p (row recordOf size t i) ≡ b → p (getD xs i (recordOf [])) ≡ b
-  here i b l e = rw (get-read recordOf size n t i (recordOf []) l) e
+  here : (i : ℕ) (b : Bool) → i < n → p (row record_of size t i) ≡ b → p (get_or xs i (record_of [])) ≡ b
+  here i b l e = rw (get_read record_of size n t i (record_of []) l) e
 
-  pub some-row : (i : ℕ) → i < n → p (row recordOf size t i) ≡ true → any p xs ≡ true
-  some-row i l e =
+  pub some_row : (i : ℕ) → i < n → p (row record_of size t i) ≡ true → any p xs ≡ true
+  some_row i l e =
       split (any p xs) (λ q. q)
-      (λ q. clash (p (getD xs i (recordOf []))) (here i true l e) (nowhere-any p xs (recordOf []) q i (omega (arith, count))))
+      (λ q. clash (p (get_or xs i (record_of []))) (here i true l e) (nowhere-any p xs (record_of []) q i (omega (arith, count))))
 
-  pub no-row : ((j : ℕ) → j < n → p (row recordOf size t j) ≡ false) → any p xs ≡ false
-  no-row b = any-nowhere p (recordOf []) xs (λ j l. here j false (omega (arith, count)) (b j (omega (arith, count))))
+  pub no_row : ((j : ℕ) → j < n → p (row record_of size t j) ≡ false) → any p xs ≡ false
+  no_row b = any-nowhere p (record_of []) xs (λ j l. here j false (omega (arith, count)) (b j (omega (arith, count))))
 
-  pub each-row : ((j : ℕ) → j < n → p (row recordOf size t j) ≡ true) → all p xs ≡ true
-  each-row b = at-all p xs (recordOf []) (λ j l. here j true (omega (arith, count)) (b j (omega (arith, count))))
+  pub each_row : ((j : ℕ) → j < n → p (row record_of size t j) ≡ true) → all p xs ≡ true
+  each_row b = at_all p xs (record_of []) (λ j l. here j true (omega (arith, count)) (b j (omega (arith, count))))
 
-  pub not-each-row : (i : ℕ) → i < n → p (row recordOf size t i) ≡ false → all p xs ≡ false
-  not-each-row i l e =
+  pub not_each_row : (i : ℕ) → i < n → p (row record_of size t i) ≡ false → all p xs ≡ false
+  not_each_row i l e =
       split (all p xs)
-      (λ q. clash (p (getD xs i (recordOf []))) (all-at p xs (recordOf []) q i (omega (arith, count))) (here i false l e))
+      (λ q. clash (p (get_or xs i (record_of []))) (all-at p xs (record_of []) q i (omega (arith, count))) (here i false l e))
       (λ q. q)
 
-  pub place-row : (i : ℕ) → i ≤ n → ((j : ℕ) → j < i → p (row recordOf size t j) ≡ false) → (i < n → p (row recordOf size t i) ≡ true) → i ≡ placeOf p xs
-  place-row i l b e =
-      sym (place-unique p xs (recordOf []) i (omega (arith, count)) (λ j m. here j false (omega arith) (b j m))
+  pub place_row : (i : ℕ) → i ≤ n → ((j : ℕ) → j < i → p (row record_of size t j) ≡ false) → (i < n → p (row record_of size t i) ≡ true) → i ≡ place_of p xs
+  place_row i l b e =
+      sym (place_unique p xs (record_of []) i (omega (arith, count)) (λ j m. here j false (omega arith) (b j m))
       (λ m. here i true (omega (arith, count)) (e (omega (arith, count)))))
 
 -- ---- GUIDs
@@ -68,12 +68,12 @@ has-any g [] = refl
 has-any g (x ∷ xs) = rw (has-any g xs)
 
 -- the test of GUID i of a list, as x was read and b was told
-pub guid-test : (t : List ℕ) (i : ℕ) (g x : Guid) (b : Bool) → x ≡ guidAt t (i * 16) → b ≡ same x g → is g (row guidOf 16 t i) ≡ b
+pub guid-test : (t : List ℕ) (i : ℕ) (g x : Guid) (b : Bool) → x ≡ guid_at t (i * 16) → b ≡ same x g → is g (row guid_of 16 t i) ≡ b
 guid-test t i g x b e q = rw (guid-part 16 (i * 16) t (omega arith), ← e) (sym q)
 
 module _ (t : List ℕ) (n : ℕ) (g : Guid) where
-  pub has-here : (i : ℕ) → i < n → is g (row guidOf 16 t i) ≡ true → true ≡ has g (guidsIn n t)
-  has-here i l e = sym (has-any g (guidsIn n t) ∙ some-row guidOf 16 n t (is g) i l e)
+  pub has_here : (i : ℕ) → i < n → is g (row guid_of 16 t i) ≡ true → true ≡ has g (guids_in n t)
+  has_here i l e = sym (has-any g (guids_in n t) ∙ some_row guid_of 16 n t (is g) i l e)
 
-  pub has-nowhere : ((j : ℕ) → j < n → is g (row guidOf 16 t j) ≡ false) → false ≡ has g (guidsIn n t)
-  has-nowhere b = sym (has-any g (guidsIn n t) ∙ no-row guidOf 16 n t (is g) b)
+  pub has-nowhere : ((j : ℕ) → j < n → is g (row guid_of 16 t j) ≡ false) → false ≡ has g (guids_in n t)
+  has-nowhere b = sym (has-any g (guids_in n t) ∙ no_row guid_of 16 n t (is g) b)

@@ -7,38 +7,32 @@
 // Derives from instance_tracker.rs of ZeroDDS.
 // Copyright 2026 ZeroDDS Contributors. SPDX-License-Identifier: Apache-2.0. Changed: written anew in Rattle, over a table of
 // records in lent bytes.
-use model::Decision;
-use model::FoundHandle;
-use model::FoundTime;
-use model::Guid;
-use model::InstanceHandle;
-use model::Listing;
-use model::MaybeTime;
-use model::Time;
-use model::Times;
+#![tactic(auto)]
+
+ghost use Rattle.std.specs.Prelude.{true, cond, List, map, ◌≡◌, ℕ, ◌+◌, ◌*◌, ◌/◌, ◌%◌, ◌≤◌, ◌<◌, length, drop};
+ghost use Rattle.octets.specs.Octets.{put};
+ghost use Rattle.model.specs.Guids.{num, guids_in};
+ghost use Rattle.model.specs.InstanceRecord.{instance_of};
+ghost use Rattle.model.specs.Instances.{has_key};
+ghost use Rattle.model.specs.Reads.{used_in, table_of, table_refusal, time_refusal, filter_read, order_read, last_delivered_read, handle_found, first, next_handle_read, walk_read, holder_in_force, writes as writesIn, lookup_read, view_in, among, left_with, list_refusal, would_leave_read, left_read, left_out};
+ghost use Rattle.model.specs.Sets.{has};
+ghost use Rattle.model.specs.State.{places_in, instance_key};
+ghost use Rattle.model.specs.Tables.{find, all};
+ghost use Rattle.model.specs.Times.{no_time, time_bits};
+ghost use Rattle.model.specs.WellFormed.{instance_ok};
+ghost use Rattle.tables.specs.Found.{found_in};
+ghost use Rattle.instance_decoding.specs.Parts.{record_at};
+ghost use Rattle.tables.specs.Places.{place_of};
+ghost use Rattle.instance_reads.specs.HolderPlaces.{no_place, stored_at, holder_place, bytes_at};
+ghost use Rattle.instance_reads.specs.Looked.{times_in, ListedBy};
+
+use model::{
+    Decision, FoundHandle, FoundTime, Guid, InstanceHandle, Listing, MaybeTime, Time, Times,
+};
 use tables::Found;
-ghost use mathlib.Core.Bool.{true, cond};
-ghost use mathlib.Core.List.{List, map};
-ghost use mathlib.Core.Path.{_≡_};
-ghost use Prim.Native.Nat.{ℕ, _+_, _*_, _/_, _%_, _≤_, _<_};
-ghost use lib.ListN.{length, drop};
-ghost use Rattle·octets.specs.Octets.{put};
-ghost use Rattle·model.specs.Guids.{num, guidsIn};
-ghost use Rattle·model.specs.InstanceRecord.{instanceOf};
-ghost use Rattle·model.specs.Instances.{hasKey};
-ghost use Rattle·model.specs.Reads.{usedIn, tableOf, tableRefusal, timeRefusal, filterRead, orderRead, lastDeliveredRead, handleFound, first, nextHandleRead, walkRead, holderInForce, writes as writesIn, lookupRead, viewIn, among, leftWith, listRefusal, wouldLeaveRead, leftRead, leftOut};
-ghost use Rattle·model.specs.Sets.{has};
-ghost use Rattle·model.specs.State.{placesIn, instanceKey};
-ghost use Rattle·model.specs.Tables.{find, all};
-ghost use Rattle·model.specs.Times.{noTime, timeBits};
-ghost use Rattle·model.specs.WellFormed.{instanceOk};
-ghost use Rattle·tables.specs.Found.{foundIn};
-ghost use Rattle·instance_decoding.specs.Parts.{recordAt};
-ghost use Rattle·tables.specs.Places.{placeOf};
-ghost use Rattle·instance_reads·specs.specs.HolderPlaces.{noPlace, storedAt, holderPlace, bytesAt};
-ghost use Rattle·instance_reads·specs.specs.Looked.{timesIn, ListedBy};
 
 // Where a stored holder stands in the table: its first byte and its length.
+#[derive(Clone, Copy)]
 pub struct HolderPlace {
     pub stored: bool,
     pub offset: usize,
@@ -49,8 +43,8 @@ pub struct HolderPlace {
 
 // The number of the refusal for a table of so many places, 0 for none.
 pub fn refusal_of(pens: &[u8], places: usize) -> u8
-    requires { ⌜ places ≤ 128 ⌝ }
-    ensures { λ r. ⌜ r ≡ tableRefusal places (now (pens .entry)) ⌝ }
+    requires { places ≤ 128 }
+    ensures { result ≡ table_refusal places pens.now }
 {
     if pens.len() != places * 512 {
         return 1;
@@ -64,8 +58,8 @@ pub fn refusal_of(pens: &[u8], places: usize) -> u8
 
 // The number of the refusal for the table and a time, 0 for none.
 fn time_refusal(pens: &[u8], places: usize, time: Time) -> u8
-    requires { ⌜ places ≤ 128 ⌝ }
-    ensures { λ r. ⌜ r ≡ timeRefusal places (now (pens .entry)) time ⌝ }
+    requires { places ≤ 128 }
+    ensures { result ≡ time_refusal places pens.now time }
 {
     let number = refusal_of(pens, places);
     if number != 0 {
@@ -78,8 +72,8 @@ fn time_refusal(pens: &[u8], places: usize, time: Time) -> u8
 
 // The place of the key in a table that is not refused.
 fn locate(pens: &[u8], places: usize, key: Guid) -> Found
-    requires { ⌜ (places ≤ 128) × (tableRefusal places (now pens) ≡ 0) ⌝ }
-    ensures { λ r. ⌜ r ≡ foundIn (map instanceKey (tableOf places (now (pens .entry)))) (num key) ⌝ }
+    requires { (places ≤ 128) × (table_refusal places pens.now ≡ 0) }
+    ensures { result ≡ found_in (map instance_key (table_of places pens.now)) (num key) }
 {
     let count = instance_table::used(pens, places);
     instance_table::find_key(pens, count, key)
@@ -87,7 +81,7 @@ fn locate(pens: &[u8], places: usize, key: Guid) -> Found
 
 // No time.
 fn no_time() -> MaybeTime
-    ensures { λ r. ⌜ r ≡ noTime ⌝ }
+    ensures { result ≡ no_time }
 {
     MaybeTime {
         present: false,
@@ -98,8 +92,8 @@ fn no_time() -> MaybeTime
 
 // The times of the key's instance, none where it is unknown.
 fn times_of(pens: &[u8], places: usize, key: Guid) -> Times
-    requires { ⌜ (places ≤ 128) × (tableRefusal places (now pens) ≡ 0) ⌝ }
-    ensures { λ r. ⌜ r ≡ timesIn (find (hasKey key) (tableOf places (now (pens .entry)))) ⌝ }
+    requires { (places ≤ 128) × (table_refusal places pens.now ≡ 0) }
+    ensures { result ≡ times_in (find (has_key key) (table_of places pens.now)) }
 {
     match locate(pens, places, key) {
         Found::At(i) => {
@@ -124,7 +118,7 @@ fn times_of(pens: &[u8], places: usize, key: Guid) -> Times
 
 // A caller's time as the records hold it.
 fn bits_of_time(time: Time) -> MaybeTime
-    ensures { λ r. ⌜ r ≡ timeBits time ⌝ }
+    ensures { result ≡ time_bits time }
 {
     let sec = numbers::bits_of(time.sec);
     let nanosec = time.nanosec;
@@ -142,7 +136,7 @@ pub fn should_deliver_under_time_based_filter(
     sample_ts: Time,
     min_separation: u64,
 ) -> Decision
-    ensures { λ r. ⌜ r ≡ filterRead (placesIn (now (pens .entry))) (now (pens .entry)) key «sample_ts» «min_separation» ⌝ }
+    ensures { result ≡ filter_read (places_in pens.now) pens.now key sample_ts min_separation }
 {
     let places = instance_places::places_in(pens);
     let number = time_refusal(pens, places, sample_ts);
@@ -162,7 +156,7 @@ pub fn should_deliver_under_destination_order(
     source_ts: Time,
     by_source: bool,
 ) -> Decision
-    ensures { λ r. ⌜ r ≡ orderRead (placesIn (now (pens .entry))) (now (pens .entry)) key «source_ts» «by_source» ⌝ }
+    ensures { result ≡ order_read (places_in pens.now) pens.now key source_ts by_source }
 {
     let places = instance_places::places_in(pens);
     let number = time_refusal(pens, places, source_ts);
@@ -180,7 +174,7 @@ pub fn should_deliver_under_destination_order(
 
 // The source time of the key's last delivered sample.
 pub fn last_delivered_ts(pens: &[u8], key: Guid) -> FoundTime
-    ensures { λ r. ⌜ r ≡ lastDeliveredRead (placesIn (now (pens .entry))) (now (pens .entry)) key ⌝ }
+    ensures { result ≡ last_delivered_read (places_in pens.now) pens.now key }
 {
     let places = instance_places::places_in(pens);
     let number = refusal_of(pens, places);
@@ -206,8 +200,8 @@ pub fn last_delivered_ts(pens: &[u8], key: Guid) -> FoundTime
 
 // The handle at a position of a table that is not refused, none from its end on.
 fn handle_in(pens: &[u8], places: usize, position: usize) -> FoundHandle
-    requires { ⌜ tableRefusal places (now pens) ≡ 0 ⌝ }
-    ensures { λ r. ⌜ r ≡ handleFound 0 (first (drop position (tableOf places (now (pens .entry))))) ⌝ }
+    requires { table_refusal places pens.now ≡ 0 }
+    ensures { result ≡ handle_found 0 (first (drop position (table_of places pens.now))) }
 {
     let count = instance_table::used(pens, places);
     if count <= position {
@@ -219,7 +213,7 @@ fn handle_in(pens: &[u8], places: usize, position: usize) -> FoundHandle
 
 // The handle of the instance behind the one that has the previous handle, in key order; of the first behind nil.
 pub fn next_handle_after(pens: &[u8], previous: InstanceHandle) -> FoundHandle
-    ensures { λ r. ⌜ r ≡ nextHandleRead (placesIn (now (pens .entry))) (now (pens .entry)) previous ⌝ }
+    ensures { result ≡ next_handle_read (places_in pens.now) pens.now previous }
 {
     let places = instance_places::places_in(pens);
     let number = refusal_of(pens, places);
@@ -237,7 +231,7 @@ pub fn next_handle_after(pens: &[u8], previous: InstanceHandle) -> FoundHandle
 
 // The handle of the instance at a position, in key order: what a walker gives at that position.
 pub fn handle_at_position(pens: &[u8], position: usize) -> FoundHandle
-    ensures { λ r. ⌜ r ≡ walkRead (placesIn (now (pens .entry))) (now (pens .entry)) position ⌝ }
+    ensures { result ≡ walk_read (places_in pens.now) pens.now position }
 {
     let places = instance_places::places_in(pens);
     let number = refusal_of(pens, places);
@@ -251,7 +245,7 @@ pub fn handle_at_position(pens: &[u8], position: usize) -> FoundHandle
 
 // Nowhere in the table.
 fn nowhere() -> HolderPlace
-    ensures { λ r. ⌜ r ≡ noPlace ⌝ }
+    ensures { result ≡ no_place }
 {
     HolderPlace {
         stored: false,
@@ -262,8 +256,8 @@ fn nowhere() -> HolderPlace
 
 // Where the stored holder of instance i stands.
 fn holder_at(pens: &[u8], i: usize) -> HolderPlace
-    requires { ⌜ i * 512 + 512 ≤ length (now pens) ⌝ }
-    ensures { λ r. ⌜ r ≡ storedAt i (instanceOf (recordAt (now (pens .entry)) i) .state .holder) ⌝ }
+    requires { i * 512 + 512 ≤ length pens.now }
+    ensures { result ≡ stored_at i (instance_of (record_at pens.now i)).state.holder }
 {
     let o = i * 512;
     let f = octets::get_u16(pens, o + 24);
@@ -280,8 +274,8 @@ fn holder_at(pens: &[u8], i: usize) -> HolderPlace
 
 // Where the bytes from which the key was made are stored; nowhere too where the table would be refused.
 pub fn holder_place(pens: &[u8], key: Guid) -> HolderPlace
-    ensures place { λ r. ⌜ r ≡ holderPlace (placesIn (now (pens .entry))) (now (pens .entry)) key ⌝ }
-    ensures force { λ r. ⌜ ((offered : List ℕ) → bytesAt r (now (pens .entry)) offered ≡ holderInForce (placesIn (now (pens .entry))) (now (pens .entry)) key offered) ⌝ }
+    ensures place { result ≡ holder_place (places_in pens.now) pens.now key }
+    ensures force { (offered : List ℕ) → bytes_at result pens.now offered ≡ holder_in_force (places_in pens.now) pens.now key offered }
 {
     let places = instance_places::places_in(pens);
     if refusal_of(pens, places) != 0 {
@@ -295,7 +289,7 @@ pub fn holder_place(pens: &[u8], key: Guid) -> HolderPlace
 
 // The bytes from which the key was made: those stored, else, and where the table would be refused, all that are offered.
 pub fn holder_in_force<'a>(pens: &'a [u8], key: Guid, offered: &'a [u8]) -> &'a [u8]
-    ensures { λ r. ⌜ now r ≡ holderInForce (placesIn (now (pens .entry))) (now (pens .entry)) key (now (offered .entry)) ⌝ }
+    ensures { result.now ≡ holder_in_force (places_in pens.now) pens.now key offered.now }
 {
     let p = holder_place(pens, key);
     let stored = p.stored;
@@ -312,8 +306,8 @@ pub fn holder_in_force<'a>(pens: &'a [u8], key: Guid, offered: &'a [u8]) -> &'a 
 
 // Whether the GUID is among the first n of a list.
 fn has_guid(list: &[u8], n: usize, g: Guid) -> bool
-    requires { ⌜ n * 16 ≤ length (now list) ⌝ }
-    ensures { λ r. ⌜ r ≡ has g (guidsIn n (now (list .entry))) ⌝ }
+    requires { n * 16 ≤ length list.now }
+    ensures { result ≡ has g (guids_in n list.now) }
 {
     let mut i = 0;
     while i < n {
@@ -327,8 +321,8 @@ fn has_guid(list: &[u8], n: usize, g: Guid) -> bool
 
 // Whether an instance is alive and has the GUID among its writers.
 fn writes(r: &[u8], g: Guid) -> bool
-    requires { ⌜ (length (now r) ≡ 512) × (instanceOk (instanceOf (now r)) ≡ true) ⌝ }
-    ensures { λ b. ⌜ b ≡ writesIn g (instanceOf (now (r .entry))) ⌝ }
+    requires { (length r.now ≡ 512) × (instance_ok (instance_of r.now) ≡ true) }
+    ensures { result ≡ writesIn g (instance_of r.now) }
 {
     let flags = octets::get_u16(r, 24);
     if 16384 <= flags {
@@ -339,8 +333,8 @@ fn writes(r: &[u8], g: Guid) -> bool
 
 // The place of the first alive instance with the GUID among its writers, count where there is none.
 fn writer_place(pens: &[u8], places: usize, count: usize, g: Guid) -> usize
-    requires { ⌜ (tableRefusal places (now pens) ≡ 0) × (count ≡ usedIn places (now pens)) ⌝ }
-    ensures { λ r. ⌜ r ≡ placeOf (writesIn g) (tableOf places (now (pens .entry))) ⌝ }
+    requires { (table_refusal places pens.now ≡ 0) × (count ≡ used_in places pens.now) }
+    ensures { result ≡ place_of (writesIn g) (table_of places pens.now) }
 {
     let mut place = 0;
     while place < count {
@@ -356,7 +350,7 @@ fn writer_place(pens: &[u8], places: usize, count: usize, g: Guid) -> usize
 
 // The handle of the first alive instance in key order that has the GUID among its writers.
 pub fn writer_lookup(pens: &[u8], guid: Guid) -> FoundHandle
-    ensures { λ r. ⌜ r ≡ lookupRead (placesIn (now (pens .entry))) (now (pens .entry)) guid ⌝ }
+    ensures { result ≡ lookup_read (places_in pens.now) pens.now guid }
 {
     let places = instance_places::places_in(pens);
     let number = refusal_of(pens, places);
@@ -372,7 +366,7 @@ pub fn writer_lookup(pens: &[u8], guid: Guid) -> FoundHandle
 
 // Whether a mask of views takes an instance: NEW is 1, NOT_NEW 2.
 fn view_in(view_states: u32, view_new: bool) -> bool
-    ensures { λ r. ⌜ r ≡ viewIn «view_states» «view_new» ⌝ }
+    ensures { result ≡ view_in view_states view_new }
 {
     if view_new {
         view_states % 2 == 1
@@ -383,8 +377,8 @@ fn view_in(view_states: u32, view_new: bool) -> bool
 
 // Whether each of the n writers of an instance is among the m GUIDs gone.
 fn all_gone(r: &[u8], n: usize, gone: &[u8], m: usize) -> bool
-    requires { ⌜ (256 + n * 16 ≤ length (now r)) × (m * 16 ≤ length (now gone)) ⌝ }
-    ensures { λ b. ⌜ b ≡ all (among (guidsIn m (now (gone .entry)))) (guidsIn n (drop 256 (now (r .entry)))) ⌝ }
+    requires { (256 + n * 16 ≤ length r.now) × (m * 16 ≤ length gone.now) }
+    ensures { result ≡ all (among (guids_in m gone.now)) (guids_in n (drop 256 r.now)) }
 {
     let mut i = 0;
     while i < n {
@@ -398,8 +392,8 @@ fn all_gone(r: &[u8], n: usize, gone: &[u8], m: usize) -> bool
 
 // Whether an alive instance of one of the views has writers, and the m GUIDs gone are all of them.
 fn left_with(r: &[u8], gone: &[u8], m: usize, view_states: u32) -> bool
-    requires { ⌜ (length (now r) ≡ 512) × (instanceOk (instanceOf (now r)) ≡ true) × (m * 16 ≤ length (now gone)) ⌝ }
-    ensures { λ b. ⌜ b ≡ leftWith (guidsIn m (now (gone .entry))) «view_states» (instanceOf (now (r .entry))) ⌝ }
+    requires { (length r.now ≡ 512) × (instance_ok (instance_of r.now) ≡ true) × (m * 16 ≤ length gone.now) }
+    ensures { result ≡ left_with (guids_in m gone.now) view_states (instance_of r.now) }
 {
     let f = octets::get_u16(r, 24);
     if 16384 <= f {
@@ -417,8 +411,8 @@ fn left_with(r: &[u8], gone: &[u8], m: usize, view_states: u32) -> bool
 
 // The number of the refusal for the table and a list of GUIDs, 0 for none.
 fn list_refusal(pens: &[u8], places: usize, gone: &[u8]) -> u8
-    requires { ⌜ places ≤ 128 ⌝ }
-    ensures { λ r. ⌜ r ≡ listRefusal places (now (pens .entry)) (now (gone .entry)) ⌝ }
+    requires { places ≤ 128 }
+    ensures { result ≡ list_refusal places pens.now gone.now }
 {
     if gone.len() % 16 != 0 {
         return 1;
@@ -438,8 +432,8 @@ fn left_place(
     m: usize,
     view_states: u32,
 ) -> usize
-    requires { ⌜ (tableRefusal places (now pens) ≡ 0) × (count ≡ usedIn places (now pens)) × (m * 16 ≤ length (now gone)) ⌝ }
-    ensures { λ r. ⌜ r ≡ placeOf (leftWith (guidsIn m (now (gone .entry))) «view_states») (tableOf places (now (pens .entry))) ⌝ }
+    requires { (table_refusal places pens.now ≡ 0) × (count ≡ used_in places pens.now) × (m * 16 ≤ length gone.now) }
+    ensures { result ≡ place_of (left_with (guids_in m gone.now) view_states) (table_of places pens.now) }
 {
     let mut i = 0;
     while i < count {
@@ -455,7 +449,7 @@ fn left_place(
 
 // Whether losing the GUIDs gone would leave some instance of the views without writers.
 pub fn would_leave_writerless(pens: &[u8], gone: &[u8], view_states: u32) -> Decision
-    ensures { λ r. ⌜ r ≡ wouldLeaveRead (placesIn (now (pens .entry))) (now (pens .entry)) (now (gone .entry)) «view_states» ⌝ }
+    ensures { result ≡ would_leave_read (places_in pens.now) pens.now gone.now view_states }
 {
     let places = instance_places::places_in(pens);
     let number = list_refusal(pens, places, gone);
@@ -478,10 +472,10 @@ fn list_left(
     out: &mut [u8],
     k: usize,
 ) -> usize
-    requires { ⌜ (i * 512 + 512 ≤ length (now pens)) × (instanceOk (instanceOf (recordAt (now pens) i)) ≡ true) × (m * 16 ≤ length (now gone)) × (k * 8 + 8 ≤ length (now out)) ⌝ }
-    ensures count { λ r. ⌜ r ≡ k + cond (leftWith (guidsIn m (now (gone .entry))) «view_states» (instanceOf (recordAt (now (pens .entry)) i))) 1 0 ⌝ }
-    ensures written { λ _. ⌜ now (out .exit) ≡ cond (leftWith (guidsIn m (now (gone .entry))) «view_states» (instanceOf (recordAt (now (pens .entry)) i)))
-        (put 8 (now (out .entry)) (k * 8) (instanceOf (recordAt (now (pens .entry)) i) .handle .0)) (now (out .entry)) ⌝ }
+    requires { (i * 512 + 512 ≤ length pens.now) × (instance_ok (instance_of (record_at pens.now i)) ≡ true) × (m * 16 ≤ length gone.now) × (k * 8 + 8 ≤ length out.old) }
+    ensures count { result ≡ k + cond (left_with (guids_in m gone.now) view_states (instance_of (record_at pens.now i))) 1 0 }
+    ensures written { out.new ≡ cond (left_with (guids_in m gone.now) view_states (instance_of (record_at pens.now i)))
+        (put 8 out.old (k * 8) (instance_of (record_at pens.now i)).handle.0) out.old }
 {
     let o = i * 512;
     let e = o + 512;
@@ -502,8 +496,8 @@ fn list_all_left(
     view_states: u32,
     out: &mut [u8],
 ) -> usize
-    requires { ⌜ (tableRefusal places (now pens) ≡ 0) × (m * 16 ≤ length (now gone)) × (places * 8 ≤ length (now out)) ⌝ }
-    ensures { λ r. ⌜ ListedBy (leftWith (guidsIn m (now (gone .entry))) «view_states») (tableOf places (now (pens .entry))) (now (out .entry)) r (now (out .exit)) ⌝ }
+    requires { (table_refusal places pens.now ≡ 0) × (m * 16 ≤ length gone.now) × (places * 8 ≤ length out.old) }
+    ensures { ListedBy (left_with (guids_in m gone.now) view_states) (table_of places pens.now) out.old result out.new }
 {
     let count = instance_table::used(pens, places);
     let mut i = 0;
@@ -518,8 +512,8 @@ fn list_all_left(
 // The handles of the instances of the views that losing the GUIDs gone leaves without writers, in key order, 8 bytes each
 // from the front of Out. How many there are.
 pub fn left_writerless(pens: &[u8], gone: &[u8], view_states: u32, out: &mut [u8]) -> Listing
-    ensures answer { λ r. ⌜ r ≡ leftRead (placesIn (now (pens .entry))) (now (pens .entry)) (now (gone .entry)) «view_states» (now (out .entry)) ⌝ }
-    ensures list { λ _. ⌜ now (out .exit) ≡ leftOut (placesIn (now (pens .entry))) (now (pens .entry)) (now (gone .entry)) «view_states» (now (out .entry)) ⌝ }
+    ensures answer { result ≡ left_read (places_in pens.now) pens.now gone.now view_states out.old }
+    ensures list { out.new ≡ left_out (places_in pens.now) pens.now gone.now view_states out.old }
 {
     if out.len() != 4096 {
         return Listing::Refused(1);

@@ -3,24 +3,21 @@
 // Derives from instance_tracker.rs of ZeroDDS.
 // Copyright 2026 ZeroDDS Contributors. SPDX-License-Identifier: Apache-2.0. Changed: written anew in Rattle, with one table
 // for what the Rust says method by method.
-use model::FieldUse;
-use model::InstanceCall;
-use model::Reach;
-use model::Report;
-use model::Rule;
-use model::Says;
-ghost use mathlib.Core.Option.{some};
-ghost use mathlib.Core.Path.{_≡_};
-ghost use Prim.Native.Nat.{_≤_};
-ghost use Rattle·model.specs.Calls.{instances, lastInstance, callOfCode};
-ghost use Rattle·model.specs.Instances.{onOne, adding, onAll, rule, startsBy, limitedBy, isEvery};
+#![tactic(auto)]
+
+ghost use Rattle.std.proofs.Math.Option.{some};
+ghost use Rattle.std.specs.Prelude.{◌≡◌, ◌≤◌};
+ghost use Rattle.model.specs.Calls.{instances, last_instance, call_of_code};
+ghost use Rattle.model.specs.Instances.{on_one, adding, on_all, rule, starts_by, limited_by, is_every};
+
+use model::{FieldUse, InstanceCall, Reach, Report, Rule, Says};
 
 // ---- codes
 
 // The call on instances of a code from 1 to 21.
 pub fn instance_call(code: u8) -> InstanceCall
-    requires { ⌜ (1 ≤ code) × (code ≤ lastInstance) ⌝ }
-    ensures { λ r. ⌜ callOfCode code ≡ some (instances r) ⌝ }
+    requires { (1 ≤ code) × (code ≤ last_instance) }
+    ensures { call_of_code code ≡ some (instances result) }
 {
     match code {
         1 => InstanceCall::Register,
@@ -51,7 +48,7 @@ pub fn instance_call(code: u8) -> InstanceCall
 
 // A call on one instance.
 fn on_one(reach: Reach, time_1: FieldUse, time_2: FieldUse, holder: FieldUse, says: Says) -> Rule
-    ensures { λ r. ⌜ r ≡ onOne reach «time_1» «time_2» holder says ⌝ }
+    ensures { result ≡ on_one reach time_1 time_2 holder says }
 {
     Rule {
         reach: reach,
@@ -66,7 +63,7 @@ fn on_one(reach: Reach, time_1: FieldUse, time_2: FieldUse, holder: FieldUse, sa
 
 // One that puts a GUID into the writer set.
 fn adding(reach: Reach, time_1: FieldUse, time_2: FieldUse, holder: FieldUse, says: Says) -> Rule
-    ensures { λ r. ⌜ r ≡ adding reach «time_1» «time_2» holder says ⌝ }
+    ensures { result ≡ adding reach time_1 time_2 holder says }
 {
     Rule {
         reach: reach,
@@ -81,7 +78,7 @@ fn adding(reach: Reach, time_1: FieldUse, time_2: FieldUse, holder: FieldUse, sa
 
 // A call on every instance.
 fn on_all(time_1: FieldUse, time_2: FieldUse, reports: Report) -> Rule
-    ensures { λ r. ⌜ r ≡ onAll «time_1» «time_2» reports ⌝ }
+    ensures { result ≡ on_all time_1 time_2 reports }
 {
     Rule {
         reach: Reach::Every,
@@ -96,7 +93,7 @@ fn on_all(time_1: FieldUse, time_2: FieldUse, reports: Report) -> Rule
 
 // The table of the calls.
 pub fn rule_of(c: InstanceCall) -> Rule
-    ensures { λ r. ⌜ r ≡ rule c ⌝ }
+    ensures { result ≡ rule c }
 {
     match c {
         InstanceCall::Register => on_one(
@@ -235,7 +232,7 @@ pub fn rule_of(c: InstanceCall) -> Rule
 
 // It starts an absent instance.
 pub fn starts(r: Reach) -> bool
-    ensures { λ b. ⌜ b ≡ startsBy r ⌝ }
+    ensures { result ≡ starts_by r }
 {
     match r {
         Reach::ByKey => false,
@@ -248,7 +245,7 @@ pub fn starts(r: Reach) -> bool
 
 // It does so up to a limit.
 pub fn is_limited(r: Reach) -> bool
-    ensures { λ b. ⌜ b ≡ limitedBy r ⌝ }
+    ensures { result ≡ limited_by r }
 {
     match r {
         Reach::ByKey => false,
@@ -261,7 +258,7 @@ pub fn is_limited(r: Reach) -> bool
 
 // It is on every instance.
 pub fn is_every(r: Reach) -> bool
-    ensures { λ b. ⌜ b ≡ isEvery r ⌝ }
+    ensures { result ≡ is_every r }
 {
     match r {
         Reach::ByKey => false,

@@ -4,32 +4,24 @@
 // Derives from instance_tracker.rs of ZeroDDS.
 // Copyright 2026 ZeroDDS Contributors. SPDX-License-Identifier: Apache-2.0. Changed: written anew in Rattle; an instance is
 // a value that goes in and comes back.
-use instance_fields::always;
-use instance_fields::given_holder;
-use instance_fields::if_present;
-use instance_fields::revived_new;
-use instance_fields::sampled_at;
-use instance_fields::stored;
-use instance_fields::with_delivery;
-use instance_fields::with_holder;
-use instance_fields::with_life;
-use instance_fields::with_samples;
-use instance_fields::with_times;
-use instance_fields::with_view;
-use instance_fields::writer_noted;
-use model::InstanceState;
-use model::MaybeTime;
-use model::Sheet;
-ghost use mathlib.Core.Path.{_≡_};
-ghost use Rattle·model.specs.Instances.{counted, lifecycleObserved, admittedObserved, admittedNoted, deliveryRecorded, viewed, drained};
-ghost use Rattle·writer_set.specs.Places.{Sound};
-ghost use Rattle·instance_fields.specs.Usable.{UsableLife, Room};
+#![tactic(auto)]
+
+ghost use Rattle.std.specs.Prelude.{◌≡◌};
+ghost use Rattle.model.specs.Instances.{counted, lifecycle_observed, admitted_observed, admitted_noted, delivery_recorded, viewed, drained};
+ghost use Rattle.writer_set.specs.Places.{Sound};
+ghost use Rattle.instance_fields.specs.Usable.{UsableLife, Room};
+
+use instance_fields::{
+    always, given_holder, if_present, revived_new, sampled_at, stored, with_delivery, with_holder,
+    with_life, with_samples, with_times, with_view, writer_noted,
+};
+use model::{InstanceState, MaybeTime, Sheet};
 
 // ---- the parts of which the calls are made
 
 // One more sample, stopping at 2^32 - 1.
 fn counted(x: InstanceState) -> InstanceState
-    ensures { λ r. ⌜ r ≡ counted x ⌝ }
+    ensures { result ≡ counted x }
 {
     let l = x.life;
     let n = numbers::saturating_add_u32(l.samples, 1);
@@ -40,7 +32,7 @@ fn counted(x: InstanceState) -> InstanceState
 
 // A lifecycle sample is observed: a given holder replaces the one there; nothing is revived.
 pub fn lifecycle_observed(s: Sheet, x: InstanceState) -> InstanceState
-    ensures { λ r. ⌜ r ≡ lifecycleObserved s x ⌝ }
+    ensures { result ≡ lifecycle_observed s x }
 {
     let old = x.holder;
     let new = s.holder;
@@ -51,8 +43,8 @@ pub fn lifecycle_observed(s: Sheet, x: InstanceState) -> InstanceState
 
 // A data sample is observed: it revives, and its holder is stored where none is.
 pub fn admitted_observed(s: Sheet, x: InstanceState) -> InstanceState
-    requires { ⌜ UsableLife (x .life) ⌝ }
-    ensures { λ r. ⌜ r ≡ admittedObserved s x ⌝ }
+    requires { UsableLife x.life }
+    ensures { result ≡ admitted_observed s x }
 {
     let l = x.life;
     let old = x.holder;
@@ -65,8 +57,8 @@ pub fn admitted_observed(s: Sheet, x: InstanceState) -> InstanceState
 
 // A data sample is admitted: its writer is noted, time 1 serves the order, time 2 the filter.
 pub fn admitted_noted(s: Sheet, x: InstanceState) -> InstanceState
-    requires { ⌜ Sound (x .writers) × Room (s .guid) x ⌝ }
-    ensures { λ r. ⌜ r ≡ admittedNoted s x ⌝ }
+    requires { Sound x.writers × Room s.guid x }
+    ensures { result ≡ admitted_noted s x }
 {
     let g = s.guid;
     let t = x.times;
@@ -78,7 +70,7 @@ pub fn admitted_noted(s: Sheet, x: InstanceState) -> InstanceState
 
 // A delivery is recorded, for the order and for the filter.
 pub fn delivery_recorded(at: MaybeTime, x: InstanceState) -> InstanceState
-    ensures { λ r. ⌜ r ≡ deliveryRecorded at x ⌝ }
+    ensures { result ≡ delivery_recorded at x }
 {
     let t = x.times;
     with_times(with_delivery(at, at, t), x)
@@ -88,7 +80,7 @@ pub fn delivery_recorded(at: MaybeTime, x: InstanceState) -> InstanceState
 
 // View-new is set or cleared (DDS 1.4, 2.2.2.5.1.8).
 pub fn viewed(v: bool, x: InstanceState) -> InstanceState
-    ensures { λ r. ⌜ r ≡ viewed v x ⌝ }
+    ensures { result ≡ viewed v x }
 {
     let l = x.life;
     with_life(with_view(v, l), x)
@@ -96,7 +88,7 @@ pub fn viewed(v: bool, x: InstanceState) -> InstanceState
 
 // n samples fewer, stopping at 0.
 pub fn drained(n: u32, x: InstanceState) -> InstanceState
-    ensures { λ r. ⌜ r ≡ drained n x ⌝ }
+    ensures { result ≡ drained n x }
 {
     let l = x.life;
     let left = numbers::saturating_sub_u32(l.samples, n);

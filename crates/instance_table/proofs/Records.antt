@@ -1,39 +1,33 @@
 -- The test of the first records, and the whole test of a table.
---     recordTest, recordsTest            of one record's bytes, and of the first n records
---     records-first, records-none        the first record apart; of no record
---     table-by                           the whole test, from its parts in the order of the code
-use Prim.Native.Nat.{ℕ, zero, suc, _*_}
-use mathlib.Core.Bool.{Bool, true, false, _&&_}
-use mathlib.Core.List.{List}
-use mathlib.Core.Path.{_≡_, refl, sym, _∙_}
-use native.Mathlib.Omega.{arith}
-use lib.Dec.{leb, ltb}
-use lib.ListN.{take, drop}
-use Rattle·octets.specs.Zeros.{allZero}
-use Rattle·octets.proofs.Laws.{be-part}
-use Rattle·model.specs.InstanceRecord.{flagsAt, instanceOf}
-use Rattle·model.specs.Layout.{readRows}
-use Rattle·model.specs.State.{instanceKey, instancesIn}
-use Rattle·model.specs.Tables.{all, rising}
-use Rattle·model.specs.WellFormed.{instanceOk, kindsOk, instancesOk, instanceTableOk, handleBelow, handlesDistinct}
-use Rattle·tables.proofs.RecordTests.{swap}
+--     record_test, records_test            of one record's bytes, and of the first n records
+--     records-first, records_none        the first record apart; of no record
+--     table_by                           the whole test, from its parts in the order of the code
+use Rattle.std.proofs.Common.{◌≡◌, ℕ, zero, suc, ◌*◌, Bool, true, false, ◌&&◌, ltb, leb, List, take, drop, sym, refl, ◌∙◌, arith}
+use Rattle.octets.specs.Zeros.{all_zero}
+use Rattle.octets.proofs.Laws.{be-part}
+use Rattle.model.specs.InstanceRecord.{flags_at, instance_of}
+use Rattle.model.specs.Layout.{read_rows}
+use Rattle.model.specs.State.{instance_key, instances_in}
+use Rattle.model.specs.Tables.{all, rising}
+use Rattle.model.specs.WellFormed.{instance_ok, kinds_ok, instances_ok, instance_table_ok, handle_below, handles_distinct}
+use Rattle.tables.proofs.RecordTests.{swap}
 
 -- kind is no 3, and the instance is as section 2 asks
-abbrev pub recordTest : List ℕ → Bool
-recordTest r = ltb (flagsAt r) 49152 && instanceOk (instanceOf r)
+abbrev pub record_test : List ℕ → Bool
+record_test r = ltb (flags_at r) 49152 && instance_ok (instance_of r)
 
-abbrev pub recordsTest : ℕ → List ℕ → Bool
-recordsTest n t = kindsOk n t && all instanceOk (instancesIn n t)
+abbrev pub records_test : ℕ → List ℕ → Bool
+records_test n t = kinds_ok n t && all instance_ok (instances_in n t)
 
-pub records-first : (n : ℕ) (t : List ℕ) → recordsTest (suc n) t ≡ (recordTest (take 512 t) && recordsTest n (drop 512 t))
-unfolding kindsOk all readRows
+pub records-first : (n : ℕ) (t : List ℕ) → records_test (suc n) t ≡ (record_test (take 512 t) && records_test n (drop 512 t))
+unfolding kinds_ok all read_rows
 records-first n t =
-    let e : flagsAt (take 512 t) ≡ flagsAt t = be-part 2 512 0 t 24 (omega arith) in
-    rw e (swap (ltb (flagsAt t) 49152) (kindsOk n (drop 512 t)) (instanceOk (instanceOf (take 512 t))) (all instanceOk (instancesIn n (drop 512 t))))
+    let e : flags_at (take 512 t) ≡ flags_at t = be-part 2 512 0 t 24 (omega arith) in
+    rw e (swap (ltb (flags_at t) 49152) (kinds_ok n (drop 512 t)) (instance_ok (instance_of (take 512 t))) (all instance_ok (instances_in n (drop 512 t))))
 
-pub records-none : (t : List ℕ) → recordsTest zero t ≡ true
-unfolding kindsOk all readRows
-records-none t = refl
+pub records_none : (t : List ℕ) → records_test zero t ≡ true
+unfolding kinds_ok all read_rows
+records_none t = refl
 
 -- ---- the table
 
@@ -45,17 +39,17 @@ regroup true true false r i h d = refl
 regroup true false k r i h d = refl
 regroup false b k r i h d = refl
 
-table-regrouped : (places count next : ℕ) (t : List ℕ) →
-    instanceTableOk places count next t
-    ≡ (leb count places && (allZero (drop (count * 512) t) && (recordsTest count t && (rising instanceKey (instancesIn count t)
-    && (all (handleBelow next) (instancesIn count t) && handlesDistinct (instancesIn count t))))))
-unfolding instanceTableOk instancesOk
-table-regrouped places count next t =
-    regroup (leb count places) (allZero (drop (count * 512) t)) (kindsOk count t) (rising instanceKey (instancesIn count t))
-    (all instanceOk (instancesIn count t)) (all (handleBelow next) (instancesIn count t)) (handlesDistinct (instancesIn count t))
+table_regrouped : (places count next : ℕ) (t : List ℕ) →
+    instance_table_ok places count next t
+    ≡ (leb count places && (all_zero (drop (count * 512) t) && (records_test count t && (rising instance_key (instances_in count t)
+    && (all (handle_below next) (instances_in count t) && handles_distinct (instances_in count t))))))
+unfolding instance_table_ok instances_ok
+table_regrouped places count next t =
+    regroup (leb count places) (all_zero (drop (count * 512) t)) (kinds_ok count t) (rising instance_key (instances_in count t))
+    (all instance_ok (instances_in count t)) (all (handle_below next) (instances_in count t)) (handles_distinct (instances_in count t))
 
 -- the whole test, from its parts
-pub table-by : (places count next : ℕ) (t : List ℕ) {a b k r h : Bool} → leb count places ≡ a → allZero (drop (count * 512) t) ≡ b → recordsTest count t ≡ k →
-    rising instanceKey (instancesIn count t) ≡ r → (all (handleBelow next) (instancesIn count t) && handlesDistinct (instancesIn count t)) ≡ h →
-    (a && (b && (k && (r && h)))) ≡ instanceTableOk places count next t
-table-by places count next t p q s u v = sym (table-regrouped places count next t ∙ rw (p, q, s, u, v))
+pub table_by : (places count next : ℕ) (t : List ℕ) {a b k r h : Bool} → leb count places ≡ a → all_zero (drop (count * 512) t) ≡ b → records_test count t ≡ k →
+    rising instance_key (instances_in count t) ≡ r → (all (handle_below next) (instances_in count t) && handles_distinct (instances_in count t)) ≡ h →
+    (a && (b && (k && (r && h)))) ≡ instance_table_ok places count next t
+table_by places count next t p q s u v = sym (table_regrouped places count next t ∙ rw (p, q, s, u, v))

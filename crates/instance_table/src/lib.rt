@@ -4,27 +4,24 @@
 // Derives from instance_tracker.rs of ZeroDDS.
 // Copyright 2026 ZeroDDS Contributors. SPDX-License-Identifier: Apache-2.0. Changed: written anew in Rattle, with the map of
 // instances as a table of records in lent bytes.
-use model::Answer;
-use model::Guid;
-use model::Instance;
-use model::InstanceHandle;
+#![tactic(auto)]
+
+ghost use Rattle.std.specs.Prelude.{◌≡◌, ℕ, ◌+◌, ◌*◌, ◌<◌, ◌≤◌, true, ◌&&◌, List, ◌∷◌, ◌++◌, map, length, take, drop, slice_index, slice_set};
+ghost use Rattle.model.specs.Guids.{num};
+ghost use Rattle.model.specs.Instances.{has_handle};
+ghost use Rattle.model.specs.Reads.{used_in, table_ok};
+ghost use Rattle.model.specs.State.{instance_key, instances_in};
+ghost use Rattle.model.specs.Tables.{all, rising};
+ghost use Rattle.model.specs.WellFormed.{instance_ok, other_handle, handle_below, handles_distinct, kinds_ok, instance_table_ok};
+ghost use Rattle.tables.specs.Found.{found_in};
+ghost use Rattle.tables.specs.Places.{place_of};
+ghost use Rattle.instance_table.specs.Laid.{handle_at, Laid};
+
+use model::{Answer, Guid, Instance, InstanceHandle};
 use tables::Found;
-ghost use mathlib.Core.Bool.{true, _&&_};
-ghost use mathlib.Core.List.{List, _∷_, _++_, map};
-ghost use mathlib.Core.Path.{_≡_};
-ghost use Prim.Native.Nat.{ℕ, _+_, _*_, _≤_, _<_};
-ghost use lib.ListN.{length, getD, take, drop, set};
-ghost use Rattle·model.specs.Guids.{num};
-ghost use Rattle·model.specs.Instances.{hasHandle};
-ghost use Rattle·model.specs.Reads.{usedIn, tableOk};
-ghost use Rattle·model.specs.State.{instanceKey, instancesIn};
-ghost use Rattle·model.specs.Tables.{all, rising};
-ghost use Rattle·model.specs.WellFormed.{instanceOk, otherHandle, handleBelow, handlesDistinct, kindsOk, instanceTableOk};
-ghost use Rattle·tables.specs.Found.{foundIn};
-ghost use Rattle·tables.specs.Places.{placeOf};
-ghost use Rattle·instance_table·specs.specs.Laid.{handleAt, Laid};
 
 // What a call on the table leaves by value.
+#[derive(Clone, Copy)]
 pub struct TableCall {
     pub answer: Answer,
     pub count: u32,
@@ -35,16 +32,16 @@ pub struct TableCall {
 
 // The handle of record i, as a number.
 fn number_at(t: &[u8], i: usize) -> u64
-    requires { ⌜ i * 512 + 512 ≤ length (now t) ⌝ }
-    ensures { λ r. ⌜ r ≡ handleAt (now (t .entry)) i ⌝ }
+    requires { i * 512 + 512 ≤ length t.now }
+    ensures { result ≡ handle_at t.now i }
 {
     octets::get_u64(t, i * 512 + 16)
 }
 
 // Whether none of the first n instances has the handle h.
 fn is_unused(t: &[u8], n: usize, h: u64) -> bool
-    requires { ⌜ n * 512 ≤ length (now t) ⌝ }
-    ensures { λ r. ⌜ r ≡ all (otherHandle h) (instancesIn n (now (t .entry))) ⌝ }
+    requires { n * 512 ≤ length t.now }
+    ensures { result ≡ all (other_handle h) (instances_in n t.now) }
 {
     let mut j = 0;
     while j < n {
@@ -58,8 +55,8 @@ fn is_unused(t: &[u8], n: usize, h: u64) -> bool
 
 // The handles of the first count instances are noted in hs, as numbers.
 fn note(t: &[u8], count: usize, hs: &mut [u64; 128])
-    requires { ⌜ (count ≤ 128) × (count * 512 ≤ length (now t)) × (length (now hs) ≡ 128) ⌝ }
-    ensures { λ _. ⌜ ((j : ℕ) → j < count → getD (now (hs .exit)) j 0 ≡ handleAt (now (t .entry)) j) ⌝ }
+    requires { (count ≤ 128) × (count * 512 ≤ length t.now) × (length hs.old ≡ 128) }
+    ensures { (j : ℕ) → j < count → slice_index hs.new j ≡ handle_at t.now j }
 {
     let mut i = 0;
     while i < count {
@@ -70,8 +67,8 @@ fn note(t: &[u8], count: usize, hs: &mut [u64; 128])
 
 // The same as handles_ok, by an order of the handles.
 fn ordered_ok(t: &[u8], count: usize, next: u64) -> bool
-    requires { ⌜ (count ≤ 128) × (count * 512 ≤ length (now t)) ⌝ }
-    ensures { λ r. ⌜ r ≡ (all (handleBelow next) (instancesIn count (now (t .entry))) && handlesDistinct (instancesIn count (now (t .entry)))) ⌝ }
+    requires { (count ≤ 128) × (count * 512 ≤ length t.now) }
+    ensures { result ≡ (all (handle_below next) (instances_in count t.now) && handles_distinct (instances_in count t.now)) }
 {
     let mut hs = [0u64; 128];
     note(t, count, &mut hs);
@@ -85,8 +82,8 @@ fn ordered_ok(t: &[u8], count: usize, next: u64) -> bool
 // 1,024 from all before it needs no comparison. The others are compared one by one, until that took more than an order of
 // all handles takes.
 fn handles_ok(t: &[u8], count: usize, next: u64) -> bool
-    requires { ⌜ count * 512 ≤ length (now t) ⌝ }
-    ensures { λ r. ⌜ r ≡ (all (handleBelow next) (instancesIn count (now (t .entry))) && handlesDistinct (instancesIn count (now (t .entry)))) ⌝ }
+    requires { count * 512 ≤ length t.now }
+    ensures { result ≡ (all (handle_below next) (instances_in count t.now) && handles_distinct (instances_in count t.now)) }
 {
     let mut met = [0u8; 1024];
     let mut scanned = 0;
@@ -117,8 +114,8 @@ fn handles_ok(t: &[u8], count: usize, next: u64) -> bool
 
 // Whether each of the first count records is well formed by itself.
 fn records_ok(t: &[u8], count: usize) -> bool
-    requires { ⌜ count * 512 ≤ length (now t) ⌝ }
-    ensures { λ r. ⌜ r ≡ (kindsOk count (now (t .entry)) && all instanceOk (instancesIn count (now (t .entry)))) ⌝ }
+    requires { count * 512 ≤ length t.now }
+    ensures { result ≡ (kinds_ok count t.now && all instance_ok (instances_in count t.now)) }
 {
     let mut k = 0;
     while k < count {
@@ -134,8 +131,8 @@ fn records_ok(t: &[u8], count: usize) -> bool
 
 // Whether the table is well formed, with so many instances and that next handle.
 pub fn table_ok(t: &[u8], places: usize, count: usize, next: u64) -> bool
-    requires { ⌜ length (now t) ≡ places * 512 ⌝ }
-    ensures { λ r. ⌜ r ≡ instanceTableOk places count next (now (t .entry)) ⌝ }
+    requires { length t.now ≡ places * 512 }
+    ensures { result ≡ instance_table_ok places count next t.now }
 {
     if places < count {
         return false;
@@ -154,8 +151,8 @@ pub fn table_ok(t: &[u8], places: usize, count: usize, next: u64) -> bool
 
 // How many records stand before the first whose handle is 0.
 pub fn used(t: &[u8], places: usize) -> usize
-    requires { ⌜ length (now t) ≡ places * 512 ⌝ }
-    ensures { λ r. ⌜ r ≡ usedIn places (now (t .entry)) ⌝ }
+    requires { length t.now ≡ places * 512 }
+    ensures { result ≡ used_in places t.now }
 {
     let mut i = 0;
     while i < places {
@@ -169,8 +166,8 @@ pub fn used(t: &[u8], places: usize) -> usize
 
 // Whether a table that is lent alone is well formed: some head makes it so.
 pub fn lone_table_ok(t: &[u8], places: usize) -> bool
-    requires { ⌜ length (now t) ≡ places * 512 ⌝ }
-    ensures { λ r. ⌜ r ≡ tableOk places (now (t .entry)) ⌝ }
+    requires { length t.now ≡ places * 512 }
+    ensures { result ≡ table_ok places t.now }
 {
     let count = used(t, places);
     table_ok(t, places, count, 9223372036854775808)
@@ -180,16 +177,16 @@ pub fn lone_table_ok(t: &[u8], places: usize) -> bool
 
 // The place of the key among the first count instances, or the place where its instance would go in.
 pub fn find_key(t: &[u8], count: usize, key: Guid) -> Found
-    requires { ⌜ (count ≤ 128) × (count * 512 ≤ length (now t)) × (rising instanceKey (instancesIn count (now t)) ≡ true) ⌝ }
-    ensures { λ r. ⌜ r ≡ foundIn (map instanceKey (instancesIn count (now (t .entry)))) (num key) ⌝ }
+    requires { (count ≤ 128) × (count * 512 ≤ length t.now) × (rising instance_key (instances_in count t.now) ≡ true) }
+    ensures { result ≡ found_in (map instance_key (instances_in count t.now)) (num key) }
 {
     tables::find(t, 512, count, key)
 }
 
 // The place of the first of count instances that has the handle, count where none has it.
 pub fn find_handle(t: &[u8], count: usize, h: InstanceHandle) -> usize
-    requires { ⌜ count * 512 ≤ length (now t) ⌝ }
-    ensures { λ r. ⌜ r ≡ placeOf (hasHandle h) (instancesIn count (now (t .entry))) ⌝ }
+    requires { count * 512 ≤ length t.now }
+    ensures { result ≡ place_of (has_handle h) (instances_in count t.now) }
 {
     let n = h.0;
     let mut i = 0;
@@ -206,16 +203,16 @@ pub fn find_handle(t: &[u8], count: usize, h: InstanceHandle) -> usize
 
 // The instance at place i becomes x.
 pub fn replace(t: &mut [u8], i: usize, x: Instance)
-    requires { ⌜ (i * 512 + 512 ≤ length (now t)) × (x .state .writers .len < 32) ⌝ }
-    ensures { λ _. ⌜ ((places : ℕ) (xs : List Instance) → Laid places xs (now (t .entry)) → i < length xs → Laid places (set xs i x) (now (t .exit))) ⌝ }
+    requires { (i * 512 + 512 ≤ length t.old) × (x.state.writers.len < 32) }
+    ensures { (places : ℕ) (xs : List Instance) → Laid places xs t.old → i < length xs → Laid places (slice_set xs i x) t.new }
 {
     instance_encoding::put_instance(t, i, x);
 }
 
 // x goes in at place at of the first count instances.
 pub fn insert(t: &mut [u8], count: usize, at: usize, x: Instance)
-    requires { ⌜ (at ≤ count) × (count * 512 + 512 ≤ length (now t)) × (x .state .writers .len < 32) ⌝ }
-    ensures { λ _. ⌜ ((places : ℕ) (xs : List Instance) → Laid places xs (now (t .entry)) → length xs ≡ count → count < places → Laid places (take at xs ++ x ∷ drop at xs) (now (t .exit))) ⌝ }
+    requires { (at ≤ count) × (count * 512 + 512 ≤ length t.old) × (x.state.writers.len < 32) }
+    ensures { (places : ℕ) (xs : List Instance) → Laid places xs t.old → length xs ≡ count → count < places → Laid places (take at xs ++ x ∷ drop at xs) t.new }
 {
     tables::open_gap(t, 512, at, count);
     instance_encoding::put_instance(t, at, x);
@@ -223,8 +220,8 @@ pub fn insert(t: &mut [u8], count: usize, at: usize, x: Instance)
 
 // Of the first count instances only the first kept stay: the places behind them are cleared.
 pub fn truncate(t: &mut [u8], kept: usize, count: usize)
-    requires { ⌜ (kept ≤ count) × (count * 512 ≤ length (now t)) ⌝ }
-    ensures { λ _. ⌜ ((places : ℕ) (xs : List Instance) → Laid places xs (now (t .entry)) → length xs ≡ count → Laid places (take kept xs) (now (t .exit))) ⌝ }
+    requires { (kept ≤ count) × (count * 512 ≤ length t.old) }
+    ensures { (places : ℕ) (xs : List Instance) → Laid places xs t.old → length xs ≡ count → Laid places (take kept xs) t.new }
 {
     octets::clear(t, kept * 512, (count - kept) * 512);
 }

@@ -1,45 +1,45 @@
 -- The test of a record, in the order in which the code tests, and that of the records of a table.
---     times-by, record-by     the six times, and one record, from their parts
+--     times_by, record_by     the six times, and one record, from their parts
 --     records-ok              what model asks of the first n records of a table, record by record
 use Prim.Native.Nat.{ℕ, zero, suc}
-use mathlib.Core.Bool.{Bool, true, false, _&&_, and-assoc, and-false}
-use mathlib.Core.Path.{_≡_, refl, sym, _∙_}
+use mathlib.Core.Bool.{Bool, true, false, ◌&&◌, and_assoc, and-false}
+use mathlib.Core.Path.{◌≡◌, refl, sym, ◌∙◌}
 use mathlib.Core.List.{List}
 use native.Mathlib.Omega.{arith}
 use lib.Dec.{ltb}
 use lib.ListN.{take, drop}
-use Rattle·model.specs.InstanceRecord.{instanceOf, flag, flagsAt, timeAt, lifeOf, timesOf, ownerOf, holderOf, writerSetOf}
-use Rattle·model.specs.Layout.{readRows}
-use Rattle·model.specs.State.{instancesIn}
-use Rattle·model.specs.Tables.{all}
-use Rattle·model.specs.WellFormed.{timeOk, timesOk, ownerOk, holderOk, setOk, lifeOk, instanceStateOk, instanceOk, kindsOk}
-use Rattle·instance_decoding.specs.Parts.{recordOk, recordsOk}
-use Rattle·octets.proofs.Laws.{be-take}
+use Rattle.model.specs.InstanceRecord.{instance_of, flag, flags_at, time_at, life_of, times_of, owner_of, holder_of, writer_set_of}
+use Rattle.model.specs.Layout.{read_rows}
+use Rattle.model.specs.State.{instances_in}
+use Rattle.model.specs.Tables.{all}
+use Rattle.model.specs.WellFormed.{time_ok, times_ok, owner_ok, holder_ok, set_ok, life_ok, instance_state_ok, instance_ok, kinds_ok}
+use Rattle.instance_decoding.specs.Parts.{record_ok, records_ok}
+use Rattle.octets.proofs.Laws.{be-take}
 
-pub times-by : (s : List ℕ) (f : ℕ) {a b c d e g : Bool} → timeOk (timeAt s 44 (flag 4096 f)) ≡ a → timeOk (timeAt s 52 (flag 2048 f)) ≡ b →
-    timeOk (timeAt s 60 (flag 1024 f)) ≡ c → timeOk (timeAt s 68 (flag 512 f)) ≡ d → timeOk (timeAt s 76 (flag 256 f)) ≡ e → timeOk (timeAt s 84 (flag 64 f)) ≡ g →
-    (a && (b && (c && (d && (e && g))))) ≡ timesOk (timesOf s f)
-unfolding timesOk
-times-by s f p q r u v w = sym (rw (p, q, r, u, v, w))
+pub times_by : (s : List ℕ) (f : ℕ) {a b c d e g : Bool} → time_ok (time_at s 44 (flag 4096 f)) ≡ a → time_ok (time_at s 52 (flag 2048 f)) ≡ b →
+    time_ok (time_at s 60 (flag 1024 f)) ≡ c → time_ok (time_at s 68 (flag 512 f)) ≡ d → time_ok (time_at s 76 (flag 256 f)) ≡ e → time_ok (time_at s 84 (flag 64 f)) ≡ g →
+    (a && (b && (c && (d && (e && g))))) ≡ times_ok (times_of s f)
+unfolding times_ok
+times_by s f p q r u v w = sym (rw (p, q, r, u, v, w))
 
-pub record-by : (s : List ℕ) (f : ℕ) → f ≡ flagsAt s → {a b c d e : Bool} → (ltb f 49152 && lifeOk (lifeOf s f)) ≡ a → timesOk (timesOf s f) ≡ b →
-    ownerOk (ownerOf s f) ≡ c → holderOk (holderOf s f) ≡ d → setOk (writerSetOf s f) ≡ e →
-    (a && (b && (c && (d && e)))) ≡ recordOk s
-unfolding instanceOf instanceStateOk
-record-by s f w p q r u v =
+pub record_by : (s : List ℕ) (f : ℕ) → f ≡ flags_at s → {a b c d e : Bool} → (ltb f 49152 && life_ok (life_of s f)) ≡ a → times_ok (times_of s f) ≡ b →
+    owner_ok (owner_of s f) ≡ c → holder_ok (holder_of s f) ≡ d → set_ok (writer_set_of s f) ≡ e →
+    (a && (b && (c && (d && e)))) ≡ record_ok s
+unfolding instance_of instance_state_ok
+record_by s f w p q r u v =
     sym
-    (sym (and-assoc (ltb (flagsAt s) 49152) (lifeOk (lifeOf s (flagsAt s)))
-    (timesOk (timesOf s (flagsAt s)) && (ownerOk (ownerOf s (flagsAt s)) && (holderOk (holderOf s (flagsAt s)) && setOk (writerSetOf s (flagsAt s))))))
+    (sym (and_assoc (ltb (flags_at s) 49152) (life_ok (life_of s (flags_at s)))
+    (times_ok (times_of s (flags_at s)) && (owner_ok (owner_of s (flags_at s)) && (holder_ok (holder_of s (flags_at s)) && set_ok (writer_set_of s (flags_at s))))))
     ∙ rw (← w, p, q, r, u, v))
 
-pub records-ok : (n : ℕ) (t : List ℕ) → recordsOk n t ≡ (kindsOk n t && all instanceOk (instancesIn n t))
-unfolding recordsOk kindsOk readRows all
+pub records-ok : (n : ℕ) (t : List ℕ) → records_ok n t ≡ (kinds_ok n t && all instance_ok (instances_in n t))
+unfolding records_ok kinds_ok read_rows all
 records-ok zero t = refl
 records-ok (suc n) t =
-    let a : Bool = ltb (flagsAt t) 49152 in
-    let b : Bool = instanceOk (instanceOf (take 512 t)) in
-    let k : Bool = kindsOk n (drop 512 t) in
-    let x : Bool = all instanceOk (instancesIn n (drop 512 t)) in
+    let a : Bool = ltb (flags_at t) 49152 in
+    let b : Bool = instance_ok (instance_of (take 512 t)) in
+    let k : Bool = kinds_ok n (drop 512 t) in
+    let x : Bool = all instance_ok (instances_in n (drop 512 t)) in
     rw (be-take 2 512 t 24 (omega arith), records-ok n (drop 512 t)) (across a b k x)
   where
     across : (a b k x : Bool) → ((a && b) && (k && x)) ≡ ((a && k) && (b && x))

@@ -4,22 +4,20 @@
 // Derives from instance_tracker.rs of ZeroDDS.
 // Copyright 2026 ZeroDDS Contributors. SPDX-License-Identifier: Apache-2.0. Changed: written anew in Rattle, with the
 // instance as bytes of a fixed layout.
-ghost use mathlib.Core.Path.{_≡_};
-ghost use mathlib.Core.Bool.{true, _&&_};
-ghost use Prim.Native.Nat.{_+_, _*_, _≤_};
-ghost use lib.Dec.{ltb};
-ghost use lib.ListN.{length, drop};
-ghost use Rattle·octets.specs.Octets.{be};
-ghost use Rattle·model.specs.Guids.{num, less, guidAt, guidsIn};
-ghost use Rattle·model.specs.InstanceRecord.{timeAt, lifeOf, timesOf, ownerOf, holderOf, writerSetOf};
-ghost use Rattle·model.specs.Tables.{rising};
-ghost use Rattle·model.specs.WellFormed.{timeOk, timesOk, ownerOk, holderOk, setOk, lifeOk};
-ghost use Rattle·instance_decoding.specs.Parts.{recordOk};
+#![tactic(auto)]
+
+ghost use Rattle.std.specs.Prelude.{◌≡◌, true, ◌&&◌, ◌+◌, ◌*◌, ◌≤◌, ltb, length, drop};
+ghost use Rattle.octets.specs.Octets.{be};
+ghost use Rattle.model.specs.Guids.{num, less, guid_at, guids_in};
+ghost use Rattle.model.specs.InstanceRecord.{time_at, life_of, times_of, owner_of, holder_of, writer_set_of};
+ghost use Rattle.model.specs.Tables.{rising};
+ghost use Rattle.model.specs.WellFormed.{time_ok, times_ok, owner_ok, holder_ok, set_ok, life_ok};
+ghost use Rattle.instance_decoding.specs.Parts.{record_ok};
 
 // A time that is present has nanoseconds below 10^9; an absent one is zero.
 fn time_ok(s: &[u8], at: usize, present: bool) -> bool
-    requires { ⌜ at + 8 ≤ length (now s) ⌝ }
-    ensures { λ r. ⌜ r ≡ timeOk (timeAt (now (s .entry)) at present) ⌝ }
+    requires { at + 8 ≤ length s.now }
+    ensures { result ≡ time_ok (time_at s.now at present) }
 {
     if !present {
         return octets::get_u64(s, at) == 0;
@@ -29,8 +27,8 @@ fn time_ok(s: &[u8], at: usize, present: bool) -> bool
 
 // Each of the six times is valid.
 fn times_ok(s: &[u8], f: u16) -> bool
-    requires { ⌜ length (now s) ≡ 512 ⌝ }
-    ensures { λ r. ⌜ r ≡ timesOk (timesOf (now (s .entry)) f) ⌝ }
+    requires { length s.now ≡ 512 }
+    ensures { result ≡ times_ok (times_of s.now f) }
 {
     if !time_ok(s, 44, f / 4096 % 2 == 1) {
         return false;
@@ -52,8 +50,8 @@ fn times_ok(s: &[u8], f: u16) -> bool
 
 // The kind is one of three, and the generations are not negative.
 fn life_ok(s: &[u8], f: u16) -> bool
-    requires { ⌜ length (now s) ≡ 512 ⌝ }
-    ensures { λ r. ⌜ r ≡ (ltb f 49152 && lifeOk (lifeOf (now (s .entry)) f)) ⌝ }
+    requires { length s.now ≡ 512 }
+    ensures { result ≡ (ltb f 49152 && life_ok (life_of s.now f)) }
 {
     let d = octets::get_u32(s, 28);
     let n = octets::get_u32(s, 32);
@@ -62,8 +60,8 @@ fn life_ok(s: &[u8], f: u16) -> bool
 
 // An absent owner is zero.
 fn owner_ok(s: &[u8], f: u16) -> bool
-    requires { ⌜ length (now s) ≡ 512 ⌝ }
-    ensures { λ r. ⌜ r ≡ ownerOk (ownerOf (now (s .entry)) f) ⌝ }
+    requires { length s.now ≡ 512 }
+    ensures { result ≡ owner_ok (owner_of s.now f) }
 {
     if f / 128 % 2 == 1 {
         return true;
@@ -76,8 +74,8 @@ fn owner_ok(s: &[u8], f: u16) -> bool
 
 // A holder has at most 144 bytes, and zeros behind them; an absent one is zero.
 fn holder_ok(s: &[u8], f: u16) -> bool
-    requires { ⌜ length (now s) ≡ 512 ⌝ }
-    ensures { λ r. ⌜ r ≡ holderOk (holderOf (now (s .entry)) f) ⌝ }
+    requires { length s.now ≡ 512 }
+    ensures { result ≡ holder_ok (holder_of s.now f) }
 {
     let n = octets::get_u16(s, 26) as usize;
     if f / 32 % 2 == 1 {
@@ -93,6 +91,7 @@ fn holder_ok(s: &[u8], f: u16) -> bool
 }
 
 // A GUID beside the one before it: whether it stands behind that one and, where it does, its low half.
+#[derive(Clone, Copy)]
 pub struct Next {
     pub rises: bool,
     pub low: u64,
@@ -102,8 +101,8 @@ pub struct Next {
 // read in either branch, and not before them: so the compiler keeps the branches, and turns the bytes of a half round only
 // where its order is asked for.
 fn next_beside(s: &[u8], at: usize, low: u64) -> Next
-    requires { ⌜ (at + 32 ≤ length (now s)) × (low ≡ be 8 (now s) (at + 8)) ⌝ }
-    ensures { λ r. ⌜ (r .rises ≡ less (guidAt (now (s .entry)) at) (guidAt (now (s .entry)) (at + 16))) × (r .rises ≡ true → r .low ≡ be 8 (now (s .entry)) (at + 24)) ⌝ }
+    requires { (at + 32 ≤ length s.now) × (low ≡ be 8 s.now (at + 8)) }
+    ensures { (result.rises ≡ less (guid_at s.now at) (guid_at s.now (at + 16))) × (result.rises ≡ true → result.low ≡ be 8 s.now (at + 24)) }
 {
     let a = octets::get_u64(s, at);
     let b = octets::get_u64(s, at + 16);
@@ -134,8 +133,8 @@ fn next_beside(s: &[u8], at: usize, low: u64) -> Next
 
 // Whether the six GUIDs from at strictly rise.
 fn six_rise(s: &[u8], at: usize) -> bool
-    requires { ⌜ at + 96 ≤ length (now s) ⌝ }
-    ensures { λ r. ⌜ r ≡ rising num (guidsIn 6 (drop at (now (s .entry)))) ⌝ }
+    requires { at + 96 ≤ length s.now }
+    ensures { result ≡ rising num (guids_in 6 (drop at s.now)) }
 {
     let b = next_beside(s, at, octets::get_u64(s, at + 8));
     if !b.rises {
@@ -159,8 +158,8 @@ fn six_rise(s: &[u8], at: usize) -> bool
 
 // Whether the n GUIDs from at strictly rise, one neighbour a turn.
 fn few_rise(s: &[u8], from: usize, n: usize) -> bool
-    requires { ⌜ from + n * 16 ≤ length (now s) ⌝ }
-    ensures { λ r. ⌜ r ≡ rising num (guidsIn n (drop from (now (s .entry)))) ⌝ }
+    requires { from + n * 16 ≤ length s.now }
+    ensures { result ≡ rising num (guids_in n (drop from s.now)) }
 {
     let mut at = from;
     let mut left = n;
@@ -177,8 +176,8 @@ fn few_rise(s: &[u8], from: usize, n: usize) -> bool
 
 // The first n GUIDs of the writer set strictly rise. Five neighbours a turn, so that what a turn reads is read once.
 fn set_rises(s: &[u8], n: usize) -> bool
-    requires { ⌜ (length (now s) ≡ 512) × (n ≤ 16) ⌝ }
-    ensures { λ r. ⌜ r ≡ rising num (guidsIn n (drop 256 (now (s .entry)))) ⌝ }
+    requires { (length s.now ≡ 512) × (n ≤ 16) }
+    ensures { result ≡ rising num (guids_in n (drop 256 s.now)) }
 {
     let mut at = 256;
     let mut left = n;
@@ -194,8 +193,8 @@ fn set_rises(s: &[u8], n: usize) -> bool
 
 // The writer set has at most 16 GUIDs, which strictly rise, and nil behind them.
 fn set_ok(s: &[u8], f: u16) -> bool
-    requires { ⌜ length (now s) ≡ 512 ⌝ }
-    ensures { λ r. ⌜ r ≡ setOk (writerSetOf (now (s .entry)) f) ⌝ }
+    requires { length s.now ≡ 512 }
+    ensures { result ≡ set_ok (writer_set_of s.now f) }
 {
     let n = (f % 32) as usize;
     if 16 < n {
@@ -209,8 +208,8 @@ fn set_ok(s: &[u8], f: u16) -> bool
 
 // Whether the record is well formed.
 pub fn record_ok(s: &[u8]) -> bool
-    requires { ⌜ length (now s) ≡ 512 ⌝ }
-    ensures { λ r. ⌜ r ≡ recordOk (now (s .entry)) ⌝ }
+    requires { length s.now ≡ 512 }
+    ensures { result ≡ record_ok s.now }
 {
     let f = octets::get_u16(s, 24);
     if !life_ok(s, f) {

@@ -1,57 +1,57 @@
 -- A step of the walker, from what handle_at_position answers.
 --     inside                                a position whose handle is given is below 128
---     step-refused, step-none, step-given   the step, by the answer
-use Prim.Native.Nat.{ℕ, zero, suc, _+_, _≤_, _<_}
+--     step-refused, step_none, step_given   the step, by the answer
+use Prim.Native.Nat.{ℕ, zero, suc, ◌+◌, ◌≤◌, ◌<◌}
 use mathlib.Core.List.{List}
-use mathlib.Core.Path.{_≡_, refl, ap, _∙_}
-use mathlib.Core.Logic.{⊎-elim}
+use mathlib.Core.Path.{◌≡◌, refl, ap, ◌∙◌}
+use mathlib.Core.Logic.{⊎_elim}
 use native.Mathlib.Omega.{arith}
-use Rattle·model.specs.declared.FoundHandle.{FoundHandle}
-use Rattle·model.specs.declared.FoundHandle.the-variants.{Is as foundHandleIs, Missing as foundHandleMissing, Refused as foundHandleRefused}
-use Rattle·model.specs.declared.InstanceHandle.{InstanceHandle}
-use Rattle·model.specs.Reads.{usedIn, tableRefusal, walkRead}
-use Rattle·model.specs.State.{placesIn}
-use Rattle·model.proofs.Figures.{figure-few, figure-in}
-use Rattle·model.proofs.Tests.{lt-or-le}
-use Rattle·instance_reads.proofs.Table.{whole}
-use Rattle·instance_reads.proofs.Walks.{handle-past}
-use Rattle·instance_walker·specs.specs.declared.Walked.{Walked}
-use Rattle·instance_walker·specs.specs.Walk.{walked}
+use Rattle.model.specs.declared.FoundHandle.{FoundHandle}
+use Rattle.model.specs.declared.FoundHandle.TheVariants.{Is as found_handle_is, Missing as found_handle_missing, Refused as found_handle_refused}
+use Rattle.model.specs.declared.InstanceHandle.{InstanceHandle}
+use Rattle.model.specs.Reads.{used_in, table_refusal, walk_read}
+use Rattle.model.specs.State.{places_in}
+use Rattle.model.proofs.Figures.{figure-few, figure-in}
+use Rattle.model.proofs.Tests.{lt-or-le}
+use Rattle.instance_reads.proofs.Table.{whole}
+use Rattle.instance_reads.proofs.Walks.{handle_past}
+use Rattle.instance_walker.specs.declared.Walked.{Walked}
+use Rattle.instance_walker.specs.Walk.{walked}
 
 -- answers of two cases differ
-abbrev caseOf : FoundHandle → ℕ
-caseOf (foundHandleRefused n) = 0
-caseOf foundHandleMissing = 1
-caseOf (foundHandleIs h) = 2
+abbrev case_of : FoundHandle → ℕ
+case_of (found_handle_refused n) = 0
+case_of found_handle_missing = 1
+case_of (found_handle_is h) = 2
 
 module _ (t : List ℕ) (position : ℕ) where
-  pub inside : (h : InstanceHandle) → walkRead (placesIn t) t position ≡ foundHandleIs h → position < 128
-  unfolding walkRead
-  inside h e = each (tableRefusal (placesIn t) t) refl
+  pub inside : (h : InstanceHandle) → walk_read (places_in t) t position ≡ found_handle_is h → position < 128
+  unfolding walk_read
+  inside h e = each (table_refusal (places_in t) t) refl
     where
-      past : tableRefusal (placesIn t) t ≡ 0 → usedIn (placesIn t) t ≤ position → position < 128
+      past : table_refusal (places_in t) t ≡ 0 → used_in (places_in t) t ≤ position → position < 128
       past q l =
-          let z : _≡_ {A = ℕ} 1 2 = ap caseOf (handle-past (placesIn t) t position l ∙ (rw q at e)) in
+          let z : ◌≡◌ {A = ℕ} 1 2 = ap case_of (handle_past (places_in t) t position l ∙ (rw q at e)) in
           absurd (omega arith)
 
-      each : (n : ℕ) → tableRefusal (placesIn t) t ≡ n → position < 128
-      each zero q = ⊎-elim (λ l. omega (arith, whole (placesIn t) t q .few, figure-few (placesIn t) (figure-in t))) (past q) (lt-or-le position (usedIn (placesIn t) t))
+      each : (n : ℕ) → table_refusal (places_in t) t ≡ n → position < 128
+      each zero q = ⊎_elim (λ l. omega (arith, (whole (places_in t) t q).few, figure-few (places_in t) (figure-in t))) (past q) (lt-or-le position (used_in (places_in t) t))
       each (suc n) q =
-          let z : _≡_ {A = ℕ} 0 2 = ap caseOf (rw q at e) in
+          let z : ◌≡◌ {A = ℕ} 0 2 = ap case_of (rw q at e) in
           absurd (omega arith)
 
-  module _ (f : FoundHandle) (e : f ≡ walkRead (placesIn t) t position) where
+  module _ (f : FoundHandle) (e : f ≡ walk_read (places_in t) t position) where
     abbrev stepped : ℕ → Walked
     stepped p = record { found = f; position = p }
 
-    pub step-refused : (n : ℕ) → f ≡ foundHandleRefused n → stepped position ≡ walked (placesIn t) t position
+    pub step-refused : (n : ℕ) → f ≡ found_handle_refused n → stepped position ≡ walked (places_in t) t position
     unfolding walked
     step-refused n a = rw (← e, a) refl
 
-    pub step-none : f ≡ foundHandleMissing → stepped position ≡ walked (placesIn t) t position
+    pub step_none : f ≡ found_handle_missing → stepped position ≡ walked (places_in t) t position
     unfolding walked
-    step-none a = rw (← e, a) refl
+    step_none a = rw (← e, a) refl
 
-    pub step-given : (h : InstanceHandle) → f ≡ foundHandleIs h → stepped (position + 1) ≡ walked (placesIn t) t position
+    pub step_given : (h : InstanceHandle) → f ≡ found_handle_is h → stepped (position + 1) ≡ walked (places_in t) t position
     unfolding walked
-    step-given h a = rw (← e, a) refl
+    step_given h a = rw (← e, a) refl

@@ -4,35 +4,30 @@
 // Derives from instance_tracker.rs and liveliness_tracker.rs of ZeroDDS.
 // Copyright 2026 ZeroDDS Contributors. SPDX-License-Identifier: Apache-2.0. Changed: written anew in Rattle, the calls of
 // the two trackers joined.
-use model::Answer;
-use model::Called;
-use model::Head;
-use model::JoinedCall;
-use model::Sheet;
-ghost use mathlib.Core.Bool.{true};
-ghost use mathlib.Core.List.{[], _∷_};
-ghost use mathlib.Core.Path.{_≡_};
-ghost use Prim.Native.Nat.{_+_, _≤_};
-ghost use lib.ListN.{length};
-ghost use Rattle·model.specs.Answers.{withList};
-ghost use Rattle·model.specs.Call.{judged, lentOf, leftOf};
-ghost use Rattle·model.specs.Calls.{joined};
-ghost use Rattle·model.specs.Guids.{num};
-ghost use Rattle·model.specs.State.{instancesIn};
-ghost use Rattle·model.specs.Tables.{rising};
-ghost use Rattle·model.specs.WellFormed.{lostOk};
-ghost use Rattle·writer_set_bytes.specs.Lists.{gonesIn, Listed};
-ghost use Rattle·instance_table.specs.TableCalls.{TableFormed};
-ghost use Rattle·writer_counts.specs.WriterCalls.{WritersFormed};
-ghost use Rattle·call_laws.specs.Entered.{Entered};
-ghost use Rattle·joined_calls·specs.specs.Losses.{Losable, Loses, goneSince, AdmitJudged, departing, LeaveJudged, LapseJudged};
+#![tactic(auto)]
+
+ghost use Rattle.std.specs.Prelude.{true, [], ◌∷◌, ◌≡◌, ◌+◌, ◌≤◌, length};
+ghost use Rattle.model.specs.Answers.{with_list};
+ghost use Rattle.model.specs.Call.{judged, lent_of, left_of};
+ghost use Rattle.model.specs.Calls.{joined};
+ghost use Rattle.model.specs.Guids.{num};
+ghost use Rattle.model.specs.State.{instances_in};
+ghost use Rattle.model.specs.Tables.{rising};
+ghost use Rattle.model.specs.WellFormed.{lost_ok};
+ghost use Rattle.writer_set_bytes.specs.Lists.{gones_in, Listed};
+ghost use Rattle.instance_table.specs.TableCalls.{TableFormed};
+ghost use Rattle.writer_counts.specs.WriterCalls.{WritersFormed};
+ghost use Rattle.call_laws.specs.Entered.{Entered};
+ghost use Rattle.joined_calls.specs.Losses.{Losable, Loses, gone_since, AdmitJudged, departing, LeaveJudged, LapseJudged};
+
+use model::{Answer, Called, Head, JoinedCall, Sheet};
 
 // ---- a sample admitted
 
 // Code 48: what the sheet decides, then the call on the instances.
 fn admit(s: Sheet, head: Head, pens: &mut [u8], places: usize) -> Called
-    requires { ⌜ TableFormed places (head .«instance_count») (head .«next_handle» .0) (now pens) ⌝ }
-    ensures { λ r. ⌜ AdmitJudged places s head (now (pens .entry)) r (now (pens .exit)) ⌝ }
+    requires { TableFormed places head.instance_count head.next_handle.0 pens.old }
+    ensures { AdmitJudged places s head pens.old result pens.new }
 {
     let number = call_codes::admit_refusal(s);
     if number != 0 {
@@ -49,7 +44,7 @@ fn admit(s: Sheet, head: Head, pens: &mut [u8], places: usize) -> Called
 
 // The answer of a call on the tracker with the owners cleared and the handles in Out.
 fn with_list(a: Answer, count: u32, listed: u32) -> Answer
-    ensures { λ r. ⌜ r ≡ withList a count listed ⌝ }
+    ensures { result ≡ with_list a count listed }
 {
     let due = a.next_due;
     let mut r = answers::saying_due(a.yes, due);
@@ -60,8 +55,8 @@ fn with_list(a: Answer, count: u32, listed: u32) -> Answer
 
 // After a call on the tracker, the writers of a list are dropped from every instance: codes 7 and 18 for one after the other.
 fn lose(called: Called, s: Sheet, pens: &mut [u8], out: &mut [u8], gone: &[u8]) -> Called
-    requires { ⌜ Losable (called .head .«instance_count») (now pens) (now out) × Listed (now gone) ⌝ }
-    ensures { λ r. ⌜ Loses s (gonesIn (now (gone .entry))) (instancesIn (called .head .«instance_count») (now (pens .entry))) called (now (pens .entry)) (now (out .entry)) r (now (pens .exit)) (now (out .exit)) ⌝ }
+    requires { Losable called.head.instance_count pens.old out.old × Listed gone.now }
+    ensures { Loses s (gones_in gone.now) (instances_in called.head.instance_count pens.old) called pens.old out.old result pens.new out.new }
 {
     let h = called.head;
     let a = called.answer;
@@ -81,8 +76,8 @@ fn lose(called: Called, s: Sheet, pens: &mut [u8], out: &mut [u8], gone: &[u8]) 
 
 // The writer that the sheet names is lost, tracked or not.
 fn lose_writer(called: Called, s: Sheet, pens: &mut [u8], out: &mut [u8]) -> Called
-    requires { ⌜ Losable (called .head .«instance_count») (now pens) (now out) ⌝ }
-    ensures { λ r. ⌜ Loses s (s .guid ∷ []) (instancesIn (called .head .«instance_count») (now (pens .entry))) called (now (pens .entry)) (now (out .entry)) r (now (pens .exit)) (now (out .exit)) ⌝ }
+    requires { Losable called.head.instance_count pens.old out.old }
+    ensures { Loses s (s.guid ∷ []) (instances_in called.head.instance_count pens.old) called pens.old out.old result pens.new out.new }
 {
     let g = s.guid;
     let mut gone = [0u8; 16];
@@ -100,8 +95,8 @@ fn leave(
     writers: &mut [u8],
     out: &mut [u8],
 ) -> Called
-    requires { ⌜ WritersFormed head (now writers) × Losable (head .«instance_count») (now pens) (now out) ⌝ }
-    ensures { λ r. ⌜ LeaveJudged (departing lost) s head (now (pens .entry)) (now (writers .entry)) (now (out .entry)) r (now (pens .exit)) (now (writers .exit)) (now (out .exit)) ⌝ }
+    requires { WritersFormed head writers.old × Losable head.instance_count pens.old out.old }
+    ensures { LeaveJudged (departing lost) s head pens.old writers.old out.old result pens.new writers.new out.new }
 {
     let number = call_codes::leave_refusal(s);
     if number != 0 {
@@ -120,10 +115,10 @@ fn lose_expired(
     out: &mut [u8],
     before: u32,
 ) -> Called
-    requires { ⌜ Losable (called .head .«instance_count») (now pens) (now out) × (length (now lost) ≡ 4096) × (before ≤ called .head .«lost_count»)
-        × (called .head .«lost_count» ≤ 256) × (called .head .«lost_count» ≤ before + 128)
-        × (rising num (goneSince before (called .head .«lost_count») (now lost)) ≡ true) ⌝ }
-    ensures { λ r. ⌜ Loses s (goneSince before (called .head .«lost_count») (now (lost .entry))) (instancesIn (called .head .«instance_count») (now (pens .entry))) called (now (pens .entry)) (now (out .entry)) r (now (pens .exit)) (now (out .exit)) ⌝ }
+    requires { Losable called.head.instance_count pens.old out.old × (length lost.now ≡ 4096) × (before ≤ called.head.lost_count)
+        × (called.head.lost_count ≤ 256) × (called.head.lost_count ≤ before + 128)
+        × (rising num (gone_since before called.head.lost_count lost.now) ≡ true) }
+    ensures { Loses s (gone_since before called.head.lost_count lost.now) (instances_in called.head.instance_count pens.old) called pens.old out.old result pens.new out.new }
 {
     let h = called.head;
     let from = before as usize * 16;
@@ -140,9 +135,9 @@ fn lapse(
     lost: &mut [u8],
     out: &mut [u8],
 ) -> Called
-    requires { ⌜ WritersFormed head (now writers) × Losable (head .«instance_count») (now pens) (now out) × (length (now lost) ≡ 4096)
-        × (lostOk (head .«lost_count») (now lost) ≡ true) ⌝ }
-    ensures { λ r. ⌜ LapseJudged s head (now (pens .entry)) (now (writers .entry)) (now (lost .entry)) (now (out .entry)) r (now (pens .exit)) (now (writers .exit)) (now (lost .exit)) (now (out .exit)) ⌝ }
+    requires { WritersFormed head writers.old × Losable head.instance_count pens.old out.old × (length lost.old ≡ 4096)
+        × (lost_ok head.lost_count lost.old ≡ true) }
+    ensures { LapseJudged s head pens.old writers.old lost.old out.old result pens.new writers.new lost.new out.new }
 {
     let number = call_codes::lapse_refusal(s);
     if number != 0 {
@@ -169,9 +164,9 @@ pub fn joined_turn(
     out: &mut [u8],
     places: usize,
 ) -> Called
-    requires { ⌜ (places ≤ 128) × Entered places (lentOf head (now pens) (now writers) (now lost) (now out)) ⌝ }
-    ensures { λ r. ⌜ leftOf r (now (pens .exit)) (now (writers .exit)) (now (lost .exit)) (now (out .exit))
-        ≡ judged places (joined c) s (lentOf head (now (pens .entry)) (now (writers .entry)) (now (lost .entry)) (now (out .entry))) ⌝ }
+    requires { (places ≤ 128) × Entered places (lent_of head pens.old writers.old lost.old out.old) }
+    ensures { left_of result pens.new writers.new lost.new out.new
+        ≡ judged places (joined c) s (lent_of head pens.old writers.old lost.old out.old) }
 {
     match c {
         JoinedCall::Admit => admit(s, head, pens, places),

@@ -3,11 +3,12 @@
 // Derives from key_hash.rs of ZeroDDS.
 // Copyright 2026 ZeroDDS Contributors. SPDX-License-Identifier: Apache-2.0. Changed: written anew in Rattle; a key longer
 // than its stated largest size, and a stated size above 4,096, are refused.
-ghost use mathlib.Core.Path.{_≡_};
-ghost use Prim.Native.Nat.{_≤_};
-ghost use lib.ListN.{length};
-ghost use Rattle·key_hash·specs.specs.KeyHash.{refusal, paddedKey, paddedOrHashed, keyHashOf};
+#![tactic(auto)]
 
+ghost use Rattle.std.specs.Prelude.{◌≡◌, ◌≤◌, length};
+ghost use Rattle.key_hash.specs.KeyHash.{refusal, padded_key, padded_or_hashed, key_hash_of};
+
+#[derive(Clone, Copy)]
 pub struct KeyHashed {
     pub number: u8,
     pub hash: [u8; 16],
@@ -15,7 +16,7 @@ pub struct KeyHashed {
 
 // 15 for a stated size above 4,096, else 14 for a key that is longer than the stated size, else 0.
 fn refusal(key: &[u8], largest: u64) -> u8
-    ensures { λ r. ⌜ r ≡ refusal (now (key .entry)) largest ⌝ }
+    ensures { result ≡ refusal key.now largest }
 {
     let len = key.len() as u64;
     if 4096 < largest {
@@ -29,8 +30,8 @@ fn refusal(key: &[u8], largest: u64) -> u8
 
 // The key, padded with zeros.
 fn padded(key: &[u8]) -> [u8; 16]
-    requires { ⌜ length (now key) ≤ 16 ⌝ }
-    ensures { λ r. ⌜ r ≡ paddedKey (now (key .entry)) ⌝ }
+    requires { length key.now ≤ 16 }
+    ensures { result ≡ padded_key key.now }
 {
     let mut hash = [0u8; 16];
     octets::copy(key, 0, &mut hash, 0, key.len());
@@ -39,18 +40,18 @@ fn padded(key: &[u8]) -> [u8; 16]
 
 // The KeyHash of a key that is not longer than the stated size, which decides: a type's keys are all padded or all hashed.
 fn padded_or_hashed(key: &[u8], largest: u64) -> [u8; 16]
-    requires { ⌜ length (now key) ≤ largest ⌝ }
-    ensures { λ r. ⌜ r ≡ paddedOrHashed (now (key .entry)) largest ⌝ }
+    requires { length key.now ≤ largest }
+    ensures { result ≡ padded_or_hashed key.now largest }
 {
     if largest <= 16 {
         return padded(key);
     }
-    md5::md5(key)
+    md5_digest::md5(key)
 }
 
 // The KeyHash of a serialized key, whose type's largest size is stated.
 pub fn key_hash(key: &[u8], largest: u64) -> KeyHashed
-    ensures { λ r. ⌜ r ≡ keyHashOf (now (key .entry)) largest ⌝ }
+    ensures { result ≡ key_hash_of key.now largest }
 {
     let number = refusal(key, largest);
     if number != 0 {

@@ -17,3 +17,4 @@ pub mod HandleLists
 pub mod CallLaws
 pub mod AdmitLaws
 pub mod TrackerLaws
+pub mod Bench

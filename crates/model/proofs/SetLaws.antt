@@ -1,20 +1,20 @@
 -- Laws of writer sets.
---     members-of               the record of a list holds it
+--     members_of               the record of a list holds it
 --     insert-le, remove-le     lengths
-use Prim.Native.Nat.{suc, _+_, _-_, _≤_}
+use Prim.Native.Nat.{suc, ◌+◌, ◌-◌, ◌≤◌}
 use mathlib.Core.Bool.{Bool, true, false, cond}
-use mathlib.Core.List.{List, [], _∷_}
-use mathlib.Core.Path.{_≡_, refl}
+use mathlib.Core.List.{List, [], ◌∷◌}
+use mathlib.Core.Path.{◌≡◌, refl}
 use native.Mathlib.Omega.{arith}
 use lib.ListN.{length, replicate}
-use lib.Seq.{take-at}
-use Rattle·model·specs.specs.declared.Guid.{Guid}
-use Rattle·model·specs.specs.Guids.{less, same, nil}
-use Rattle·model·specs.specs.Sets.{members, setOf, insert, remove}
+use lib.Seq.{take_at}
+use Rattle.model.specs.declared.Guid.{Guid}
+use Rattle.model.specs.Guids.{less, same, nil}
+use Rattle.model.specs.Sets.{members, set_of, insert, remove}
 
-pub members-of : (s : List Guid) → members (setOf s) ≡ s
-unfolding setOf
-members-of s = take-at s (replicate (16 - length s) nil) (length s) refl
+pub members_of : (s : List Guid) → members (set_of s) ≡ s
+unfolding set_of
+members_of s = take_at s (replicate (16 - length s) nil) (length s) refl
 
 pub insert-le : (g : Guid) (s : List Guid) → length (insert g s) ≤ length s + 1
 unfolding insert

@@ -1,33 +1,27 @@
 -- Section 10: the lettered bench lines and the three traps, and lines on document 02, as rows under one claim: what
 -- the definitions give is what the documents say.
-use Prim.Native.Nat.{ℕ, _+_, _-_, _^_}
-use mathlib.Core.Bool.{Bool, true, false, _&&_}
-use mathlib.Core.List.{List, [], _∷_, _++_}
-use mathlib.Core.Option.{Option, none, some}
-use lib.Dec.{T, eqb}
-use lib.ListN.{length, replicate}
-use Rattle·model·specs.specs.declared.Guid.{Guid}
-use Rattle·model·specs.specs.declared.Instance.{Instance}
-use Rattle·model·specs.specs.declared.InstanceState.{InstanceState}
-use Rattle·model·specs.specs.declared.InstanceStateKind.the-variants.{NotAliveDisposed, NotAliveNoWriters}
-use Rattle·model·specs.specs.declared.MaybeOwner.{MaybeOwner}
-use Rattle·model·specs.specs.declared.MaybeTime.{MaybeTime}
-use Rattle·model·specs.specs.declared.Sheet.{Sheet}
-use Rattle·model·specs.specs.declared.Writer.{Writer}
-use Rattle·model·specs.specs.Calls.{InstanceCall, register, ensureRegisteredLimited, unregister, observeLifecycle, observeAdmitted, acceptUnderExclusiveOwnership, autopurge, TrackerCall, matched, lostWithParticipant, writerAsserted, expire}
-use Rattle·model·specs.specs.Guids.{num}
-use Rattle·model·specs.specs.Handles.{handle, allocated}
-use Rattle·model·specs.specs.InstanceCalls.{Turned, instanceCall, instanceTurn, instancesAfter, begun, nextAfter, lateRefusal, handleBytes}
-use Rattle·model·specs.specs.InstanceRecord.{bit, kindNumber, holderPlaces}
-use Rattle·model·specs.specs.Instances.{startedState, started, withLife, withTimes, withOwner, withSet, withKind, withView, withDisposedAt, withOwnerAt, registered, unregistered, ensured, revived, revivedNew, lifecycleObserved, admittedObserved, admittedNoted, writerNoted, ownershipTried, takesOver, outbids, purged, leftBy}
-use Rattle·model·specs.specs.Joined.{sampled, firstOwned, admitted, admitWith, admitCall}
-use Rattle·model·specs.specs.Reads.{firstWritten}
-use Rattle·model·specs.specs.Sets.{has, insert, setOf}
-use Rattle·model·specs.specs.State.{State, figureOk, smallPlaces, largePlaces, freshState}
-use Rattle·model·specs.specs.Tables.{find, pick, any, put, sift}
-use Rattle·model·specs.specs.Times.{billion, noTime, timeValue, filterAdmits, orderAdmits, deadlineMissed, purgeDue}
-use Rattle·model·specs.specs.WriterRecord.{stateNumber}
-use Rattle·model·specs.specs.Writers.{trackerCall, trackerTurn, trackerState, writersAfter, movers, lastAfter, nextDue, covers, renews, asserted, expires, expired}
+use Rattle.std.specs.Prelude.{ℕ, ◌+◌, ◌-◌, ◌^◌, Bool, true, false, ◌&&◌, List, [], ◌∷◌, ◌++◌, eqb, length, replicate}
+use Rattle.std.proofs.Math.Option.{Option, none, some}
+use Rattle.model.specs.declared.Guid.{Guid}
+use Rattle.model.specs.declared.Instance.{Instance}
+use Rattle.model.specs.declared.InstanceState.{InstanceState}
+use Rattle.model.specs.declared.InstanceStateKind.TheVariants.{NotAliveDisposed, NotAliveNoWriters}
+use Rattle.model.specs.declared.MaybeOwner.{MaybeOwner}
+use Rattle.model.specs.declared.MaybeTime.{MaybeTime}
+use Rattle.model.specs.declared.Sheet.{Sheet}
+use Rattle.model.specs.declared.Writer.{Writer}
+use Rattle.model.specs.Calls.{InstanceCall, register, ensure_registered_limited, unregister, observe_lifecycle, observe_admitted, accept_under_exclusive_ownership, autopurge, TrackerCall, matched, lost_with_participant, writer_asserted, expire}
+use Rattle.model.specs.Guids.{num}
+use Rattle.model.specs.Handles.{handle}
+use Rattle.model.specs.InstanceCalls.{Turned, instance_call}
+use Rattle.model.specs.InstanceRecord.{bit, kind_number, holder_places}
+use Rattle.model.specs.Instances.{started_state, with_life, with_times, with_owner, with_set, with_kind, with_view, with_disposed_at, with_owner_at}
+use Rattle.model.specs.Joined.{admit_call}
+use Rattle.model.specs.Reads.{first_written}
+use Rattle.model.specs.State.{State, figure_ok, small_places, large_places, fresh_state}
+use Rattle.model.specs.Times.{billion, no_time, filter_admits, order_admits}
+use Rattle.model.specs.WriterRecord.{state_number}
+use Rattle.model.specs.Writers.{tracker_call}
 
 pub record Row : Type 0 where
   pub got : ℕ
@@ -41,7 +35,7 @@ test got said = row (bit got) (bit said)
 
 abbrev pub agree : List Row → Bool
 agree [] = true
-agree (r ∷ rs) = eqb (r .got) (r .said) && agree rs
+agree (r ∷ rs) = eqb r.got r.said && agree rs
 
 -- ---- what the rows are about
 
@@ -62,89 +56,89 @@ sheet key writer at a b first second kind =
       key = guid key;
       guid = guid writer;
       handle = handle 1;
-      «time_1» = noTime;
-      «time_2» = at;
+      time_1 = no_time;
+      time_2 = at;
       a = a;
       b = b;
       first = first;
       second = second;
-      «deadline_present» = true;
-      «lease_present» = true;
+      deadline_present = true;
+      lease_present = true;
       manual = false;
-      «by_source» = true;
+      by_source = true;
       kind = kind;
       code = 0;
-      holder = record { present = false; len = 0; bytes = replicate holderPlaces 0 };
+      holder = record { present = false; len = 0; bytes = replicate holder_places 0 };
     }
 
-abbrev instanceWith : InstanceState → Instance
-instanceWith x = record { key = guid 1; handle = handle 1; state = x }
+abbrev instance_with : InstanceState → Instance
+instance_with x = record { key = guid 1; handle = handle 1; state = x }
 
-abbrev stateWith : List Instance → State
-stateWith xs =
+abbrev state_with : List Instance → State
+state_with xs =
     record {
       instances = xs;
-      nextHandle = 2;
-      writers = freshState .writers;
-      lost = freshState .lost;
-      acknowledgedAlive = freshState .acknowledgedAlive;
-      acknowledgedNotAlive = freshState .acknowledgedNotAlive;
-      lastWriter = freshState .lastWriter;
-      changes = freshState .changes;
+      next_handle = 2;
+      writers = fresh_state.writers;
+      lost = fresh_state.lost;
+      acknowledged_alive = fresh_state.acknowledged_alive;
+      acknowledged_not_alive = fresh_state.acknowledged_not_alive;
+      last_writer = fresh_state.last_writer;
+      changes = fresh_state.changes;
     }
 
 -- the one instance after a call
 abbrev only : List Instance → InstanceState
-only [] = startedState
-only (x ∷ xs) = x .state
+only [] = started_state
+only (x ∷ xs) = x.state
 
 abbrev after : InstanceCall → Sheet → InstanceState → InstanceState
-after c s x = only (instanceCall largePlaces c s (stateWith (instanceWith x ∷ [])) .state .instances)
+after c s x = only (instance_call large_places c s (state_with (instance_with x ∷ []))).state.instances
 
 -- ---- lines a, b, d and i; line c stands with request 7
 
-abbrev filterLines : List Row
-filterLines =
-    test (filterAdmits (time 5 0) (time 4 0) 1_000_000_000) true
-    ∷ test (filterAdmits (time 5 0) (time 5 999_999_999) 1_000_000_000) false
-    ∷ test (filterAdmits (time 5 0) (time 6 0) 1_000_000_000) true
+abbrev filter_lines : List Row
+filter_lines =
+    test (filter_admits (time 5 0) (time 4 0) 1_000_000_000) true
+    ∷ test (filter_admits (time 5 0) (time 5 999_999_999) 1_000_000_000) false
+    ∷ test (filter_admits (time 5 0) (time 6 0) 1_000_000_000) true
     ∷ []
 
-abbrev orderLines : List Row
-orderLines =
-    test (orderAdmits (time 5 0) (time 5 0)) false
-    ∷ test (orderAdmits (time 5 0) (time 5 1)) true
+abbrev order_lines : List Row
+order_lines =
+    test (order_admits (time 5 0) (time 5 0)) false
+    ∷ test (order_admits (time 5 0) (time 5 1)) true
     ∷ []
 
 -- owned by GUID 1 with strength 9 since (-2, 0); GUID 2 has strength 1, now is (-1, 0)
-abbrev ownedState : InstanceState
-ownedState =
-    withTimes (withOwnerAt (time (minus 2) 0) (startedState .times))
-    (withOwner record { present = true; guid = guid 1; strength = 9 } startedState)
+abbrev owned_state : InstanceState
+owned_state =
+    with_times (with_owner_at (time (minus 2) 0) started_state.times)
+    (with_owner record { present = true; guid = guid 1; strength = 9 } started_state)
 
-abbrev deadlineSheet : ℕ → Sheet
-deadlineSheet deadline = sheet 1 2 (time (minus 1) 0) 0 deadline 0 1 0
+abbrev deadline_sheet : ℕ → Sheet
+deadline_sheet deadline = sheet 1 2 (time (minus 1) 0) 0 deadline 0 1 0
 
-abbrev deadlineLines : List Row
-deadlineLines =
-    row (num (after acceptUnderExclusiveOwnership (deadlineSheet 1_000_000_000) ownedState .owner .guid)) 2
-    ∷ row (num (after acceptUnderExclusiveOwnership (deadlineSheet 1_000_000_001) ownedState .owner .guid)) 1
+abbrev deadline_lines : List Row
+deadline_lines =
+    row (num (after accept_under_exclusive_ownership (deadline_sheet 1_000_000_000) owned_state).owner.guid) 2
+    ∷ row (num (after accept_under_exclusive_ownership (deadline_sheet 1_000_000_001) owned_state).owner.guid) 1
     ∷ []
 
-abbrev disposedAt : MaybeTime → InstanceState
-disposedAt at =
-    withTimes (withDisposedAt at (startedState .times)) (withLife (withKind NotAliveDisposed (startedState .life)) startedState)
+abbrev disposed_at : MaybeTime → InstanceState
+disposed_at at =
+    with_times (with_disposed_at at started_state.times) (with_life (with_kind NotAliveDisposed started_state.life) started_state)
 
-abbrev disposedState : InstanceState
-disposedState = disposedAt (time 0 10)
+abbrev disposed_state : InstanceState
+disposed_state = disposed_at (time 0 10)
 
 -- how many instances a purge takes out of a table with one that was disposed of then
 abbrev purges : MaybeTime → MaybeTime → ℕ → ℕ
 purges at now delay =
-    instanceCall largePlaces autopurge (sheet 1 0 now delay 0 0 0 0) (stateWith (instanceWith (disposedAt at) ∷ [])) .answer .count
+    (instance_call large_places autopurge (sheet 1 0 now delay 0 0 0 0) (state_with (instance_with (disposed_at at) ∷ []))).answer.count
 
-abbrev purgeLines : List Row
-purgeLines =
+abbrev purge_lines : List Row
+purge_lines =
     row (purges (time 0 10) (time 0 14) 5) 0
     ∷ row (purges (time 0 10) (time 0 15) 5) 1
     ∷ row (purges (time 0 10) (time 0 3) 0) 1
@@ -152,238 +146,238 @@ purgeLines =
 
 -- ---- line f: a call under a limit on a state that knows key 1
 
-abbrev underLimit : ℕ → ℕ → Turned
-underLimit key limit =
-    instanceCall largePlaces ensureRegisteredLimited (sheet key 0 noTime 0 0 limit 0 0) (stateWith (instanceWith startedState ∷ []))
+abbrev under_limit : ℕ → ℕ → Turned
+under_limit key limit =
+    instance_call large_places ensure_registered_limited (sheet key 0 no_time 0 0 limit 0 0) (state_with (instance_with started_state ∷ []))
 
-abbrev limitLines : List Row
-limitLines =
-    test (underLimit 2 0 .answer .present) false
-    ∷ row (length (underLimit 2 0 .state .instances)) 1
-    ∷ row (underLimit 1 0 .answer .handle .0) 1
-    ∷ row (underLimit 2 (minus 1) .answer .handle .0) 2
-    ∷ row (length (underLimit 2 (minus 1) .state .instances)) 2
+abbrev limit_lines : List Row
+limit_lines =
+    test (under_limit 2 0).answer.present false
+    ∷ row (length (under_limit 2 0).state.instances) 1
+    ∷ row (under_limit 1 0).answer.handle.0 1
+    ∷ row (under_limit 2 (minus 1)).answer.handle.0 2
+    ∷ row (length (under_limit 2 (minus 1)).state.instances) 2
     ∷ []
 
 -- ---- lines g and h: writer 5 by topic, lease 10, matched at 0 and asserted at 100
 
 abbrev then : TrackerCall → ℕ → ℕ → State → State
-then c clock kind st = trackerCall c (sheet 0 5 noTime clock 10 0 0 kind) st .state
+then c clock kind st = (tracker_call c (sheet 0 5 no_time clock 10 0 0 kind) st).state
 
-abbrev assertedState : State
-assertedState = then writerAsserted 100 2 (then matched 0 2 freshState)
+abbrev asserted_state : State
+asserted_state = then writer_asserted 100 2 (then matched 0 2 fresh_state)
 
 -- the number of the first writer's state, 9 where there is none
-abbrev firstState : List Writer → ℕ
-firstState [] = 9
-firstState (w ∷ ws) = stateNumber (w .liveliness .state)
+abbrev first_state : List Writer → ℕ
+first_state [] = 9
+first_state (w ∷ ws) = state_number w.liveliness.state
 
 abbrev standing : State → ℕ
-standing st = firstState (st .writers)
+standing st = first_state st.writers
 
-abbrev expireAt : ℕ → Turned
-expireAt clock = trackerCall expire (sheet 0 5 noTime clock 10 0 0 2) assertedState
+abbrev expire_at : ℕ → Turned
+expire_at clock = tracker_call expire (sheet 0 5 no_time clock 10 0 0 2) asserted_state
 
-abbrev leaseLines : List Row
-leaseLines =
-    test (expireAt 109 .answer .yes) false
-    ∷ row (expireAt 109 .answer .«next_due» .at) 110
-    ∷ test (expireAt 110 .answer .yes) true
-    ∷ row (standing (then writerAsserted 101 2 (expireAt 110 .state))) 1
+abbrev lease_lines : List Row
+lease_lines =
+    test (expire_at 109).answer.yes false
+    ∷ row (expire_at 109).answer.next_due.at 110
+    ∷ test (expire_at 110).answer.yes true
+    ∷ row (standing (then writer_asserted 101 2 (expire_at 110).state)) 1
     ∷ []
 
-abbrev departedState : State
-departedState = then lostWithParticipant 0 0 assertedState
+abbrev departed_state : State
+departed_state = then lost_with_participant 0 0 asserted_state
 
-abbrev departedLines : List Row
-departedLines = row (standing (then matched 0 0 departedState)) 2 ∷ row (standing (then matched 1 0 departedState)) 1 ∷ []
+abbrev departed_lines : List Row
+departed_lines = row (standing (then matched 0 0 departed_state)) 2 ∷ row (standing (then matched 1 0 departed_state)) 1 ∷ []
 
 -- ---- the traps, as what holds
 
 -- an expired writer does not revive on its last assertion
-abbrev reviveTrap : List Row
-reviveTrap = row (standing (then writerAsserted 100 2 (expireAt 110 .state))) 2 ∷ []
+abbrev revive_trap : List Row
+revive_trap = row (standing (then writer_asserted 100 2 (expire_at 110).state)) 2 ∷ []
 
 -- register revives and leaves the view as it was
-abbrev seenDisposed : InstanceState
-seenDisposed = withLife (withView false (disposedState .life)) disposedState
+abbrev seen_disposed : InstanceState
+seen_disposed = with_life (with_view false disposed_state.life) disposed_state
 
-abbrev registerTrap : List Row
-registerTrap =
-    row (kindNumber (after register (sheet 1 0 noTime 0 0 0 0 0) seenDisposed .life .kind)) 0
-    ∷ test (after register (sheet 1 0 noTime 0 0 0 0 0) seenDisposed .life .«view_new») false
+abbrev register_trap : List Row
+register_trap =
+    row (kind_number (after register (sheet 1 0 no_time 0 0 0 0 0) seen_disposed).life.kind) 0
+    ∷ test (after register (sheet 1 0 no_time 0 0 0 0 0) seen_disposed).life.view_new false
     ∷ []
 
 -- unregister leaves the writer set as it was
-abbrev unregisterTrap : List Row
-unregisterTrap =
-    row (after unregister (sheet 1 0 noTime 0 0 0 0 0) (withSet (guid 3 ∷ []) startedState) .writers .len) 1
-    ∷ row (kindNumber (after unregister (sheet 1 0 noTime 0 0 0 0 0) (withSet (guid 3 ∷ []) startedState) .life .kind)) 2
+abbrev unregister_trap : List Row
+unregister_trap =
+    row (after unregister (sheet 1 0 no_time 0 0 0 0 0) (with_set (guid 3 ∷ []) started_state)).writers.len 1
+    ∷ row (kind_number (after unregister (sheet 1 0 no_time 0 0 0 0 0) (with_set (guid 3 ∷ []) started_state)).life.kind) 2
     ∷ []
 
 -- ---- document 02, request 1: the writer of the sample by which admit starts an instance owns it
 
 -- a sample for key 1: separation, writer and strength, time 1 at a second, and time 2 ten seconds later; no limit and no
 -- deadline
-abbrev sampleApart : ℕ → ℕ → ℕ → ℕ → Sheet
-sampleApart separation writer strength second =
+abbrev sample_apart : ℕ → ℕ → ℕ → ℕ → Sheet
+sample_apart separation writer strength second =
     record {
       key = guid 1;
       guid = guid writer;
       handle = handle 1;
-      «time_1» = time second 0;
-      «time_2» = time (second + 10) 0;
+      time_1 = time second 0;
+      time_2 = time (second + 10) 0;
       a = separation;
       b = 0;
       first = minus 1;
       second = strength;
-      «deadline_present» = false;
-      «lease_present» = false;
+      deadline_present = false;
+      lease_present = false;
       manual = false;
-      «by_source» = true;
+      by_source = true;
       kind = 0;
       code = 48;
-      holder = record { present = false; len = 0; bytes = replicate holderPlaces 0 };
+      holder = record { present = false; len = 0; bytes = replicate holder_places 0 };
     }
 
 -- with no separation
-abbrev sampleAt : ℕ → ℕ → ℕ → Sheet
-sampleAt = sampleApart 0
+abbrev sample_at : ℕ → ℕ → ℕ → Sheet
+sample_at = sample_apart 0
 
 abbrev admits : ℕ → ℕ → ℕ → State → Turned
-admits writer strength second st = admitCall largePlaces (sampleAt writer strength second) st
+admits writer strength second st = admit_call large_places (sample_at writer strength second) st
 
 -- the first sample, by writer 1 with a strength
-abbrev admittedFirst : ℕ → State
-admittedFirst strength = admits 1 strength 20 freshState .state
+abbrev admitted_first : ℕ → State
+admitted_first strength = (admits 1 strength 20 fresh_state).state
 
-abbrev ownerIn : State → MaybeOwner
-ownerIn st = only (st .instances) .owner
+abbrev owner_in : State → MaybeOwner
+owner_in st = (only st.instances).owner
 
-abbrev firstOwnerLines : List Row
-firstOwnerLines =
-    row (num (ownerIn (admittedFirst 5) .guid)) 1
-    ∷ row (ownerIn (admittedFirst 5) .strength) 5
-    ∷ row (only (admittedFirst 5 .instances) .times .«owner_at» .sec) 30
-    ∷ row (admits 2 1 21 (admittedFirst 5) .answer .outcome) 4
-    ∷ row (admits 2 6 21 (admittedFirst 5) .answer .outcome) 0
-    ∷ row (admits 2 (minus 3) 21 (admittedFirst (minus 2)) .answer .outcome) 4
-    ∷ row (admits 2 (minus 1) 21 (admittedFirst (minus 2)) .answer .outcome) 0
+abbrev first_owner_lines : List Row
+first_owner_lines =
+    row (num (owner_in (admitted_first 5)).guid) 1
+    ∷ row (owner_in (admitted_first 5)).strength 5
+    ∷ row (only (admitted_first 5).instances).times.owner_at.sec 30
+    ∷ row (admits 2 1 21 (admitted_first 5)).answer.outcome 4
+    ∷ row (admits 2 6 21 (admitted_first 5)).answer.outcome 0
+    ∷ row (admits 2 (minus 3) 21 (admitted_first (minus 2))).answer.outcome 4
+    ∷ row (admits 2 (minus 1) 21 (admitted_first (minus 2))).answer.outcome 0
     ∷ []
 
 -- a call by itself on the fresh state, with the sheet of that first sample
-abbrev startedBy : InstanceCall → Turned
-startedBy c = instanceCall largePlaces c (sampleAt 1 5 20) freshState
+abbrev started_by : InstanceCall → Turned
+started_by c = instance_call large_places c (sample_at 1 5 20) fresh_state
 
 -- code 16 answers yes and stores nothing; codes 1, 2, 8 and 9 start without an owner, so a weak writer's sample is taken
-abbrev unownedLines : List Row
-unownedLines =
-    test (startedBy acceptUnderExclusiveOwnership .answer .yes) true
-    ∷ row (length (startedBy acceptUnderExclusiveOwnership .state .instances)) 0
-    ∷ test (ownerIn (startedBy register .state) .present) false
-    ∷ test (ownerIn (startedBy ensureRegisteredLimited .state) .present) false
-    ∷ test (ownerIn (startedBy observeLifecycle .state) .present) false
-    ∷ test (ownerIn (startedBy observeAdmitted .state) .present) false
-    ∷ row (admits 2 1 21 (startedBy observeAdmitted .state) .answer .outcome) 0
+abbrev unowned_lines : List Row
+unowned_lines =
+    test (started_by accept_under_exclusive_ownership).answer.yes true
+    ∷ row (length (started_by accept_under_exclusive_ownership).state.instances) 0
+    ∷ test (owner_in (started_by register).state).present false
+    ∷ test (owner_in (started_by ensure_registered_limited).state).present false
+    ∷ test (owner_in (started_by observe_lifecycle).state).present false
+    ∷ test (owner_in (started_by observe_admitted).state).present false
+    ∷ row (admits 2 1 21 (started_by observe_admitted).state).answer.outcome 0
     ∷ []
 
 -- an instance owned by writer 1 with strength 9 is disposed of and purged: the key starts again, owned by its new first writer
-abbrev purgedState : State
-purgedState =
-    instanceCall largePlaces autopurge (sheet 1 0 (time 0 15) 5 0 0 0 0)
-    (stateWith (instanceWith (withOwner record { present = true; guid = guid 1; strength = 9 } disposedState) ∷ [])) .state
+abbrev purged_state : State
+purged_state =
+    (instance_call large_places autopurge (sheet 1 0 (time 0 15) 5 0 0 0 0)
+    (state_with (instance_with (with_owner record { present = true; guid = guid 1; strength = 9 } disposed_state) ∷ []))).state
 
-abbrev startsAgainLines : List Row
-startsAgainLines =
-    row (length (purgedState .instances)) 0
-    ∷ row (num (ownerIn (admits 2 1 20 purgedState .state) .guid)) 2
-    ∷ row (admits 3 0 21 (admits 2 1 20 purgedState .state) .answer .outcome) 4
+abbrev starts_again_lines : List Row
+starts_again_lines =
+    row (length purged_state.instances) 0
+    ∷ row (num (owner_in (admits 2 1 20 purged_state).state).guid) 2
+    ∷ row (admits 3 0 21 (admits 2 1 20 purged_state).state).answer.outcome 4
     ∷ []
 
 -- ---- document 02, request 5: the two figures; a new key where a table has so many instances, with 32 places and with 128
 
-abbrev figureLines : List Row
-figureLines =
-    test (figureOk 32) true ∷ test (figureOk 128) true
-    ∷ test (figureOk 0) false ∷ test (figureOk 33) false ∷ test (figureOk 64) false ∷ test (figureOk 127) false ∷ []
+abbrev figure_lines : List Row
+figure_lines =
+    test (figure_ok 32) true ∷ test (figure_ok 128) true
+    ∷ test (figure_ok 0) false ∷ test (figure_ok 33) false ∷ test (figure_ok 64) false ∷ test (figure_ok 127) false ∷ []
 
-abbrev newKey : InstanceCall → ℕ → ℕ → ℕ → ℕ
-newKey c limit places n =
-    instanceCall places c (sheet 2 0 noTime 0 0 limit 0 0) (stateWith (replicate n (instanceWith startedState))) .answer .number
+abbrev new_key : InstanceCall → ℕ → ℕ → ℕ → ℕ
+new_key c limit places n =
+    (instance_call places c (sheet 2 0 no_time 0 0 limit 0 0) (state_with (replicate n (instance_with started_state)))).answer.number
 
 -- none at a limit comes before 9
-abbrev placesLines : List Row
-placesLines =
-    row (newKey register 0 smallPlaces 31) 0
-    ∷ row (newKey register 0 smallPlaces 32) 9
-    ∷ row (newKey register 0 largePlaces 32) 0
-    ∷ row (newKey register 0 largePlaces 128) 9
-    ∷ row (newKey ensureRegisteredLimited 33 smallPlaces 32) 9
-    ∷ row (newKey ensureRegisteredLimited 32 smallPlaces 32) 0
+abbrev places_lines : List Row
+places_lines =
+    row (new_key register 0 small_places 31) 0
+    ∷ row (new_key register 0 small_places 32) 9
+    ∷ row (new_key register 0 large_places 32) 0
+    ∷ row (new_key register 0 large_places 128) 9
+    ∷ row (new_key ensure_registered_limited 33 small_places 32) 9
+    ∷ row (new_key ensure_registered_limited 32 small_places 32) 0
     ∷ []
 
 -- ---- document 02, request 6: the first alive instance in key order whose set has the GUID, by its handle; 0 for none
 
-abbrev instanceOfSet : ℕ → ℕ → List Guid → InstanceState → Instance
-instanceOfSet key h set x = record { key = guid key; handle = handle h; state = withSet set x }
+abbrev instance_of_set : ℕ → ℕ → List Guid → InstanceState → Instance
+instance_of_set key h set x = record { key = guid key; handle = handle h; state = with_set set x }
 
-abbrev writerlessState : InstanceState
-writerlessState = withLife (withKind NotAliveNoWriters (startedState .life)) startedState
+abbrev writerless_state : InstanceState
+writerless_state = with_life (with_kind NotAliveNoWriters started_state.life) started_state
 
 abbrev written : List Instance
 written =
-    instanceOfSet 1 2 (guid 7 ∷ guid 8 ∷ []) disposedState
-    ∷ instanceOfSet 2 4 (guid 7 ∷ guid 8 ∷ []) writerlessState
-    ∷ instanceOfSet 3 9 (guid 6 ∷ []) (withOwner record { present = true; guid = guid 7; strength = 9 } startedState)
-    ∷ instanceOfSet 4 5 (guid 6 ∷ guid 7 ∷ []) startedState
-    ∷ instanceOfSet 5 3 (guid 7 ∷ []) startedState
-    ∷ instanceOfSet 6 6 (guid 7 ∷ []) startedState
+    instance_of_set 1 2 (guid 7 ∷ guid 8 ∷ []) disposed_state
+    ∷ instance_of_set 2 4 (guid 7 ∷ guid 8 ∷ []) writerless_state
+    ∷ instance_of_set 3 9 (guid 6 ∷ []) (with_owner record { present = true; guid = guid 7; strength = 9 } started_state)
+    ∷ instance_of_set 4 5 (guid 6 ∷ guid 7 ∷ []) started_state
+    ∷ instance_of_set 5 3 (guid 7 ∷ []) started_state
+    ∷ instance_of_set 6 6 (guid 7 ∷ []) started_state
     ∷ []
 
-abbrev handleOf : Option Instance → ℕ
-handleOf none = 0
-handleOf (some x) = x .handle .0
+abbrev handle_of : Option Instance → ℕ
+handle_of none = 0
+handle_of (some x) = x.handle.0
 
 -- of GUID 7 neither a dead one, nor one that it only owns, nor that of the lowest handle, nor the last; GUID 8 has dead ones
 -- alone
-abbrev lookupLines : List Row
-lookupLines =
-    row (handleOf (firstWritten (guid 7) written)) 5
-    ∷ row (handleOf (firstWritten (guid 6) written)) 9
-    ∷ row (handleOf (firstWritten (guid 8) written)) 0
-    ∷ row (handleOf (firstWritten (guid 9) written)) 0
+abbrev lookup_lines : List Row
+lookup_lines =
+    row (handle_of (first_written (guid 7) written)) 5
+    ∷ row (handle_of (first_written (guid 6) written)) 9
+    ∷ row (handle_of (first_written (guid 8) written)) 0
+    ∷ row (handle_of (first_written (guid 9) written)) 0
     ∷ []
 
 -- ---- document 02, request 7: seconds below 0 count as they are
 
 -- line a ten seconds earlier, and a nanosecond above the separation; across the epoch, where (-1, 999999999) is a nanosecond
 -- before (0, 0); the largest gap
-abbrev filterBelowLines : List Row
-filterBelowLines =
-    test (filterAdmits (time (minus 5) 0) (time (minus 6) 0) billion) true
-    ∷ test (filterAdmits (time (minus 5) 0) (time (minus 5) 999_999_999) billion) false
-    ∷ test (filterAdmits (time (minus 5) 0) (time (minus 4) 0) billion) true
-    ∷ test (filterAdmits (time (minus 5) 0) (time (minus 4) 1) billion) true
-    ∷ test (filterAdmits (time (minus 1) 999_999_999) (time 0 0) 1) true
-    ∷ test (filterAdmits (time (minus 1) 999_999_999) (time 0 0) 2) false
-    ∷ test (filterAdmits (time (minus (2 ^ 31)) 0) (time (2 ^ 31 - 1) 999_999_999) 4_294_967_295_999_999_999) true
-    ∷ test (filterAdmits (time (minus (2 ^ 31)) 0) (time (2 ^ 31 - 1) 999_999_999) 4_294_967_296_000_000_000) false
+abbrev filter_below_lines : List Row
+filter_below_lines =
+    test (filter_admits (time (minus 5) 0) (time (minus 6) 0) billion) true
+    ∷ test (filter_admits (time (minus 5) 0) (time (minus 5) 999_999_999) billion) false
+    ∷ test (filter_admits (time (minus 5) 0) (time (minus 4) 0) billion) true
+    ∷ test (filter_admits (time (minus 5) 0) (time (minus 4) 1) billion) true
+    ∷ test (filter_admits (time (minus 1) 999_999_999) (time 0 0) 1) true
+    ∷ test (filter_admits (time (minus 1) 999_999_999) (time 0 0) 2) false
+    ∷ test (filter_admits (time (minus (2 ^ 31)) 0) (time (2 ^ 31 - 1) 999_999_999) 4_294_967_295_999_999_999) true
+    ∷ test (filter_admits (time (minus (2 ^ 31)) 0) (time (2 ^ 31 - 1) 999_999_999) 4_294_967_296_000_000_000) false
     ∷ []
 
 -- line c, which is a no now; then after (-3, 7) again, and across the epoch
-abbrev orderBelowLines : List Row
-orderBelowLines =
-    test (orderAdmits (time (minus 3) 7) (time (minus 9) 8)) false
-    ∷ test (orderAdmits (time (minus 3) 7) (time (minus 3) 7)) false
-    ∷ test (orderAdmits (time (minus 3) 7) (time (minus 3) 8)) true
-    ∷ test (orderAdmits (time (minus 3) 7) (time (minus 2) 0)) true
-    ∷ test (orderAdmits (time (minus 1) 999_999_999) (time 0 0)) true
-    ∷ test (orderAdmits (time 0 0) (time (minus 1) 999_999_999)) false
+abbrev order_below_lines : List Row
+order_below_lines =
+    test (order_admits (time (minus 3) 7) (time (minus 9) 8)) false
+    ∷ test (order_admits (time (minus 3) 7) (time (minus 3) 7)) false
+    ∷ test (order_admits (time (minus 3) 7) (time (minus 3) 8)) true
+    ∷ test (order_admits (time (minus 3) 7) (time (minus 2) 0)) true
+    ∷ test (order_admits (time (minus 1) 999_999_999) (time 0 0)) true
+    ∷ test (order_admits (time 0 0) (time (minus 1) 999_999_999)) false
     ∷ []
 
 -- line i three seconds earlier; a second; across the epoch; and with now earlier, where the gap counts as 0
-abbrev purgeBelowLines : List Row
-purgeBelowLines =
+abbrev purge_below_lines : List Row
+purge_below_lines =
     row (purges (time (minus 3) 10) (time (minus 3) 14) 5) 0
     ∷ row (purges (time (minus 3) 10) (time (minus 3) 15) 5) 1
     ∷ row (purges (time (minus 5) 0) (time (minus 4) 0) billion) 1
@@ -397,30 +391,26 @@ purgeBelowLines =
     ∷ []
 
 -- admit: a sample of second -30 with filter time -20, then one by the same writer
-abbrev admittedBelow : ℕ → ℕ → ℕ
-admittedBelow separation second = admitCall largePlaces (sampleApart separation 1 5 second) (admits 1 5 (minus 30) freshState .state) .answer .outcome
+abbrev admitted_below : ℕ → ℕ → ℕ
+admitted_below separation second = (admit_call large_places (sample_apart separation 1 5 second) (admits 1 5 (minus 30) fresh_state).state).answer.outcome
 
-abbrev admitBelowLines : List Row
-admitBelowLines =
-    row (admittedBelow 0 (minus 31)) 1
-    ∷ row (admittedBelow 0 (minus 30)) 1
-    ∷ row (admittedBelow 0 (minus 29)) 0
-    ∷ row (admittedBelow billion (minus 29)) 0
-    ∷ row (admittedBelow (billion + 1) (minus 29)) 2
+abbrev admit_below_lines : List Row
+admit_below_lines =
+    row (admitted_below 0 (minus 31)) 1
+    ∷ row (admitted_below 0 (minus 30)) 1
+    ∷ row (admitted_below 0 (minus 29)) 0
+    ∷ row (admitted_below billion (minus 29)) 0
+    ∷ row (admitted_below (billion + 1) (minus 29)) 2
     ∷ []
 
-abbrev belowLines : List Row
-belowLines = filterBelowLines ++ (orderBelowLines ++ (purgeBelowLines ++ admitBelowLines))
+abbrev below_lines : List Row
+below_lines = filter_below_lines ++ (order_below_lines ++ (purge_below_lines ++ admit_below_lines))
 
 -- ---- the claim
 
-abbrev pub benchRows : List Row
-benchRows =
-    filterLines
-    ++ (orderLines ++ (deadlineLines ++ (limitLines ++ (leaseLines ++ (departedLines ++ (purgeLines
-    ++ (reviveTrap ++ (registerTrap ++ (unregisterTrap ++ (firstOwnerLines ++ (unownedLines ++ (startsAgainLines ++ (figureLines
-    ++ (placesLines ++ (lookupLines ++ belowLines)))))))))))))))
-
-pub bench-rows : T (agree benchRows)
-unfolding num allocated instanceCall instanceTurn instancesAfter begun nextAfter lateRefusal handleBytes startedState started registered unregistered ensured revived revivedNew lifecycleObserved admittedObserved admittedNoted writerNoted ownershipTried takesOver outbids purged leftBy sampled firstOwned admitted admitWith has insert setOf find pick any put sift timeValue filterAdmits orderAdmits deadlineMissed purgeDue trackerCall trackerTurn trackerState writersAfter movers lastAfter nextDue covers renews asserted expires expired
-bench-rows = tt
+abbrev pub bench_rows : List Row
+bench_rows =
+    filter_lines
+    ++ (order_lines ++ (deadline_lines ++ (limit_lines ++ (lease_lines ++ (departed_lines ++ (purge_lines
+    ++ (revive_trap ++ (register_trap ++ (unregister_trap ++ (first_owner_lines ++ (unowned_lines ++ (starts_again_lines ++ (figure_lines
+    ++ (places_lines ++ (lookup_lines ++ below_lines)))))))))))))))

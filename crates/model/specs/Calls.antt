@@ -1,15 +1,12 @@
 -- The calls by name and by number: sections 3 ("pen calls"), 4 and 5.
-use Prim.Native.Nat.{ℕ}
-use mathlib.Core.Bool.{cond}
-use mathlib.Core.List.{List, [], _∷_, map}
-use mathlib.Core.Option.{Option, none, some}
-use lib.Dec.{eqb}
-pub use Rattle·model·specs.specs.declared.InstanceCall.{InstanceCall}
-pub use Rattle·model·specs.specs.declared.InstanceCall.the-variants.{Register as register, EnsureRegisteredLimited as ensureRegisteredLimited, Dispose as dispose, Unregister as unregister, UnregisterWriter as unregisterWriter, NoteWriter as noteWriter, DropWriter as dropWriter, ObserveLifecycle as observeLifecycle, ObserveAdmitted as observeAdmitted, NoteAdmitted as noteAdmitted, RecordDelivery as recordDelivery, NoteTaken as noteTaken, MarkViewSeen as markViewSeen, MarkViewNew as markViewNew, DrainSamples as drainSamples, AcceptUnderExclusiveOwnership as acceptUnderExclusiveOwnership, UpdateOwnerStrength as updateOwnerStrength, ClearOwnerForWriter as clearOwnerForWriter, ClearOwnerForWriterPrefix as clearOwnerForWriterPrefix, ReleaseOwnerOf as releaseOwnerOf, Autopurge as autopurge}
-pub use Rattle·model·specs.specs.declared.TrackerCall.{TrackerCall}
-pub use Rattle·model·specs.specs.declared.TrackerCall.the-variants.{Matched as matched, Unmatched as unmatched, LostWithParticipant as lostWithParticipant, WriterAsserted as writerAsserted, ParticipantAsserted as participantAsserted, Expire as expire, TakeLost as takeLost, TakeStatus as takeStatus, Acknowledge as acknowledge}
-pub use Rattle·model·specs.specs.declared.JoinedCall.{JoinedCall}
-pub use Rattle·model·specs.specs.declared.JoinedCall.the-variants.{Admit as admit, Lapse as lapse, Part as part, Depart as depart}
+use Rattle.std.specs.Prelude.{ℕ, cond, List, [], ◌∷◌, map, eqb}
+use Rattle.std.proofs.Math.Option.{Option, none, some}
+pub use Rattle.model.specs.declared.InstanceCall.{InstanceCall}
+pub use Rattle.model.specs.declared.InstanceCall.TheVariants.{Register as register, EnsureRegisteredLimited as ensure_registered_limited, Dispose as dispose, Unregister as unregister, UnregisterWriter as unregister_writer, NoteWriter as note_writer, DropWriter as drop_writer, ObserveLifecycle as observe_lifecycle, ObserveAdmitted as observe_admitted, NoteAdmitted as note_admitted, RecordDelivery as record_delivery, NoteTaken as note_taken, MarkViewSeen as mark_view_seen, MarkViewNew as mark_view_new, DrainSamples as drain_samples, AcceptUnderExclusiveOwnership as accept_under_exclusive_ownership, UpdateOwnerStrength as update_owner_strength, ClearOwnerForWriter as clear_owner_for_writer, ClearOwnerForWriterPrefix as clear_owner_for_writer_prefix, ReleaseOwnerOf as release_owner_of, Autopurge as autopurge}
+pub use Rattle.model.specs.declared.TrackerCall.{TrackerCall}
+pub use Rattle.model.specs.declared.TrackerCall.TheVariants.{Matched as matched, Unmatched as unmatched, LostWithParticipant as lost_with_participant, WriterAsserted as writer_asserted, ParticipantAsserted as participant_asserted, Expire as expire, TakeLost as take_lost, TakeStatus as take_status, Acknowledge as acknowledge}
+pub use Rattle.model.specs.declared.JoinedCall.{JoinedCall}
+pub use Rattle.model.specs.declared.JoinedCall.TheVariants.{Admit as admit, Lapse as lapse, Part as part, Depart as depart}
 
 pub data Call : Type 0 where
   instances : InstanceCall → Call
@@ -27,34 +24,34 @@ numbered n c = record { code = n; call = c }
 unfoldable pub calls : List Numbered
 calls =
     numbered 1 (instances register)
-    ∷ numbered 2 (instances ensureRegisteredLimited)
+    ∷ numbered 2 (instances ensure_registered_limited)
     ∷ numbered 3 (instances dispose)
     ∷ numbered 4 (instances unregister)
-    ∷ numbered 5 (instances unregisterWriter)
-    ∷ numbered 6 (instances noteWriter)
-    ∷ numbered 7 (instances dropWriter)
-    ∷ numbered 8 (instances observeLifecycle)
-    ∷ numbered 9 (instances observeAdmitted)
-    ∷ numbered 10 (instances noteAdmitted)
-    ∷ numbered 11 (instances recordDelivery)
-    ∷ numbered 12 (instances noteTaken)
-    ∷ numbered 13 (instances markViewSeen)
-    ∷ numbered 14 (instances markViewNew)
-    ∷ numbered 15 (instances drainSamples)
-    ∷ numbered 16 (instances acceptUnderExclusiveOwnership)
-    ∷ numbered 17 (instances updateOwnerStrength)
-    ∷ numbered 18 (instances clearOwnerForWriter)
-    ∷ numbered 19 (instances clearOwnerForWriterPrefix)
-    ∷ numbered 20 (instances releaseOwnerOf)
+    ∷ numbered 5 (instances unregister_writer)
+    ∷ numbered 6 (instances note_writer)
+    ∷ numbered 7 (instances drop_writer)
+    ∷ numbered 8 (instances observe_lifecycle)
+    ∷ numbered 9 (instances observe_admitted)
+    ∷ numbered 10 (instances note_admitted)
+    ∷ numbered 11 (instances record_delivery)
+    ∷ numbered 12 (instances note_taken)
+    ∷ numbered 13 (instances mark_view_seen)
+    ∷ numbered 14 (instances mark_view_new)
+    ∷ numbered 15 (instances drain_samples)
+    ∷ numbered 16 (instances accept_under_exclusive_ownership)
+    ∷ numbered 17 (instances update_owner_strength)
+    ∷ numbered 18 (instances clear_owner_for_writer)
+    ∷ numbered 19 (instances clear_owner_for_writer_prefix)
+    ∷ numbered 20 (instances release_owner_of)
     ∷ numbered 21 (instances autopurge)
     ∷ numbered 32 (tracker matched)
     ∷ numbered 33 (tracker unmatched)
-    ∷ numbered 34 (tracker lostWithParticipant)
-    ∷ numbered 35 (tracker writerAsserted)
-    ∷ numbered 36 (tracker participantAsserted)
+    ∷ numbered 34 (tracker lost_with_participant)
+    ∷ numbered 35 (tracker writer_asserted)
+    ∷ numbered 36 (tracker participant_asserted)
     ∷ numbered 37 (tracker expire)
-    ∷ numbered 38 (tracker takeLost)
-    ∷ numbered 39 (tracker takeStatus)
+    ∷ numbered 38 (tracker take_lost)
+    ∷ numbered 39 (tracker take_status)
     ∷ numbered 40 (tracker acknowledge)
     ∷ numbered 48 (joined admit)
     ∷ numbered 49 (joined lapse)
@@ -63,27 +60,27 @@ calls =
     ∷ []
 
 -- the last code of each range
-abbrev pub lastInstance : ℕ
-lastInstance = 21
+abbrev pub last_instance : ℕ
+last_instance = 21
 
-abbrev pub lastTracker : ℕ
-lastTracker = 40
+abbrev pub last_tracker : ℕ
+last_tracker = 40
 
-abbrev pub lastJoined : ℕ
-lastJoined = 51
+abbrev pub last_joined : ℕ
+last_joined = 51
 
-abbrev pub codeOf : Numbered → ℕ
-codeOf n = n .code
+abbrev pub code_of : Numbered → ℕ
+code_of n = n.code
 
 -- the valid codes, rising
-unfoldable pub validCodes : List ℕ
+unfoldable pub valid_codes : List ℕ
 unfolding calls
-validCodes = map codeOf calls
+valid_codes = map code_of calls
 
 unfoldable pub amongst : ℕ → List Numbered → Option Call
 amongst n [] = none
-amongst n (c ∷ cs) = cond (eqb (c .code) n) (some (c .call)) (amongst n cs)
+amongst n (c ∷ cs) = cond (eqb c.code n) (some c.call) (amongst n cs)
 
 -- the call of a code, none for an unknown one
-unfoldable pub callOfCode : ℕ → Option Call
-callOfCode n = amongst n calls
+unfoldable pub call_of_code : ℕ → Option Call
+call_of_code n = amongst n calls

@@ -1,34 +1,30 @@
 -- Section 8: refusal 1, and 4 to 8 as one chain in the order of their numbers (2 and 3 stand in Call.antt); and section 2's "a
 -- field is used if the call takes it and its presence bit, where it has one, is set". The late ones, 9 to 13, stand with
 -- their calls.
-use Prim.Native.Nat.{ℕ, _*_}
-use mathlib.Core.Bool.{Bool, true, false, not, _&&_, _||_, cond}
-use mathlib.Core.List.{List, [], _∷_}
-use lib.Dec.{eqb, leb, ltb}
-use lib.ListN.{length}
-use Rattle·model·specs.specs.declared.ClockUse.{ClockUse}
-use Rattle·model·specs.specs.declared.ClockUse.the-variants.{NoClock, Clock, ClockAndLease}
-use Rattle·model·specs.specs.declared.MaybeTime.{MaybeTime}
-use Rattle·model·specs.specs.declared.Sheet.{Sheet}
-use Rattle·model·specs.specs.Calls.{Call, instances, tracker, joined, InstanceCall, TrackerCall, matched, acknowledge, JoinedCall, admit, lapse, part, depart}
-use Rattle·model·specs.specs.Guids.{guidSize}
-use Rattle·model·specs.specs.InstanceRecord.{instanceSize, holderPlaces}
-use Rattle·model·specs.specs.Instances.{FieldUse, Never, IfPresent, Always, rule}
-use Rattle·model·specs.specs.Sheets.{sheetSize}
-use Rattle·model·specs.specs.State.{Lent, State, writerPlaces, lostPlaces, outSize}
-use Rattle·model·specs.specs.Tables.{all}
-use Rattle·model·specs.specs.Times.{billion}
-use Rattle·model·specs.specs.WellFormed.{clockOk}
-use Rattle·model·specs.specs.WriterRecord.{writerSize}
-use Rattle·model·specs.specs.Writers.{trackerRule, acknowledgeable}
+use Rattle.std.specs.Prelude.{ℕ, ◌*◌, Bool, true, false, not, ◌&&◌, ◌||◌, cond, List, [], ◌∷◌, eqb, leb, ltb, length}
+use Rattle.model.specs.declared.ClockUse.{ClockUse}
+use Rattle.model.specs.declared.ClockUse.TheVariants.{NoClock, Clock, ClockAndLease}
+use Rattle.model.specs.declared.MaybeTime.{MaybeTime}
+use Rattle.model.specs.declared.Sheet.{Sheet}
+use Rattle.model.specs.Calls.{Call, instances, tracker, joined, InstanceCall, TrackerCall, JoinedCall, admit, lapse, part, depart}
+use Rattle.model.specs.Guids.{guid_size}
+use Rattle.model.specs.InstanceRecord.{instance_size, holder_places}
+use Rattle.model.specs.Instances.{FieldUse, Never, IfPresent, Always, rule}
+use Rattle.model.specs.Sheets.{sheet_size}
+use Rattle.model.specs.State.{Lent, State, writer_places, lost_places, out_size}
+use Rattle.model.specs.Tables.{all}
+use Rattle.model.specs.Times.{billion}
+use Rattle.model.specs.WellFormed.{clock_ok}
+use Rattle.model.specs.WriterRecord.{writer_size}
+use Rattle.model.specs.Writers.{tracker_rule, acknowledgeable}
 
 -- ---- 1: a buffer length other than stated
 
-unfoldable pub lengthsOk : ℕ → List ℕ → Lent → Bool
-lengthsOk places sheet l =
-    eqb (length sheet) sheetSize && (eqb (length (l .pens)) (places * instanceSize)
-    && (eqb (length (l .writers)) (writerPlaces * writerSize)
-    && (eqb (length (l .lost)) (lostPlaces * guidSize) && eqb (length (l .out)) outSize)))
+unfoldable pub lengths_ok : ℕ → List ℕ → Lent → Bool
+lengths_ok places sheet l =
+    eqb (length sheet) sheet_size && (eqb (length l.pens) (places * instance_size)
+    && (eqb (length l.writers) (writer_places * writer_size)
+    && (eqb (length l.lost) (lost_places * guid_size) && eqb (length l.out) out_size)))
 
 -- ---- a used field: the call takes it and its presence bit, where it has one, is set
 
@@ -40,94 +36,94 @@ used Always present = true
 -- ---- 4: nanoseconds of 10^9 or more in a used time
 
 -- the times ts, and before them t where it is used
-abbrev pub withTime : FieldUse → MaybeTime → List MaybeTime → List MaybeTime
-withTime k t ts = cond (used k (t .present)) (t ∷ ts) ts
+abbrev pub with_time : FieldUse → MaybeTime → List MaybeTime → List MaybeTime
+with_time k t ts = cond (used k t.present) (t ∷ ts) ts
 
 -- a time where its presence bit is set
 abbrev pub optional : MaybeTime → List MaybeTime
-optional t = withTime IfPresent t []
+optional t = with_time IfPresent t []
 
-abbrev pub timesUsedBy : InstanceCall → Sheet → List MaybeTime
-timesUsedBy c s = withTime (rule c .«time_1») (s .«time_1») (withTime (rule c .«time_2») (s .«time_2») [])
+abbrev pub times_used_by : InstanceCall → Sheet → List MaybeTime
+times_used_by c s = with_time (rule c).time_1 s.time_1 (with_time (rule c).time_2 s.time_2 [])
 
-abbrev pub timesUsedJoined : JoinedCall → Sheet → List MaybeTime
-timesUsedJoined admit s = s .«time_1» ∷ s .«time_2» ∷ []
-timesUsedJoined lapse s = optional (s .«time_1»)
-timesUsedJoined part s = optional (s .«time_1»)
-timesUsedJoined depart s = optional (s .«time_1»)
+abbrev pub times_used_joined : JoinedCall → Sheet → List MaybeTime
+times_used_joined admit s = s.time_1 ∷ s.time_2 ∷ []
+times_used_joined lapse s = optional s.time_1
+times_used_joined part s = optional s.time_1
+times_used_joined depart s = optional s.time_1
 
-abbrev pub timesUsed : Call → Sheet → List MaybeTime
-timesUsed (instances c) s = timesUsedBy c s
-timesUsed (tracker c) s = []
-timesUsed (joined c) s = timesUsedJoined c s
+abbrev pub times_used : Call → Sheet → List MaybeTime
+times_used (instances c) s = times_used_by c s
+times_used (tracker c) s = []
+times_used (joined c) s = times_used_joined c s
 
-abbrev pub nanosecondsOk : MaybeTime → Bool
-nanosecondsOk t = ltb (t .nanosec) billion
+abbrev pub nanoseconds_ok : MaybeTime → Bool
+nanoseconds_ok t = ltb t.nanosec billion
 
 -- ---- 5: used clock or lease of 2^62 or more
 
 -- A, and B where its lease bit is set
-abbrev pub clocksWith : ClockUse → Sheet → List ℕ
-clocksWith NoClock s = []
-clocksWith Clock s = s .a ∷ []
-clocksWith ClockAndLease s = s .a ∷ cond (s .«lease_present») (s .b ∷ []) []
+abbrev pub clocks_with : ClockUse → Sheet → List ℕ
+clocks_with NoClock s = []
+clocks_with Clock s = s.a ∷ []
+clocks_with ClockAndLease s = s.a ∷ cond s.lease_present (s.b ∷ []) []
 
-abbrev pub clocksUsedBy : TrackerCall → Sheet → List ℕ
-clocksUsedBy c s = clocksWith (trackerRule c .clocks) s
+abbrev pub clocks_used_by : TrackerCall → Sheet → List ℕ
+clocks_used_by c s = clocks_with (tracker_rule c).clocks s
 
-abbrev pub clocksUsedJoined : JoinedCall → Sheet → List ℕ
-clocksUsedJoined admit s = []
-clocksUsedJoined lapse s = s .a ∷ []
-clocksUsedJoined part s = []
-clocksUsedJoined depart s = []
+abbrev pub clocks_used_joined : JoinedCall → Sheet → List ℕ
+clocks_used_joined admit s = []
+clocks_used_joined lapse s = s.a ∷ []
+clocks_used_joined part s = []
+clocks_used_joined depart s = []
 
-abbrev pub clocksUsed : Call → Sheet → List ℕ
-clocksUsed (instances c) s = []
-clocksUsed (tracker c) s = clocksUsedBy c s
-clocksUsed (joined c) s = clocksUsedJoined c s
+abbrev pub clocks_used : Call → Sheet → List ℕ
+clocks_used (instances c) s = []
+clocks_used (tracker c) s = clocks_used_by c s
+clocks_used (joined c) s = clocks_used_joined c s
 
 -- ---- 6: used holder above 144. Codes 1, 9 and 48 take the holder in any case, code 8 by its presence bit
 
-abbrev pub holderUsedBy : InstanceCall → Sheet → Bool
-holderUsedBy c s = used (rule c .holder) (s .holder .present)
+abbrev pub holder_used_by : InstanceCall → Sheet → Bool
+holder_used_by c s = used (rule c).holder s.holder.present
 
-abbrev pub holderUsedJoined : JoinedCall → Bool
-holderUsedJoined admit = true
-holderUsedJoined lapse = false
-holderUsedJoined part = false
-holderUsedJoined depart = false
+abbrev pub holder_used_joined : JoinedCall → Bool
+holder_used_joined admit = true
+holder_used_joined lapse = false
+holder_used_joined part = false
+holder_used_joined depart = false
 
-abbrev pub holderUsed : Call → Sheet → Bool
-holderUsed (instances c) s = holderUsedBy c s
-holderUsed (tracker c) s = false
-holderUsed (joined c) s = holderUsedJoined c
+abbrev pub holder_used : Call → Sheet → Bool
+holder_used (instances c) s = holder_used_by c s
+holder_used (tracker c) s = false
+holder_used (joined c) s = holder_used_joined c
 
-abbrev pub holderFits : Call → Sheet → Bool
-holderFits c s = not (holderUsed c s) || leb (s .holder .len) holderPlaces
+abbrev pub holder_fits : Call → Sheet → Bool
+holder_fits c s = not (holder_used c s) || leb s.holder.len holder_places
 
 -- ---- 7: kind 3 in matched
 
-abbrev pub kindWith : Bool → Sheet → Bool
-kindWith matches s = not matches || not (eqb (s .kind) 3)
+abbrev pub kind_with : Bool → Sheet → Bool
+kind_with matches s = not matches || not (eqb s.kind 3)
 
-abbrev pub kindOk : Call → Sheet → Bool
-kindOk (instances c) s = true
-kindOk (tracker c) s = kindWith (trackerRule c .matches) s
-kindOk (joined c) s = true
+abbrev pub kind_ok : Call → Sheet → Bool
+kind_ok (instances c) s = true
+kind_ok (tracker c) s = kind_with (tracker_rule c).matches s
+kind_ok (joined c) s = true
 
 -- ---- 8: acknowledge taking count minus change beyond ±2^30
 
-abbrev pub acknowledgeOk : Call → Sheet → State → Bool
-acknowledgeOk (instances c) s st = true
-acknowledgeOk (tracker c) s st = acknowledgeable c s st
-acknowledgeOk (joined c) s st = true
+abbrev pub acknowledge_ok : Call → Sheet → State → Bool
+acknowledge_ok (instances c) s st = true
+acknowledge_ok (tracker c) s st = acknowledgeable c s st
+acknowledge_ok (joined c) s st = true
 
 -- ---- the chain of 4 to 8: the lowest number that applies, 0 for none
 
-unfoldable pub sheetRefusal : Call → Sheet → State → ℕ
-sheetRefusal c s st =
-    cond (not (all nanosecondsOk (timesUsed c s))) 4
-    (cond (not (all clockOk (clocksUsed c s))) 5
-    (cond (not (holderFits c s)) 6
-    (cond (not (kindOk c s)) 7
-    (cond (not (acknowledgeOk c s st)) 8 0))))
+unfoldable pub sheet_refusal : Call → Sheet → State → ℕ
+sheet_refusal c s st =
+    cond (not (all nanoseconds_ok (times_used c s))) 4
+    (cond (not (all clock_ok (clocks_used c s))) 5
+    (cond (not (holder_fits c s)) 6
+    (cond (not (kind_ok c s)) 7
+    (cond (not (acknowledge_ok c s st)) 8 0))))

@@ -1,26 +1,23 @@
 -- Section 2: the writer set of an instance, up to 16 GUIDs, strictly rising.
-use Prim.Native.Nat.{ℕ, _-_}
-use mathlib.Core.Bool.{Bool, true, false, _||_, cond}
-use mathlib.Core.List.{List, [], _∷_, _++_}
-use lib.ListN.{length, take, replicate}
-use Rattle·model·specs.specs.declared.Guid.{Guid}
-use Rattle·model·specs.specs.declared.WriterSet.{WriterSet}
-use Rattle·model·specs.specs.Guids.{less, same, nil}
+use Rattle.std.specs.Prelude.{ℕ, ◌-◌, Bool, true, false, ◌||◌, cond, List, [], ◌∷◌, ◌++◌, length, take, replicate}
+use Rattle.model.specs.declared.Guid.{Guid}
+use Rattle.model.specs.declared.WriterSet.{WriterSet}
+use Rattle.model.specs.Guids.{less, same, nil}
 
 -- how many GUIDs a set may hold
-abbrev pub setPlaces : ℕ
-setPlaces = 16
+abbrev pub set_places : ℕ
+set_places = 16
 
 -- the GUIDs of a set as its record holds them
 abbrev pub members : WriterSet → List Guid
-members w = take (w .len) (w .items)
+members w = take w.len w.items
 
 -- the record of a set: the GUIDs, nil behind them
-unfoldable pub setOf : List Guid → WriterSet
-setOf s = record { len = length s; items = s ++ replicate (setPlaces - length s) nil }
+unfoldable pub set_of : List Guid → WriterSet
+set_of s = record { len = length s; items = s ++ replicate (set_places - length s) nil }
 
-abbrev pub emptySet : WriterSet
-emptySet = record { len = 0; items = replicate setPlaces nil }
+abbrev pub empty_set : WriterSet
+empty_set = record { len = 0; items = replicate set_places nil }
 
 unfoldable pub has : Guid → List Guid → Bool
 has g [] = false
@@ -36,6 +33,6 @@ unfoldable pub remove : Guid → List Guid → List Guid
 remove g [] = []
 remove g (x ∷ xs) = cond (same x g) xs (x ∷ remove g xs)
 
-abbrev pub isEmpty : List Guid → Bool
-isEmpty [] = true
-isEmpty (x ∷ xs) = false
+abbrev pub is_empty : List Guid → Bool
+is_empty [] = true
+is_empty (x ∷ xs) = false

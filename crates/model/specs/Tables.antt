@@ -1,14 +1,11 @@
 -- Keyed tables: lists of records whose keys strictly rise. Both tables of section 2 are such, and a call turns one: it puts
 -- in at most one record, then takes each record through a function of its own.
-use Prim.Native.Nat.{ℕ}
-use mathlib.Core.Bool.{Bool, true, false, _&&_, _||_, cond}
-use mathlib.Core.List.{List, [], _∷_}
-use mathlib.Core.Option.{Option, none, some}
-use lib.Dec.{eqb, ltb}
+use Rattle.std.specs.Prelude.{ℕ, Bool, true, false, ◌&&◌, ◌||◌, cond, List, [], ◌∷◌, eqb, ltb}
+use Rattle.std.proofs.Math.Option.{Option, none, some}
 
-abbrev pub isSome : {A : Type 0} → Option A → Bool
-isSome none = false
-isSome (some x) = true
+abbrev pub is_some : {A : Type 0} → Option A → Bool
+is_some none = false
+is_some (some x) = true
 
 module _ {A : Type 0} where
   -- the first record of which p holds

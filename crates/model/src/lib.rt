@@ -4,29 +4,35 @@
 // Derives from instance_tracker.rs, liveliness_tracker.rs and instance_handle.rs of ZeroDDS.
 // Copyright 2026 ZeroDDS Contributors. SPDX-License-Identifier: Apache-2.0. Changed: written anew in Rattle, with the
 // state as plain values of a fixed size.
+#![tactic(auto)]
 
 // Sixteen bytes, most significant first: a key (the Rust's KeyHash) or a writer's GUID.
+#[derive(Clone, Copy)]
 pub struct Guid {
     pub hi: u64,
     pub lo: u64,
 }
 
 // A handle is neither a count nor a code; 0 is nil.
+#[derive(Clone, Copy)]
 pub struct InstanceHandle(pub u64);
 
 // Time as a caller gives it and gets it.
+#[derive(Clone, Copy)]
 pub struct Time {
     pub sec: i32,
     pub nanosec: u32,
 }
 
 // An optional time as the records hold it: the seconds by their 32 bits in two's complement, zeros where absent.
+#[derive(Clone, Copy)]
 pub struct MaybeTime {
     pub present: bool,
     pub sec: u32,
     pub nanosec: u32,
 }
 
+#[derive(Clone, Copy)]
 pub enum InstanceStateKind {
     Alive,
     NotAliveDisposed,
@@ -34,6 +40,7 @@ pub enum InstanceStateKind {
 }
 
 // The lifecycle of an instance and what is counted of it.
+#[derive(Clone, Copy)]
 pub struct Life {
     pub kind: InstanceStateKind,
     pub view_new: bool,
@@ -43,6 +50,7 @@ pub struct Life {
     pub samples: u32,
 }
 
+#[derive(Clone, Copy)]
 pub struct Times {
     pub last_sample: MaybeTime,
     pub last_delivered: MaybeTime,
@@ -53,6 +61,7 @@ pub struct Times {
 }
 
 // The owner of an instance under exclusive ownership; the strength by its 32 bits in two's complement.
+#[derive(Clone, Copy)]
 pub struct MaybeOwner {
     pub present: bool,
     pub guid: Guid,
@@ -60,6 +69,7 @@ pub struct MaybeOwner {
 }
 
 // The bytes from which a key was made, zeros behind them.
+#[derive(Clone, Copy)]
 pub struct Holder {
     pub present: bool,
     pub len: u16,
@@ -67,12 +77,14 @@ pub struct Holder {
 }
 
 // The writers of an instance, strictly rising, nil GUIDs behind them.
+#[derive(Clone, Copy)]
 pub struct WriterSet {
     pub len: usize,
     pub items: [Guid; 16],
 }
 
 // What a call may change of an instance: all but its key and its handle.
+#[derive(Clone, Copy)]
 pub struct InstanceState {
     pub life: Life,
     pub times: Times,
@@ -81,12 +93,14 @@ pub struct InstanceState {
     pub writers: WriterSet,
 }
 
+#[derive(Clone, Copy)]
 pub struct Instance {
     pub key: Guid,
     pub handle: InstanceHandle,
     pub state: InstanceState,
 }
 
+#[derive(Clone, Copy)]
 pub enum LivelinessKind {
     Automatic,
     ManualByParticipant,
@@ -94,6 +108,7 @@ pub enum LivelinessKind {
 }
 
 // Where a writer stands. A departed one was lost with its participant and has not matched since.
+#[derive(Clone, Copy)]
 pub enum WriterState {
     Unasserted,
     Alive,
@@ -102,12 +117,14 @@ pub enum WriterState {
 }
 
 // A lease in nanoseconds; an absent one is infinite.
+#[derive(Clone, Copy)]
 pub struct MaybeLease {
     pub present: bool,
     pub nanos: u64,
 }
 
 // The liveliness of one writer.
+#[derive(Clone, Copy)]
 pub struct Liveliness {
     pub kind: LivelinessKind,
     pub state: WriterState,
@@ -115,18 +132,21 @@ pub struct Liveliness {
     pub last_assertion: u64,
 }
 
+#[derive(Clone, Copy)]
 pub struct Writer {
     pub guid: Guid,
     pub liveliness: Liveliness,
 }
 
 // The last writer whose class changed, where there was one.
+#[derive(Clone, Copy)]
 pub enum LastWriter {
     Nobody,
     Is(Guid),
 }
 
 // The part of the state that goes by value; `places` is the number of instance places.
+#[derive(Clone, Copy)]
 pub struct Head {
     pub instance_count: u32,
     pub next_handle: InstanceHandle,
@@ -149,6 +169,7 @@ pub const LAST_TRACKER: u8 = 40;
 pub const LAST_JOINED: u8 = 51;
 
 // The calls on instances, in the order of their codes.
+#[derive(Clone, Copy)]
 pub enum InstanceCall {
     Register,
     EnsureRegisteredLimited,
@@ -175,6 +196,7 @@ pub enum InstanceCall {
 
 // How a call on instances reaches: by key, which may start an absent instance, also up to a limit; by handle; or as a call on
 // every instance.
+#[derive(Clone, Copy)]
 pub enum Reach {
     ByKey,
     StartingByKey,
@@ -184,6 +206,7 @@ pub enum Reach {
 }
 
 // Whether a call uses a field of its sheet: never, where its presence bit is set, always.
+#[derive(Clone, Copy)]
 pub enum FieldUse {
     Never,
     IfPresent,
@@ -192,6 +215,7 @@ pub enum FieldUse {
 
 // What a call on one instance answers: nothing, the handle, whether the instance is known, handle and samples, the fields for
 // a SampleInfo, whether a sample is accepted, whether an owner is released.
+#[derive(Clone, Copy)]
 pub enum Says {
     Nothing,
     Handle,
@@ -204,6 +228,7 @@ pub enum Says {
 
 // What a call on every instance reports of one: nothing, that it is left writerless, that its owner is cleared, by GUID or by
 // prefix, or that it is purged.
+#[derive(Clone, Copy)]
 pub enum Report {
     Nothing,
     Left,
@@ -214,6 +239,7 @@ pub enum Report {
 
 // All that is said of a call on instances as a call, its effect apart. `says` is for a call on one instance, `reports` for a
 // call on every.
+#[derive(Clone, Copy)]
 pub struct Rule {
     pub reach: Reach,
     pub adds_writer: bool,
@@ -225,6 +251,7 @@ pub struct Rule {
 }
 
 // The calls on writers, in the order of their codes.
+#[derive(Clone, Copy)]
 pub enum TrackerCall {
     Matched,
     Unmatched,
@@ -237,8 +264,9 @@ pub enum TrackerCall {
     Acknowledge,
 }
 
-// The columns of a call on writers, whose rows are `trackerRule` in Writers. The clocks of the sheet that it uses: A, and B as
+// The columns of a call on writers, whose rows are `tracker_rule` in Writers. The clocks of the sheet that it uses: A, and B as
 // a lease by its bit.
+#[derive(Clone, Copy)]
 pub enum ClockUse {
     NoClock,
     Clock,
@@ -246,6 +274,7 @@ pub enum ClockUse {
 }
 
 // What it does to Lost: nothing, puts the writers that changed class behind it, or empties it.
+#[derive(Clone, Copy)]
 pub enum LostUse {
     Leaves,
     Appends,
@@ -253,6 +282,7 @@ pub enum LostUse {
 }
 
 // What it acknowledges of both counts: nothing, the whole, or the part that the sheet gives.
+#[derive(Clone, Copy)]
 pub enum AcknowledgeUse {
     Nothing,
     Whole,
@@ -260,6 +290,7 @@ pub enum AcknowledgeUse {
 }
 
 // What it answers: whether a class changed, that and when the next lease runs out, the list of Lost, the status, or nothing.
+#[derive(Clone, Copy)]
 pub enum TrackerReport {
     Moved,
     MovedAndDue,
@@ -269,6 +300,7 @@ pub enum TrackerReport {
 }
 
 // A call that matches takes the kind and puts a record in.
+#[derive(Clone, Copy)]
 pub struct TrackerRule {
     pub clocks: ClockUse,
     pub matches: bool,
@@ -278,6 +310,7 @@ pub struct TrackerRule {
 }
 
 // The joined calls, in the order of their codes.
+#[derive(Clone, Copy)]
 pub enum JoinedCall {
     Admit,
     Lapse,
@@ -286,6 +319,7 @@ pub enum JoinedCall {
 }
 
 // A sheet's fields as they stand, used or not. Numbers with a sign are given by their bits.
+#[derive(Clone, Copy)]
 pub struct Sheet {
     pub key: Guid,
     pub guid: Guid,
@@ -306,6 +340,7 @@ pub struct Sheet {
 }
 
 // What the SampleInfo of an admitted sample takes from its instance.
+#[derive(Clone, Copy)]
 pub struct SampleInfo {
     pub view_new: bool,
     pub kind: InstanceStateKind,
@@ -313,6 +348,7 @@ pub struct SampleInfo {
     pub no_writers_generations: u32,
 }
 
+#[derive(Clone, Copy)]
 pub struct LivelinessChangedStatus {
     pub alive_count: u32,
     pub not_alive_count: u32,
@@ -322,12 +358,14 @@ pub struct LivelinessChangedStatus {
 }
 
 // When the next lease runs out, where one does.
+#[derive(Clone, Copy)]
 pub struct MaybeDue {
     pub present: bool,
     pub at: u64,
 }
 
 // What a call answers: the number of its refusal, or 0 and what the call has to say. All else is 0.
+#[derive(Clone, Copy)]
 pub struct Answer {
     pub number: u8,
     pub outcome: u8,
@@ -343,45 +381,53 @@ pub struct Answer {
 }
 
 // What a call leaves by value.
+#[derive(Clone, Copy)]
 pub struct Called {
     pub answer: Answer,
     pub head: Head,
 }
 
 // The allocator's step: the handle given and the counter after it.
+#[derive(Clone, Copy)]
 pub struct Allocated {
     pub handle: InstanceHandle,
     pub counter: u64,
 }
 
 // The answers of the reads; a refusal carries its number.
+#[derive(Clone, Copy)]
 pub enum Decision {
     Refused(u8),
     Is(bool),
 }
 
+#[derive(Clone, Copy)]
 pub enum FoundHandle {
     Refused(u8),
     Missing,
     Is(InstanceHandle),
 }
 
+#[derive(Clone, Copy)]
 pub enum FoundTime {
     Refused(u8),
     Missing,
     Is(Time),
 }
 
+#[derive(Clone, Copy)]
 pub enum Listing {
     Refused(u8),
     Listed(u32),
 }
 
+#[derive(Clone, Copy)]
 pub enum StatusRead {
     Refused(u8),
     Is(LivelinessChangedStatus),
 }
 
+#[derive(Clone, Copy)]
 pub enum ChangesRead {
     Refused(u8),
     Is(u64),

@@ -1,8 +1,6 @@
 -- A product from the halves of its factors.
-use Prim.Native.Nat.{ℕ, _+_, _*_, _/_, _%_, _^_, _-_, _<_}
-use mathlib.Core.Path.{_≡_, _∙_}
-use native.Mathlib.Nat.{mul-add, add-mul, mul-assoc, mul-right-comm, mul-mul-mul-comm, mul-le-mul, div-add-mod'}
-use native.Mathlib.Omega.{arith}
+use Rattle.std.proofs.Common.{◌≡◌, ℕ, ◌+◌, ◌-◌, ◌*◌, ◌/◌, ◌%◌, ◌^◌, ◌<◌, ◌∙◌, mul_assoc, add-mul, mul-le-mul, div-add-mod', mul-add, mul_right_comm, arith}
+use native.Mathlib.Nat.{mul-mul-mul_comm}
 
 -- the product of two numbers of two digits to the base b
 pub halves : (h l k m b : ℕ) → (h * b + l) * (k * b + m) ≡ (h * m + l * k) * b + l * m + h * k * (b * b)
@@ -12,9 +10,9 @@ halves h l k m b =
       mul-add (h * b + l) (k * b) m,
       add-mul (h * b) l (k * b),
       add-mul (h * b) l m,
-      mul-mul-mul-comm h b k b,
-      mul-assoc l k b,
-      mul-right-comm h b m,
+      mul-mul-mul_comm h b k b,
+      mul_assoc l k b,
+      mul_right_comm h b m,
       add-mul (h * m) (l * k) b,
     )
 
@@ -31,5 +29,5 @@ product a b =
     ∙ rw (← halves (a / 2 ^ 32) (a % 2 ^ 32) (b / 2 ^ 32) (b % 2 ^ 32) (2 ^ 32), div-add-mod' a (2 ^ 32), div-add-mod' b (2 ^ 32))
 
 -- two halves' product fits
-pub halves-fit : {x y : ℕ} → x < 2 ^ 32 → y < 2 ^ 32 → x * y < 2 ^ 64
-halves-fit {x} {y} h k = omega (arith, mul-le-mul {n₁ = x} {m₁ = y} {n₂ = 2 ^ 32 - 1} {m₂ = 2 ^ 32 - 1} (omega arith) (omega arith))
+pub halves_fit : {x y : ℕ} → x < 2 ^ 32 → y < 2 ^ 32 → x * y < 2 ^ 64
+halves_fit {x} {y} h k = omega (arith, mul-le-mul {n₁ = x} {m₁ = y} {n₂ = 2 ^ 32 - 1} {m₂ = 2 ^ 32 - 1} (omega arith) (omega arith))

@@ -1,16 +1,16 @@
 // Numbers beyond the language's own operators: sums that stop or wrap, 32 bits read with and without a sign, and the
 // signed differences of the liveliness status.
-ghost use mathlib.Core.Path.{_≡_};
-ghost use Prim.Native.Nat.{_+_, _-_, _*_, _%_, _^_, _≤_, min};
-ghost use lib.IntN.{pos, _+ℤ_, _-ℤ_};
-ghost use mir.Syntax.{w32, w64};
-ghost use mir.Val.{SFits, ofZ, toZ};
-ghost use Rattle·model.specs.Times.{raised};
-ghost use Rattle·model.specs.WellFormed.{within};
+#![tactic(auto)]
+
+ghost use Rattle.std.specs.Prelude.{◌≡◌, ◌+◌, ◌-◌, ◌*◌, ◌%◌, ◌^◌, ◌≤◌, min, pos, ◌+ℤ◌, ◌-ℤ◌, FitsSigned};
+ghost use Rattle.std.specs.Int.{w32, w64};
+ghost use Rattle.std.proofs.Common.{of_z, to_z};
+ghost use Rattle.model.specs.Times.{raised};
+ghost use Rattle.model.specs.WellFormed.{within};
 
 // a + b, stopping at 2^32 - 1.
 pub fn saturating_add_u32(a: u32, b: u32) -> u32
-    ensures { λ r. ⌜ r ≡ min (a + b) 4294967295 ⌝ }
+    ensures { result ≡ min (a + b) 4294967295 }
 {
     if b <= 0xFFFF_FFFF - a {
         a + b
@@ -21,29 +21,29 @@ pub fn saturating_add_u32(a: u32, b: u32) -> u32
 
 // a - b, stopping at 0, as a difference of naturals does.
 pub fn saturating_sub_u32(a: u32, b: u32) -> u32
-    ensures { λ r. ⌜ r ≡ a - b ⌝ }
+    ensures { result ≡ a - b }
 {
     if b <= a { a - b } else { 0 }
 }
 
 // One generation more, stopping at 2^31 - 1.
 pub fn generation_after(g: u32) -> u32
-    requires { ⌜ g ≤ 2147483647 ⌝ }
-    ensures { λ r. ⌜ r ≡ min (g + 1) 2147483647 ⌝ }
+    requires { g ≤ 2147483647 }
+    ensures { result ≡ min (g + 1) 2147483647 }
 {
     if g < 0x7FFF_FFFF { g + 1 } else { g }
 }
 
 // a + b, modulo 2^64.
 pub fn wrapping_add_u64(a: u64, b: u64) -> u64
-    ensures { λ r. ⌜ r ≡ (a + b) % 2 ^ 64 ⌝ }
+    ensures { result ≡ (a + b) % 2 ^ 64 }
 {
     std::num::wrapping_add_u64(a, b)
 }
 
 // a * b, modulo 2^64, by halves of 32 bits: the product of the high halves is lost whole.
 pub fn wrapping_mul_u64(a: u64, b: u64) -> u64
-    ensures { λ r. ⌜ r ≡ a * b % 2 ^ 64 ⌝ }
+    ensures { result ≡ a * b % 2 ^ 64 }
 {
     let ah = a / 0x1_0000_0000;
     let al = a % 0x1_0000_0000;
@@ -55,7 +55,7 @@ pub fn wrapping_mul_u64(a: u64, b: u64) -> u64
 
 // The bits of a signed number, as the number plus 2^31: these are ordered as the signed numbers are.
 pub fn raise(bits: u32) -> u32
-    ensures { λ r. ⌜ r ≡ raised bits ⌝ }
+    ensures { result ≡ raised bits }
 {
     if bits < 0x8000_0000 {
         bits + 0x8000_0000
@@ -66,44 +66,44 @@ pub fn raise(bits: u32) -> u32
 
 // The bits of a signed number, in two's complement: the number plus 2^31 is its raised bits.
 pub fn bits_of(s: i32) -> u32
-    ensures { λ r. ⌜ r ≡ ofZ w32 s ⌝ }
+    ensures { result ≡ of_z w32 s }
 {
     raise(add_i64(0x8000_0000, s) as u32)
 }
 
 // The signed number of the bits: the raised bits less 2^31.
 pub fn of_bits(b: u32) -> i32
-    ensures { λ r. ⌜ r ≡ toZ w32 b ⌝ }
+    ensures { result ≡ to_z w32 b }
 {
     change_of(raise(b), 0x8000_0000)
 }
 
 // What was acknowledged of a count: the count less its change.
 pub fn acknowledged(count: u32, change: i32) -> i64
-    ensures { λ r. ⌜ r ≡ pos count -ℤ change ⌝ }
+    ensures { result ≡ pos count -ℤ change }
 {
     (count as i64) - (change as i64)
 }
 
 // x lies within -2^30 and 2^30.
 pub fn within_bound(x: i64) -> bool
-    ensures { λ r. ⌜ r ≡ within x ⌝ }
+    ensures { result ≡ within x }
 {
     -0x4000_0000 <= x && x <= 0x4000_0000
 }
 
 // The change of a count: the count less what was acknowledged of it.
 pub fn change_of(count: u32, acknowledged: i64) -> i32
-    requires { ⌜ SFits w32 (pos count -ℤ acknowledged) ⌝ }
-    ensures { λ r. ⌜ r ≡ pos count -ℤ acknowledged ⌝ }
+    requires { FitsSigned w32 (pos count -ℤ acknowledged) }
+    ensures { result ≡ pos count -ℤ acknowledged }
 {
     ((count as i64) - acknowledged) as i32
 }
 
 // a + b, where it fits.
 pub fn add_i64(a: i64, b: i32) -> i64
-    requires { ⌜ SFits w64 (a +ℤ b) ⌝ }
-    ensures { λ r. ⌜ r ≡ a +ℤ b ⌝ }
+    requires { FitsSigned w64 (a +ℤ b) }
+    ensures { result ≡ a +ℤ b }
 {
     a + (b as i64)
 }

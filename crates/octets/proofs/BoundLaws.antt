@@ -1,16 +1,16 @@
 -- Laws of numbers that are read from bytes.
 --     be-lt                  numbers and fields that are read fit their widths
 --     put-be, puts-reads     writing what is there changes nothing
-use mathlib.Core.Path.{_≡_, refl}
-use mathlib.Core.List.{List, [], _∷_}
-use Prim.Native.Nat.{ℕ, zero, suc, _+_, _*_, _/_, _%_, _^_, _<_}
+use mathlib.Core.Path.{◌≡◌, refl}
+use mathlib.Core.List.{List, [], ◌∷◌}
+use Prim.Native.Nat.{ℕ, zero, suc, ◌+◌, ◌*◌, ◌/◌, ◌%◌, ◌^◌, ◌<◌}
 use native.Mathlib.Nat.{pow-suc}
 use native.Mathlib.Omega.{arith}
-use lib.ListN.{getD}
-use lib.Seq.{set-getD}
-use Rattle·octets·specs.specs.Octets.{be, put}
-use Rattle·octets·specs.specs.Bounds.{Bytes}
-use Rattle·octets·specs.specs.Fields.{reads, puts}
+use lib.ListN.{get_or}
+use lib.Seq.{set-get_or}
+use Rattle.octets.specs.Octets.{be, put}
+use Rattle.octets.specs.Bounds.{Bytes}
+use Rattle.octets.specs.Fields.{reads, puts}
 
 pub be-lt : (k : ℕ) (s : List ℕ) (at : ℕ) → Bytes s → be k s at < 256 ^ k
 unfolding be
@@ -21,9 +21,9 @@ pub put-be : (k : ℕ) (s : List ℕ) (at : ℕ) → Bytes s → put k s at (be 
 unfolding put be
 put-be zero s at h = refl
 put-be (suc k) s at h =
-    let low : (be k s at * 256 + getD s (at + k) 0) % 256 ≡ getD s (at + k) 0 = omega (arith, h (at + k)) in
-    let high : (be k s at * 256 + getD s (at + k) 0) / 256 ≡ be k s at = omega (arith, h (at + k)) in
-    rw (low, high, set-getD s (at + k) 0) (put-be k s at h)
+    let low : (be k s at * 256 + get_or s (at + k) 0) % 256 ≡ get_or s (at + k) 0 = omega (arith, h (at + k)) in
+    let high : (be k s at * 256 + get_or s (at + k) 0) / 256 ≡ be k s at = omega (arith, h (at + k)) in
+    rw (low, high, set-get_or s (at + k) 0) (put-be k s at h)
 
 pub puts-reads : (ks s : List ℕ) (at o : ℕ) → Bytes s → puts ks (reads ks s at o) s at o ≡ s
 puts-reads [] s at o h = refl

@@ -1,33 +1,33 @@
 -- One turn and the end of the scan for bytes that are not 0, in the code's own form.
-use mathlib.Core.Path.{_≡_, sym, _∙_}
-use mathlib.Core.Bool.{_&&_, and-assoc, and-true}
+use mathlib.Core.Path.{◌≡◌, sym, ◌∙◌}
+use mathlib.Core.Bool.{◌&&◌, and_assoc, and-true}
 use mathlib.Core.List.{List}
-use Prim.Native.Nat.{ℕ, zero, suc, _+_, _-_, _≤_, _<_}
+use Prim.Native.Nat.{ℕ, zero, suc, ◌+◌, ◌-◌, ◌≤◌, ◌<◌}
 use native.Mathlib.Numerals.{add-one}
 use native.Mathlib.Omega.{arith}
-use lib.Bits.{bitOr, or-add-and, and-le-r, or-zero-l}
-use lib.Dec.{eqb, eqb·suc-zero}
-use lib.ListN.{length, getD, take, drop}
+use lib.Bits.{bit_or, or_add_and, and_le_r, or_zero_l}
+use lib.Dec.{eqb, eqb-suc-zero}
+use lib.ListN.{length, get_or, take, drop}
 use lib.Seq.{drop-cons}
-use borrow.Author.Tests.{ne-eqb}
-use Rattle·octets·specs.specs.Zeros.{allZero}
+use borrow.Author.Tests.{ne_eqb}
+use Rattle.octets.specs.Zeros.{all_zero}
 
 -- an OR is 0 where both are
-or-is-zero : (a b : ℕ) → eqb (bitOr a b) 0 ≡ (eqb a 0 && eqb b 0)
-or-is-zero zero b = rw (or-zero-l b)
+or-is-zero : (a b : ℕ) → eqb (bit_or a b) 0 ≡ (eqb a 0 && eqb b 0)
+or-is-zero zero b = rw (or_zero_l b)
 or-is-zero (suc a) b =
-    let h : suc a ≤ bitOr (suc a) b = omega (arith, or-add-and (suc a) b, and-le-r (suc a) b) in
-    ne-eqb (bitOr (suc a) b) 0 (λ e. omega arith) ∙ rw (eqb·suc-zero a)
+    let h : suc a ≤ bit_or (suc a) b = omega (arith, or_add_and (suc a) b, and_le_r (suc a) b) in
+    ne_eqb (bit_or (suc a) b) 0 (λ e. omega arith) ∙ rw (eqb-suc-zero a)
 
 module _ (b : List ℕ) (acc i end : ℕ) where
-  pub scan-turn : i < end → end ≤ length b
-      → (eqb (bitOr acc (getD b i 0)) 0 && allZero (take (end - (i + 1)) (drop (i + 1) b))) ≡ (eqb acc 0 && allZero (take (end - i) (drop i b)))
-  unfolding allZero
-  scan-turn h l =
+  pub scan_turn : i < end → end ≤ length b
+      → (eqb (bit_or acc (get_or b i 0)) 0 && all_zero (take (end - (i + 1)) (drop (i + 1) b))) ≡ (eqb acc 0 && all_zero (take (end - i) (drop i b)))
+  unfolding all_zero
+  scan_turn h l =
       let e : end - i ≡ suc (end - (i + 1)) = omega arith in
-      rw (e, drop-cons b i 0 (omega arith), ← add-one i, or-is-zero acc (getD b i 0))
-      (and-assoc (eqb acc 0) (eqb (getD b i 0) 0) (allZero (take (end - (i + 1)) (drop (i + 1) b))))
+      rw (e, drop-cons b i 0 (omega arith), ← add-one i, or-is-zero acc (get_or b i 0))
+      (and_assoc (eqb acc 0) (eqb (get_or b i 0) 0) (all_zero (take (end - (i + 1)) (drop (i + 1) b))))
 
-  pub scan-end : end ≤ i → eqb acc 0 ≡ (eqb acc 0 && allZero (take (end - i) (drop i b)))
-  unfolding allZero
-  scan-end h = let e : end - i ≡ 0 = omega arith in rw e (sym (and-true (eqb acc 0)))
+  pub scan_end : end ≤ i → eqb acc 0 ≡ (eqb acc 0 && all_zero (take (end - i) (drop i b)))
+  unfolding all_zero
+  scan_end h = let e : end - i ≡ 0 = omega arith in rw e (sym (and-true (eqb acc 0)))

@@ -1,7 +1,5 @@
 -- A table: records of one size end to end, zeros behind them.
-use Prim.Native.Nat.{ℕ, _-_, _*_}
-use mathlib.Core.List.{List, [], _∷_, _++_}
-use lib.ListN.{length, replicate}
+use Rattle.std.specs.Prelude.{ℕ, ◌-◌, ◌*◌, List, [], ◌∷◌, ◌++◌, length, replicate}
 
 module _ {A : Type 0} where
   -- the bytes of the records xs, one record after the other

@@ -1,7 +1,5 @@
 -- A part of a list replaced, and fields as the bytes that they are.
-use Prim.Native.Nat.{ℕ, zero, suc, _+_, _/_, _%_}
-use mathlib.Core.List.{List, [], _∷_, _++_}
-use lib.ListN.{take, drop}
+use Rattle.std.specs.Prelude.{ℕ, zero, suc, ◌+◌, ◌/◌, ◌%◌, List, [], ◌∷◌, ◌++◌, take, drop}
 
 -- d with the k elements from at replaced by r
 abbrev pub patch : {A : Type 0} → List A → ℕ → ℕ → List A → List A

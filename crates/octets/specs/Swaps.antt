@@ -1,5 +1,5 @@
 -- The bytes of a number the other way round, by halves.
-use Prim.Native.Nat.{ℕ, _+_, _*_, _/_, _%_}
+use Rattle.std.specs.Prelude.{ℕ, ◌+◌, ◌*◌, ◌/◌, ◌%◌}
 
 unfoldable pub swap2 : ℕ → ℕ
 swap2 x = x % 256 * 256 + x / 256

@@ -1,183 +1,184 @@
 -- The writer lookup, which names the first alive instance in key order whose set has the GUID (02, ticket 6).
---     lookup-right     its answer is one of those that 01 alone allows
---     lookup-first     of the instances that could be named none has a lower key than the named one
---     lookup-only      and no other answer is so: none is free
---     lookup-handles   it goes by the refusal and the handles of those instances, in key order, alone
---     lookup-stays     so while these stay, the answer does
---     lookup-same      over unchanged instances, whichever the number of places
---     lookup-front     and while the first of them stays, whatever is behind it
+--     lookup_right_lem     its answer is one of those that 01 alone allows
+--     lookup_first     of the instances that could be named none has a lower key than the named one
+--     lookup_only      and no other answer is so: none is free
+--     lookup_handles   it goes by the refusal and the handles of those instances, in key order, alone
+--     lookup_stays     so while these stay, the answer does
+--     lookup_same      over unchanged instances, whichever the number of places
+--     lookup_front     and while the first of them stays, whatever is behind it
 use Prim.Native.Nat.{ℕ, zero, suc}
 use mathlib.Core.Bool.{Bool, true, false, not, or-true, or-false, and-false}
-use mathlib.Core.List.{List, [], _∷_}
-use mathlib.Core.Option.{Option, none, some, Option·none-ne-some, Option·some-injective}
-use mathlib.Core.Path.{_≡_, refl, sym, ap, _∙_}
-use borrow.Author.Tests.{eq-eqb, ne-eqb, eqb-true, ltb-true, le-leb, lt-leb}
+use mathlib.Core.List.{List, [], ◌∷◌}
+use mathlib.Core.Option.{Option, none, some, none-ne-some, some-injective}
+use mathlib.Core.Path.{◌≡◌, refl, sym, ap, ◌∙◌, subst}
+use borrow.Author.Tests.{eq-eqb, ne_eqb, eqb-true, ltb-true, le-leb, lt-leb}
 use native.Mathlib.Omega.{arith}
 use lib.Dec.{eqb, ltb}
-use Rattle·model.specs.declared.FoundHandle.{FoundHandle}
-use Rattle·model.specs.declared.FoundHandle.the-variants.{Is, Missing, Refused}
-use Rattle·model.specs.declared.Guid.{Guid}
-use Rattle·model.specs.declared.Instance.{Instance}
-use Rattle·model.specs.declared.InstanceHandle.{InstanceHandle}
-use Rattle·model.specs.Handles.{handle}
-use Rattle·model.specs.Reads.{tableOf, tableRefusal, handleFound, writes, firstWritten, lookupRead}
-use Rattle·model.specs.State.{instanceKey}
-use Rattle·model.specs.Tables.{find, pick, all, any, above, rising}
-use Rattle·model.proofs.Tests.{both, split, clash}
-use Rattle·instance_reads.proofs.Table.{whole}
-use Rattle·read_laws·specs.specs.Lookups.{writesAt, lookedUp, lookupRight, notBelow, firstAt, namesFirst, writtenHandles, firstHandle}
+use Rattle.model.specs.declared.FoundHandle.{FoundHandle}
+use Rattle.model.specs.declared.FoundHandle.TheVariants.{Is, Missing, Refused}
+use Rattle.model.specs.declared.Guid.{Guid}
+use Rattle.model.specs.declared.Instance.{Instance}
+use Rattle.model.specs.declared.InstanceHandle.{InstanceHandle}
+use Rattle.model.specs.Handles.{handle}
+use Rattle.model.specs.Reads.{table_of, table_refusal, handle_found, writes, first_written, lookup_read}
+use Rattle.model.specs.State.{instance_key}
+use Rattle.model.specs.Tables.{find, pick, all, any, above, rising}
+use Rattle.model.proofs.Tests.{both, split, clash}
+use Rattle.instance_reads.proofs.Table.{whole}
+use Rattle.read_laws.specs.Lookups.{writes_at, looked_up, lookup_right, not_below, first_at, names_first, written_handles, first_handle}
 
 -- of several handles the first counts
-front : (n : ℕ) (h : InstanceHandle) (hs hs′ : List InstanceHandle) → firstHandle n (h ∷ hs) ≡ firstHandle n (h ∷ hs′)
-front zero h hs hs′ = refl
-front (suc n) h hs hs′ = refl
+front : (n : ℕ) (h : InstanceHandle) (hs hs' : List InstanceHandle) → first_handle n (h ∷ hs) ≡ first_handle n (h ∷ hs')
+front zero h hs hs' = refl
+front (suc n) h hs hs' = refl
 
 module _ (g : Guid) where
   -- an instance more, which the writer does not write
-  further : (x : Instance) (xs : List Instance) (r : FoundHandle) → writes g x ≡ false → lookedUp 0 xs g r ≡ true → lookedUp 0 (x ∷ xs) g r ≡ true
+  further : (x : Instance) (xs : List Instance) (r : FoundHandle) → writes g x ≡ false → looked_up 0 xs g r ≡ true → looked_up 0 (x ∷ xs) g r ≡ true
   unfolding any
   further x xs (Refused n) w e = e
   further x xs Missing w e = rw w e
   further x xs (Is h) w e = rw w e
 
-  found-right : (xs : List Instance) → lookedUp 0 xs g (handleFound 0 (firstWritten g xs)) ≡ true
+  found_right : (xs : List Instance) → looked_up 0 xs g (handle_found 0 (first_written g xs)) ≡ true
   unfolding find any
-  found-right [] = refl
-  found-right (x ∷ xs) =
+  found_right [] = refl
+  found_right (x ∷ xs) =
       split (writes g x)
-      (λ w. rw (w, eq-eqb (x .handle .0) (x .handle .0) refl, w))
-      (λ w. rw w (further x xs (handleFound 0 (firstWritten g xs)) w (found-right xs)))
+      (λ w. rw (w, eq-eqb x.handle.0 x.handle.0 refl, w))
+      (λ w. rw w (further x xs (handle_found 0 (first_written g xs)) w (found_right xs)))
 
-  answer-right : (n : ℕ) (xs : List Instance) → lookedUp n xs g (handleFound n (firstWritten g xs)) ≡ true
-  answer-right zero xs = found-right xs
-  answer-right (suc n) xs = rw (ne-eqb (suc n) 0 (λ e. omega arith), eq-eqb (suc n) (suc n) refl)
+  answer_right : (n : ℕ) (xs : List Instance) → looked_up n xs g (handle_found n (first_written g xs)) ≡ true
+  answer_right zero xs = found_right xs
+  answer_right (suc n) xs = rw (ne_eqb (suc n) 0 (λ e. omega arith), eq-eqb (suc n) (suc n) refl)
 
-  pub lookup-right : (places : ℕ) (t : List ℕ) → lookupRight places t g (lookupRead places t g) ≡ true
-  unfolding lookupRight lookupRead
-  lookup-right places t = answer-right (tableRefusal places t) (tableOf places t)
+  pub lookup_right_lem : (places : ℕ) (t : List ℕ) → lookup_right places t g (lookup_read places t g) ≡ true
+  unfolding lookup_right lookup_read
+  lookup_right_lem places t = answer_right (table_refusal places t) (table_of places t)
 
   -- ---- the lowest key
 
-  behind : (x : Instance) (xs : List Instance) → above instanceKey (instanceKey x) xs ≡ true → all (notBelow g x) xs ≡ true
+  behind : (x : Instance) (xs : List Instance) → above instance_key (instance_key x) xs ≡ true → all (not_below g x) xs ≡ true
   unfolding above all
   behind x [] a = refl
   behind x (y ∷ ys) a =
-      let b = both (ltb (instanceKey x) (instanceKey y)) (above instanceKey (instanceKey x) ys) a in
-      rw (le-leb (instanceKey x) (instanceKey y) (omega (arith, ltb-true (instanceKey x) (instanceKey y) (b .0))), or-true (not (writes g y)))
-      (behind x ys (b .1))
+      let b = both (ltb (instance_key x) (instance_key y)) (above instance_key (instance_key x) ys) a in
+      rw (le-leb (instance_key x) (instance_key y) (omega (arith, ltb-true (instance_key x) (instance_key y) b.0)), or-true (not (writes g y)))
+      (behind x ys b.1)
 
-  lowest : (xs : List Instance) → rising instanceKey xs ≡ true → (x : Instance) → firstWritten g xs ≡ some x → all (notBelow g x) xs ≡ true
+  lowest : (xs : List Instance) → rising instance_key xs ≡ true → (x : Instance) → first_written g xs ≡ some x → all (not_below g x) xs ≡ true
   unfolding rising find all
   lowest [] r x e = refl
   lowest (y ∷ ys) r x e =
-      let b = both (above instanceKey (instanceKey y) ys) (rising instanceKey ys) r in
+      let b = both (above instance_key (instance_key y) ys) (rising instance_key ys) r in
       split (writes g y)
-      (λ w. let q : y ≡ x = Option·some-injective y x (rw w at e) in rw (← q, le-leb (instanceKey y) (instanceKey y) (omega arith), or-true (not (writes g y))) (behind y ys (b .0)))
-      (λ w. rw w (lowest ys (b .1) x (rw w at e)))
+      (λ w. subst (λ (z : Instance). all (not_below g z) (y ∷ ys) ≡ true) (some-injective y x (rw w at e))
+      (rw (le-leb (instance_key y) (instance_key y) (omega arith), or-true (not (writes g y))) (behind y ys b.0)))
+      (λ w. rw w (lowest ys b.1 x (rw w at e)))
 
-  found-writes : (xs : List Instance) (x : Instance) → firstWritten g xs ≡ some x → writes g x ≡ true
+  found_writes : (xs : List Instance) (x : Instance) → first_written g xs ≡ some x → writes g x ≡ true
   unfolding find
-  found-writes [] x e = absurd (Option·none-ne-some x e)
-  found-writes (y ∷ ys) x e =
+  found_writes [] x e = absurd (none-ne-some x e)
+  found_writes (y ∷ ys) x e =
       split (writes g y)
-      (λ w. let q : y ≡ x = Option·some-injective y x (rw w at e) in rw (← q) w)
-      (λ w. found-writes ys x (rw w at e))
+      (λ w. let q : y ≡ x = some-injective y x (rw w at e) in rw (← q) w)
+      (λ w. found_writes ys x (rw w at e))
 
-  found-any : (p : Instance → Bool) (xs : List Instance) (x : Instance) → firstWritten g xs ≡ some x → p x ≡ true → any p xs ≡ true
+  found_any : (p : Instance → Bool) (xs : List Instance) (x : Instance) → first_written g xs ≡ some x → p x ≡ true → any p xs ≡ true
   unfolding find any
-  found-any p [] x e h = absurd (Option·none-ne-some x e)
-  found-any p (y ∷ ys) x e h =
+  found_any p [] x e h = absurd (none-ne-some x e)
+  found_any p (y ∷ ys) x e h =
       split (writes g y)
-      (λ w. let q : y ≡ x = Option·some-injective y x (rw w at e) in rw (q, h))
-      (λ w. rw (found-any p ys x (rw w at e) h, or-true (p y)))
+      (λ w. let q : y ≡ x = some-injective y x (rw w at e) in rw (q, h))
+      (λ w. rw (found_any p ys x (rw w at e) h, or-true (p y)))
 
-  names-first : (n : ℕ) (xs : List Instance) → (n ≡ 0 → rising instanceKey xs ≡ true) → namesFirst g xs (handleFound n (firstWritten g xs)) ≡ true
-  names-first (suc n) xs r = refl
-  names-first zero xs r = each (firstWritten g xs) refl
+  names_first_lem : (n : ℕ) (xs : List Instance) → (n ≡ 0 → rising instance_key xs ≡ true) → names_first g xs (handle_found n (first_written g xs)) ≡ true
+  names_first_lem (suc n) xs r = refl
+  names_first_lem zero xs r = each (first_written g xs) refl
     where
-      each : (o : Option Instance) → firstWritten g xs ≡ o → namesFirst g xs (handleFound 0 o) ≡ true
+      each : (o : Option Instance) → first_written g xs ≡ o → names_first g xs (handle_found 0 o) ≡ true
       each none e = refl
       each (some x) e =
-          found-any (firstAt g (x .handle) xs) xs x e
-          (rw (found-writes xs x e, eq-eqb (x .handle .0) (x .handle .0) refl) (lowest xs (r refl) x e))
+          found_any (first_at g x.handle xs) xs x e
+          (rw (found_writes xs x e, eq-eqb x.handle.0 x.handle.0 refl) (lowest xs (r refl) x e))
 
-  pub lookup-first : (places : ℕ) (t : List ℕ) → namesFirst g (tableOf places t) (lookupRead places t g) ≡ true
-  unfolding lookupRead
-  lookup-first places t = names-first (tableRefusal places t) (tableOf places t) (λ r. whole places t r .rises)
+  pub lookup_first : (places : ℕ) (t : List ℕ) → names_first g (table_of places t) (lookup_read places t g) ≡ true
+  unfolding lookup_read
+  lookup_first places t = names_first_lem (table_refusal places t) (table_of places t) (λ r. (whole places t r).rises)
 
   -- ---- no other answer
 
-  none-written : (xs : List Instance) → not (any (writes g) xs) ≡ true → Missing ≡ handleFound 0 (firstWritten g xs)
+  none_written : (xs : List Instance) → not (any (writes g) xs) ≡ true → Missing ≡ handle_found 0 (first_written g xs)
   unfolding find any
-  none-written [] e = refl
-  none-written (x ∷ xs) e = split (writes g x) (λ w. clash false (rw w at e) refl) (λ w. rw w (none-written xs (rw w at e)))
+  none_written [] e = refl
+  none_written (x ∷ xs) e = split (writes g x) (λ w. clash false (rw w at e) refl) (λ w. rw w (none_written xs (rw w at e)))
 
   -- with y written, none behind it has the lowest key
-  none-behind : (h : InstanceHandle) (y : Instance) (ys zs : List Instance) → writes g y ≡ true → above instanceKey (instanceKey y) zs ≡ true →
-      any (firstAt g h (y ∷ ys)) zs ≡ false
+  none_behind : (h : InstanceHandle) (y : Instance) (ys zs : List Instance) → writes g y ≡ true → above instance_key (instance_key y) zs ≡ true →
+      any (first_at g h (y ∷ ys)) zs ≡ false
   unfolding above any all
-  none-behind h y ys [] w a = refl
-  none-behind h y ys (z ∷ zs) w a =
-      let b = both (ltb (instanceKey y) (instanceKey z)) (above instanceKey (instanceKey y) zs) a in
-      rw (w, lt-leb (instanceKey z) (instanceKey y) (ltb-true (instanceKey y) (instanceKey z) (b .0)), and-false (writesAt g h z))
-      (none-behind h y ys zs w (b .1))
+  none_behind h y ys [] w a = refl
+  none_behind h y ys (z ∷ zs) w a =
+      let b = both (ltb (instance_key y) (instance_key z)) (above instance_key (instance_key y) zs) a in
+      rw (w, lt-leb (instance_key z) (instance_key y) (ltb-true (instance_key y) (instance_key z) b.0), and-false (writes_at g h z))
+      (none_behind h y ys zs w b.1)
 
   -- with y not written, it makes no difference
-  without : (h : InstanceHandle) (y : Instance) (ys zs : List Instance) → writes g y ≡ false → any (firstAt g h (y ∷ ys)) zs ≡ any (firstAt g h ys) zs
+  without : (h : InstanceHandle) (y : Instance) (ys zs : List Instance) → writes g y ≡ false → any (first_at g h (y ∷ ys)) zs ≡ any (first_at g h ys) zs
   unfolding any all
   without h y ys [] w = refl
   without h y ys (z ∷ zs) w = rw (w, without h y ys zs w)
 
-  only-first : (h : InstanceHandle) (xs : List Instance) → rising instanceKey xs ≡ true → any (firstAt g h xs) xs ≡ true →
-      Is h ≡ handleFound 0 (firstWritten g xs)
+  only-first : (h : InstanceHandle) (xs : List Instance) → rising instance_key xs ≡ true → any (first_at g h xs) xs ≡ true →
+      Is h ≡ handle_found 0 (first_written g xs)
   unfolding rising find any
   only-first h [] r e = clash false e refl
   only-first h (y ∷ ys) r e =
-      let b = both (above instanceKey (instanceKey y) ys) (rising instanceKey ys) r in
+      let b = both (above instance_key (instance_key y) ys) (rising instance_key ys) r in
       split (writes g y)
       (λ w.
-      let q : firstAt g h (y ∷ ys) y ≡ true = sym (or-false (firstAt g h (y ∷ ys) y)) ∙ (rw (none-behind h y ys ys w (b .0)) at e) in
-      let n : writesAt g h y ≡ true = both (writesAt g h y) (all (notBelow g y) (y ∷ ys)) q .0 in
-      rw w (ap (λ (i : ℕ). Is (handle i)) (sym (eqb-true (y .handle .0) (h .0) (both (writes g y) (eqb (y .handle .0) (h .0)) n .1)))))
-      (λ w. rw w (only-first h ys (b .1) (rw (w, without h y ys ys w) at e)))
+      let q : first_at g h (y ∷ ys) y ≡ true = sym (or-false (first_at g h (y ∷ ys) y)) ∙ (rw (none_behind h y ys ys w b.0) at e) in
+      let n : writes_at g h y ≡ true = (both (writes_at g h y) (all (not_below g y) (y ∷ ys)) q).0 in
+      rw w (ap (λ (i : ℕ). Is (handle i)) (sym (eqb-true y.handle.0 h.0 (both (writes g y) (eqb y.handle.0 h.0) n).1))))
+      (λ w. rw w (only-first h ys b.1 (rw (w, without h y ys ys w) at e)))
 
-  only-answer : (n : ℕ) (xs : List Instance) (r : FoundHandle) → (n ≡ 0 → rising instanceKey xs ≡ true) → lookedUp n xs g r ≡ true →
-      namesFirst g xs r ≡ true → r ≡ handleFound n (firstWritten g xs)
+  only-answer : (n : ℕ) (xs : List Instance) (r : FoundHandle) → (n ≡ 0 → rising instance_key xs ≡ true) → looked_up n xs g r ≡ true →
+      names_first g xs r ≡ true → r ≡ handle_found n (first_written g xs)
   only-answer zero xs (Refused m) s e f = clash false e refl
-  only-answer zero xs Missing s e f = none-written xs (both true (not (any (writes g) xs)) e .1)
+  only-answer zero xs Missing s e f = none_written xs (both true (not (any (writes g) xs)) e).1
   only-answer zero xs (Is h) s e f = only-first h xs (s refl) f
   only-answer (suc n) xs (Refused m) s e f =
-      ap Refused (eqb-true m (suc n) (both (not (eqb (suc n) 0)) (eqb m (suc n)) e .1))
-  only-answer (suc n) xs Missing s e f = clash (eqb (suc n) 0) (both (eqb (suc n) 0) (not (any (writes g) xs)) e .0) (ne-eqb (suc n) 0 (λ q. omega arith))
-  only-answer (suc n) xs (Is h) s e f = clash (eqb (suc n) 0) (both (eqb (suc n) 0) (any (writesAt g h) xs) e .0) (ne-eqb (suc n) 0 (λ q. omega arith))
+      ap Refused (eqb-true m (suc n) (both (not (eqb (suc n) 0)) (eqb m (suc n)) e).1)
+  only-answer (suc n) xs Missing s e f = clash (eqb (suc n) 0) (both (eqb (suc n) 0) (not (any (writes g) xs)) e).0 (ne_eqb (suc n) 0 (λ q. omega arith))
+  only-answer (suc n) xs (Is h) s e f = clash (eqb (suc n) 0) (both (eqb (suc n) 0) (any (writes_at g h) xs) e).0 (ne_eqb (suc n) 0 (λ q. omega arith))
 
-  pub lookup-only : (places : ℕ) (t : List ℕ) (r : FoundHandle) → lookupRight places t g r ≡ true → namesFirst g (tableOf places t) r ≡ true →
-      r ≡ lookupRead places t g
-  unfolding lookupRight lookupRead
-  lookup-only places t r e f = only-answer (tableRefusal places t) (tableOf places t) r (λ n. whole places t n .rises) e f
+  pub lookup_only : (places : ℕ) (t : List ℕ) (r : FoundHandle) → lookup_right places t g r ≡ true → names_first g (table_of places t) r ≡ true →
+      r ≡ lookup_read places t g
+  unfolding lookup_right lookup_read
+  lookup_only places t r e f = only-answer (table_refusal places t) (table_of places t) r (λ n. (whole places t n).rises) e f
 
   -- ---- the handles of those that are written, in key order
 
-  by-handles : (n : ℕ) (xs : List Instance) → handleFound n (firstWritten g xs) ≡ firstHandle n (writtenHandles g xs)
+  by_handles : (n : ℕ) (xs : List Instance) → handle_found n (first_written g xs) ≡ first_handle n (written_handles g xs)
   unfolding find pick
-  by-handles (suc n) xs = refl
-  by-handles zero [] = refl
-  by-handles zero (x ∷ xs) = split (writes g x) (λ w. rw w) (λ w. rw w (by-handles zero xs))
+  by_handles (suc n) xs = refl
+  by_handles zero [] = refl
+  by_handles zero (x ∷ xs) = split (writes g x) (λ w. rw w) (λ w. rw w (by_handles zero xs))
 
-  pub lookup-handles : (places : ℕ) (t : List ℕ) → lookupRead places t g ≡ firstHandle (tableRefusal places t) (writtenHandles g (tableOf places t))
-  unfolding lookupRead
-  lookup-handles places t = by-handles (tableRefusal places t) (tableOf places t)
+  pub lookup_handles : (places : ℕ) (t : List ℕ) → lookup_read places t g ≡ first_handle (table_refusal places t) (written_handles g (table_of places t))
+  unfolding lookup_read
+  lookup_handles places t = by_handles (table_refusal places t) (table_of places t)
 
   -- ---- two tables
 
-  module _ (places places′ : ℕ) (t t′ : List ℕ) (number : tableRefusal places t ≡ tableRefusal places′ t′) where
-    pub lookup-stays : writtenHandles g (tableOf places t) ≡ writtenHandles g (tableOf places′ t′) → lookupRead places t g ≡ lookupRead places′ t′ g
-    lookup-stays e = lookup-handles places t ∙ rw (number, e) (sym (lookup-handles places′ t′))
+  module _ (places places' : ℕ) (t t' : List ℕ) (number : table_refusal places t ≡ table_refusal places' t') where
+    pub lookup_stays : written_handles g (table_of places t) ≡ written_handles g (table_of places' t') → lookup_read places t g ≡ lookup_read places' t' g
+    lookup_stays e = lookup_handles places t ∙ rw (number, e) (sym (lookup_handles places' t'))
 
-    pub lookup-same : tableOf places t ≡ tableOf places′ t′ → lookupRead places t g ≡ lookupRead places′ t′ g
-    lookup-same e = lookup-stays (ap (writtenHandles g) e)
+    pub lookup_same : table_of places t ≡ table_of places' t' → lookup_read places t g ≡ lookup_read places' t' g
+    lookup_same e = lookup_stays (ap (written_handles g) e)
 
-    pub lookup-front : (h : InstanceHandle) (hs hs′ : List InstanceHandle) → writtenHandles g (tableOf places t) ≡ h ∷ hs →
-        writtenHandles g (tableOf places′ t′) ≡ h ∷ hs′ → lookupRead places t g ≡ lookupRead places′ t′ g
-    lookup-front h hs hs′ e f =
-        lookup-handles places t ∙ rw (number, e, front (tableRefusal places′ t′) h hs hs′, ← f) (sym (lookup-handles places′ t′))
+    pub lookup_front : (h : InstanceHandle) (hs hs' : List InstanceHandle) → written_handles g (table_of places t) ≡ h ∷ hs →
+        written_handles g (table_of places' t') ≡ h ∷ hs' → lookup_read places t g ≡ lookup_read places' t' g
+    lookup_front h hs hs' e f =
+        lookup_handles places t ∙ rw (number, e, front (table_refusal places' t') h hs hs', ← f) (sym (lookup_handles places' t'))

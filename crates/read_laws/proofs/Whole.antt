@@ -1,72 +1,72 @@
 -- A table is read back whole by a read that is lent pens alone, whichever its size: no record is lost, and none is refused.
---     formed-whole     the table of a well-formed state
---     run-whole        the table of any list of calls from the fresh state: its accounts
---     run-lookup       so the writer lookup after it names the first instance of those accounts that the writer writes
-use Prim.Native.Nat.{ℕ, _*_}
+--     formed_whole     the table of a well-formed state
+--     run_whole        the table of any list of calls from the fresh state: its accounts
+--     run_lookup       so the writer lookup after it names the first instance of those accounts that the writer writes
+use Prim.Native.Nat.{ℕ, ◌*◌}
 use mathlib.Core.Bool.{true}
 use mathlib.Core.List.{List}
-use mathlib.Core.Path.{_≡_, sym, ap, _∙_, subst}
+use mathlib.Core.Path.{◌≡◌, sym, ap, ◌∙◌, subst}
 use borrow.Author.Tests.{eq-eqb}
 use lib.ListN.{length}
-use Rattle·octets.specs.Lay.{All}
-use Rattle·model.specs.declared.Guid.{Guid}
-use Rattle·model.specs.declared.Instance.{Instance}
-use Rattle·model.specs.Call.{callIn, callOf}
-use Rattle·model.specs.Reads.{tableOf, tableRefusal, handleFound, firstWritten, lookupRead}
-use Rattle·model.specs.State.{Lent, State, figureOk, placesIn, fresh, layOut, stateOf, instancesIn}
-use Rattle·model.specs.WellFormed.{wellFormed}
-use Rattle·model.proofs.Figures.{places-in}
-use Rattle·model.proofs.StateLaws.{read-back}
-use Rattle·accounts.specs.Accounts.{Accounts, accountsOf, Lending, final, history, SheetBytes, instancesIn as accounted}
-use Rattle·accounts.proofs.Demand3.{after-fresh, formed, instances-are}
-use Rattle·accounts.proofs.InStep.{InStep, held-fits, laid-sizes}
-use Rattle·accounts.proofs.Runs.{left-in, told-in}
-use Rattle·read_laws·proofs.proofs.Tables.{formed-used, formed-table}
+use Rattle.octets.specs.Lay.{All}
+use Rattle.model.specs.declared.Guid.{Guid}
+use Rattle.model.specs.declared.Instance.{Instance}
+use Rattle.model.specs.Call.{call_in, call_of}
+use Rattle.model.specs.Reads.{table_of, table_refusal, handle_found, first_written, lookup_read}
+use Rattle.model.specs.State.{Lent, State, figure_ok, places_in, fresh, lay_out, state_of, instances_in}
+use Rattle.model.specs.WellFormed.{well_formed}
+use Rattle.model.proofs.Figures.{places-in}
+use Rattle.model.proofs.StateLaws.{read_back}
+use Rattle.accounts.specs.Accounts.{Accounts, accounts_of, Lending, final, history, SheetBytes, instances_in as accounted}
+use Rattle.accounts.proofs.Demand3.{after-fresh, formed, instances_are}
+use Rattle.accounts.proofs.InStep.{InStep, held_fits, laid_sizes}
+use Rattle.accounts.proofs.Runs.{left_in, told_in}
+use Rattle.read_laws.proofs.Tables.{formed-used, formed-table}
 
 -- lent these pens alone, a read refuses nothing and finds the instances xs
 pub record ReadWhole (pens : List ℕ) (xs : List Instance) : Type 0 where
-  pub accepted : tableRefusal (placesIn pens) pens ≡ 0
-  pub instances : tableOf (placesIn pens) pens ≡ xs
+  pub accepted : table_refusal (places_in pens) pens ≡ 0
+  pub instances : table_of (places_in pens) pens ≡ xs
 
-module _ (places : ℕ) (ok : figureOk places ≡ true) (l : Lent) (size : length (l .pens) ≡ places * 512) (formed : wellFormed places l ≡ true) where
-  pub formed-whole : ReadWhole (l .pens) (instancesIn (l .head .«instance_count») (l .pens))
-  formed-whole =
-      let same : placesIn (l .pens) ≡ places = places-in places (l .pens) ok size in
+module _ (places : ℕ) (ok : figure_ok places ≡ true) (l : Lent) (size : length l.pens ≡ places * 512) (formed : well_formed places l ≡ true) where
+  pub formed_whole : ReadWhole l.pens (instances_in l.head.instance_count l.pens)
+  formed_whole =
+      let same : places_in l.pens ≡ places = places-in places l.pens ok size in
       record {
-        accepted = ap (λ (n : ℕ). tableRefusal n (l .pens)) same ∙ unfold tableRefusal in
-            rw (eq-eqb (length (l .pens)) (places * 512) size, formed-table places l formed);
-        instances = ap (λ (n : ℕ). tableOf n (l .pens)) same ∙ unfold tableOf in
-            ap (λ (n : ℕ). instancesIn n (l .pens)) (formed-used places l formed);
+        accepted = ap (λ (n : ℕ). table_refusal n l.pens) same ∙ unfold table_refusal in
+            rw (eq-eqb (length l.pens) (places * 512) size, formed-table places l formed);
+        instances = ap (λ (n : ℕ). table_of n l.pens) same ∙ unfold table_of in
+            ap (λ (n : ℕ). instances_in n l.pens) (formed-used places l formed);
       }
 
 -- ---- any list of calls
 
-module _ (places : ℕ) (ok : figureOk places ≡ true) (st : State) (out : List ℕ) (acc : Accounts) (m : InStep places st acc) where
+module _ (places : ℕ) (ok : figure_ok places ≡ true) (st : State) (out : List ℕ) (acc : Accounts) (m : InStep places st acc) where
   abbrev l : Lent
-  l = layOut places st out
+  l = lay_out places st out
 
-  laid-read : instancesIn (l .head .«instance_count») (l .pens) ≡ st .instances
-  laid-read = unfold stateOf in ap (λ (s : State). s .instances) (read-back places st out (held-fits places st acc m))
+  laid_read : instances_in l.head.instance_count l.pens ≡ st.instances
+  laid_read = unfold state_of in ap (λ (s : State). s.instances) (read_back places st out (held_fits places st acc m))
 
-  laid-whole : ReadWhole (l .pens) (accounted acc)
-  laid-whole =
-      subst (ReadWhole (l .pens)) (laid-read ∙ instances-are places st acc m) (formed-whole places ok l (laid-sizes places st out (held-fits places st acc m) .pens) (formed places st out acc m))
+  laid_whole : ReadWhole l.pens (accounted acc)
+  laid_whole =
+      subst (ReadWhole l.pens) (laid_read ∙ instances_are places st acc m) (formed_whole places ok l (laid_sizes places st out (held_fits places st acc m)).pens (formed places st out acc m))
 
-pub run-whole : (places : ℕ) → figureOk places ≡ true → (is : List Lending) (out : List ℕ) → All SheetBytes is →
-    ReadWhole (final callOf is (fresh places out) .pens) (accounted (accountsOf (history callOf is (fresh places out))))
-run-whole places ok is out b =
+pub run_whole : (places : ℕ) → figure_ok places ≡ true → (is : List Lending) (out : List ℕ) → All SheetBytes is →
+    ReadWhole (final call_of is (fresh places out)).pens (accounted (accounts_of (history call_of is (fresh places out))))
+run_whole places ok is out b =
     let m = after-fresh places is out b in
-    let xs : List Instance = accounted (accountsOf (history (callIn places) is (fresh places out))) in
-    rw (left-in places ok is out, told-in places ok is out)
-    (subst (λ (k : Lent). ReadWhole (k .pens) xs) (sym (m .laid)) (laid-whole places ok (m .state) _ _ (m .held)))
+    let xs : List Instance = accounted (accounts_of (history (call_in places) is (fresh places out))) in
+    rw (left_in places ok is out, told_in places ok is out)
+    (subst (λ (k : Lent). ReadWhole k.pens xs) (sym m.laid) (laid_whole places ok m.state _ _ m.held))
 
 -- ---- the writer lookup
 
-whole-lookup : (pens : List ℕ) (xs : List Instance) → ReadWhole pens xs → (g : Guid) → lookupRead (placesIn pens) pens g ≡ handleFound 0 (firstWritten g xs)
-unfolding lookupRead
-whole-lookup pens xs w g = rw (w .accepted, w .instances)
+whole_lookup : (pens : List ℕ) (xs : List Instance) → ReadWhole pens xs → (g : Guid) → lookup_read (places_in pens) pens g ≡ handle_found 0 (first_written g xs)
+unfolding lookup_read
+whole_lookup pens xs w g = rw (w.accepted, w.instances)
 
-pub run-lookup : (places : ℕ) → figureOk places ≡ true → (is : List Lending) (out : List ℕ) → All SheetBytes is → (g : Guid) →
-    let pens = final callOf is (fresh places out) .pens in
-    lookupRead (placesIn pens) pens g ≡ handleFound 0 (firstWritten g (accounted (accountsOf (history callOf is (fresh places out)))))
-run-lookup places ok is out b = whole-lookup _ _ (run-whole places ok is out b)
+pub run_lookup : (places : ℕ) → figure_ok places ≡ true → (is : List Lending) (out : List ℕ) → All SheetBytes is → (g : Guid) →
+    let pens = (final call_of is (fresh places out)).pens in
+    lookup_read (places_in pens) pens g ≡ handle_found 0 (first_written g (accounted (accounts_of (history call_of is (fresh places out)))))
+run_lookup places ok is out b = whole_lookup _ _ (run_whole places ok is out b)

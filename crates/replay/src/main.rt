@@ -1,14 +1,15 @@
 // Replays the recorded lists (docs/evidence/LISTS.md) from standard input against the entry: a line for each disagreement, then how
 // many calls there were and how many disagreed. What it prints is compared with the file `stdout`.
-use libc::STDIN_FILENO;
-use libc::STDOUT_FILENO;
-use model::Called;
-use model::Head;
-ghost use mathlib.Core.Path.{_≡_};
-ghost use Prim.Native.Nat.{_≤_};
-ghost use lib.ListN.{length};
+#![tactic(auto)]
+
+ghost use Rattle.std.specs.Prelude.{◌≡◌, ◌≤◌, length};
+
+use model::{Called, Head};
+use std::io;
+use std::io::Read;
 
 // How far the replay is.
+#[derive(Clone, Copy)]
 struct Progress {
     pub list: u64,
     pub calls: u64,
@@ -18,25 +19,36 @@ struct Progress {
     pub head: Head,
 }
 
-fn main() {
+fn main(rt: HostRuntime) -> io::Result<()> {
     let mut body = [0u8; 4792];
     let mut pens = [0u8; 66048];
     let mut writers = [0u8; 5160];
     let mut lost = [0u8; 4112];
     let mut out = [0u8; 4112];
-    let p = run(&mut body, &mut pens, &mut writers, &mut lost, &mut out);
-    closing(p);
+    let mut input = rt.stdin();
+    let p = run(
+        &rt,
+        &mut input,
+        &mut body,
+        &mut pens,
+        &mut writers,
+        &mut lost,
+        &mut out,
+    )?;
+    closing(&rt, p)
 }
 
 // The records of the file, one after the other.
 fn run(
+    rt: &impl Print,
+    input: &mut impl Read,
     body: &mut [u8],
     pens: &mut [u8],
     writers: &mut [u8],
     lost: &mut [u8],
     out: &mut [u8],
-) -> Progress
-    requires { ⌜ (length (now body) ≡ 4792) × (length (now pens) ≡ 66048) × (length (now writers) ≡ 5160) × (length (now lost) ≡ 4112) × (length (now out) ≡ 4112) ⌝ }
+) -> io::Result<Progress>
+    requires { (length body.old ≡ 4792) × (length pens.old ≡ 66048) × (length writers.old ≡ 5160) × (length lost.old ≡ 4112) × (length out.old ≡ 4112) }
 {
     let h = fresh_head(pens, 65536, writers, lost);
     let mut p = Progress {
@@ -49,24 +61,25 @@ fn run(
     };
     let mut records: u64 = 0;
     while records < 10_000_000 {
-        p = next(p, body, pens, writers, lost, out);
+        p = next(rt, input, p, body, pens, writers, lost, out)?;
         if p.over {
             break;
         }
         records += 1;
     }
-    p
+    Ok(p)
 }
 
 // The front of a buffer is filled from standard input.
-fn read_front(body: &mut [u8], n: usize) -> bool
-    requires { ⌜ n ≤ length (now body) ⌝ }
+fn read_front(input: &mut impl Read, body: &mut [u8], n: usize) -> bool
+    requires { n ≤ length body.old }
 {
-    io::read_full(STDIN_FILENO, &mut body[..n]) == n
+    input.read_exact(&mut body[..n]).is_ok()
 }
 
 // One record, whose body is the front of a buffer.
 fn record_in(
+    rt: &impl Print,
     p: Progress,
     kind: u8,
     body: &[u8],
@@ -75,32 +88,34 @@ fn record_in(
     writers: &mut [u8],
     lost: &mut [u8],
     out: &mut [u8],
-) -> Progress
-    requires { ⌜ (n ≤ length (now body)) × (length (now pens) ≡ 66048) × (length (now writers) ≡ 5160) × (length (now lost) ≡ 4112) × (length (now out) ≡ 4112) ⌝ }
+) -> io::Result<Progress>
+    requires { (n ≤ length body.now) × (length pens.old ≡ 66048) × (length writers.old ≡ 5160) × (length lost.old ≡ 4112) × (length out.old ≡ 4112) }
 {
-    record(p, kind, &body[..n], pens, writers, lost, out)
+    record(rt, p, kind, &body[..n], pens, writers, lost, out)
 }
 
 // The next record, if there is a whole one; else the replay is over.
 fn next(
+    rt: &impl Print,
+    input: &mut impl Read,
     p: Progress,
     body: &mut [u8],
     pens: &mut [u8],
     writers: &mut [u8],
     lost: &mut [u8],
     out: &mut [u8],
-) -> Progress
-    requires { ⌜ (length (now body) ≡ 4792) × (length (now pens) ≡ 66048) × (length (now writers) ≡ 5160) × (length (now lost) ≡ 4112) × (length (now out) ≡ 4112) ⌝ }
+) -> io::Result<Progress>
+    requires { (length body.old ≡ 4792) × (length pens.old ≡ 66048) × (length writers.old ≡ 5160) × (length lost.old ≡ 4112) × (length out.old ≡ 4112) }
 {
     let mut front = [0u8; 8];
-    if io::read_full(STDIN_FILENO, &mut front) != 8 {
-        return finished(p);
+    if input.read_exact(&mut front).is_err() {
+        return Ok(finished(p));
     }
     let n = size(&front);
-    if !read_front(body, n) {
-        return finished(p);
+    if !read_front(input, body, n) {
+        return Ok(finished(p));
     }
-    record_in(p, front[0], body, n, pens, writers, lost, out)
+    record_in(rt, p, front[0], body, n, pens, writers, lost, out)
 }
 
 // There is no more to read.
@@ -112,7 +127,7 @@ fn finished(p: Progress) -> Progress {
 
 // The length of a record's body, 4,792 at most.
 fn size(front: &[u8]) -> usize
-    ensures { λ r. ⌜ r ≤ 4792 ⌝ }
+    ensures { result ≤ 4792 }
 {
     if front.len() < 8 {
         return 0;
@@ -130,28 +145,19 @@ fn ended(p: Progress) -> Progress {
 }
 
 // How many calls there were, and how many disagreed.
-fn closing(p: Progress) {
+fn closing(rt: &impl Print, p: Progress) -> io::Result<()> {
     if !p.ended {
-        io::write_all(STDOUT_FILENO, b"the file has no end\n");
+        println!(rt; "the file has no end")?;
     }
-    io::print_decimal(STDOUT_FILENO, p.calls);
-    io::write_all(STDOUT_FILENO, b" calls, ");
-    io::print_decimal(STDOUT_FILENO, p.wrong);
-    io::write_all(STDOUT_FILENO, b" disagreements\n");
+    println!(rt; "{} calls, {} disagreements", p.calls, p.wrong)
 }
 
 // One more disagreement, told by what disagrees.
-fn disagrees(p: Progress, what: &[u8]) -> Progress {
-    io::write_all(STDOUT_FILENO, b"list ");
-    io::print_decimal(STDOUT_FILENO, p.list);
-    io::write_all(STDOUT_FILENO, b", call ");
-    io::print_decimal(STDOUT_FILENO, p.calls);
-    io::write_all(STDOUT_FILENO, b": ");
-    io::write_all(STDOUT_FILENO, what);
-    io::write_all(STDOUT_FILENO, b"\n");
+fn disagrees(rt: &impl Print, p: Progress, what: &str) -> io::Result<Progress> {
+    println!(rt; "list {}, call {}: {what}", p.list, p.calls)?;
     let mut q = p;
     q.wrong = numbers::wrapping_add_u64(p.wrong, 1);
-    q
+    Ok(q)
 }
 
 // ---- records
@@ -205,6 +211,7 @@ fn stands(body: &[u8], buffer: &[u8]) -> bool {
 }
 
 // What a call record lends: the lengths, cut to what there is.
+#[derive(Clone, Copy)]
 struct Lengths {
     pub sheet: usize,
     pub out: usize,
@@ -215,15 +222,15 @@ struct Lengths {
 
 // The smaller of two lengths.
 fn at_most(n: usize, most: usize) -> usize
-    ensures { λ r. ⌜ r ≤ most ⌝ }
+    ensures { result ≤ most }
 {
     if n < most { n } else { most }
 }
 
 // The lengths of a call record.
 fn lent_lengths(body: &[u8]) -> Lengths
-    requires { ⌜ 184 ≤ length (now body) ⌝ }
-    ensures { λ r. ⌜ (r .sheet ≤ 512) × (r .out ≤ 4112) × (r .pens ≤ 66048) × (r .writers ≤ 5160) × (r .lost ≤ 4112) ⌝ }
+    requires { 184 ≤ length body.now }
+    ensures { (result.sheet ≤ 512) × (result.out ≤ 4112) × (result.pens ≤ 66048) × (result.writers ≤ 5160) × (result.lost ≤ 4112) }
 {
     Lengths {
         sheet: at_most(octets::get_u16(body, 0) as usize, 512),
@@ -252,39 +259,47 @@ fn front_digest(buffer: &[u8], n: usize) -> u64 {
 }
 
 // The digest of the front of a buffer is the one recorded at an index.
-fn digests(p: Progress, body: &[u8], at: usize, buffer: &[u8], n: usize, what: &[u8]) -> Progress {
+fn digests(
+    rt: &impl Print,
+    p: Progress,
+    body: &[u8],
+    at: usize,
+    buffer: &[u8],
+    n: usize,
+    what: &str,
+) -> io::Result<Progress> {
     if body.len() < 184 {
-        return p;
+        return Ok(p);
     }
     if 176 < at {
-        return p;
+        return Ok(p);
     }
     if octets::get_u64(body, at) == front_digest(buffer, n) {
-        return p;
+        return Ok(p);
     }
-    disagrees(p, what)
+    disagrees(rt, p, what)
 }
 
 // The answer and the head after a call are those recorded.
-fn answers(p: Progress, body: &[u8], called: Called) -> Progress {
+fn answers(rt: &impl Print, p: Progress, body: &[u8], called: Called) -> io::Result<Progress> {
     if body.len() < 184 {
-        return p;
+        return Ok(p);
     }
     let mut q = p;
     let mut answer = [0u8; 72];
     let a = called.answer;
     boundary::write_answer(&mut answer, a);
     if !same(&answer, &body[48..120]) {
-        q = disagrees(q, b"answer");
+        q = disagrees(rt, q, "answer")?;
     }
     let mut head = [0u8; 64];
     let h = called.head;
     boundary::write_head(&mut head, h);
     if !same(&head, &body[120..184]) {
-        q = disagrees(q, b"head");
+        q = disagrees(rt, q, "head")?;
     }
     q.head = h;
-    q
+    Ok(q)
 }
 
 // ---- the calls
@@ -299,7 +314,7 @@ fn lent_turn(
     lost: &mut [u8],
     out: &mut [u8],
 ) -> Called
-    requires { ⌜ (n .pens ≤ length (now pens)) × (n .writers ≤ length (now writers)) × (n .lost ≤ length (now lost)) × (n .out ≤ length (now out)) ⌝ }
+    requires { (n.pens ≤ length pens.old) × (n.writers ≤ length writers.old) × (n.lost ≤ length lost.old) × (n.out ≤ length out.old) }
 {
     let a = n.pens;
     let b = n.writers;
@@ -317,6 +332,7 @@ fn lent_turn(
 
 // The digests of the fronts of the buffers are those recorded.
 fn compared(
+    rt: &impl Print,
     p: Progress,
     body: &[u8],
     n: Lengths,
@@ -324,11 +340,11 @@ fn compared(
     writers: &[u8],
     lost: &[u8],
     out: &[u8],
-) -> Progress {
-    let mut q = digests(p, body, 16, out, n.out, b"Out");
-    q = digests(q, body, 24, pens, n.pens, b"pens");
-    q = digests(q, body, 32, writers, n.writers, b"writers");
-    digests(q, body, 40, lost, n.lost, b"Lost")
+) -> io::Result<Progress> {
+    let mut q = digests(rt, p, body, 16, out, n.out, "Out")?;
+    q = digests(rt, q, body, 24, pens, n.pens, "pens")?;
+    q = digests(rt, q, body, 32, writers, n.writers, "writers")?;
+    digests(rt, q, body, 40, lost, n.lost, "Lost")
 }
 
 // One call more.
@@ -340,6 +356,7 @@ fn counted(p: Progress) -> Progress {
 
 // What a call answered and left is what was recorded.
 fn judged(
+    rt: &impl Print,
     p: Progress,
     body: &[u8],
     n: Lengths,
@@ -348,13 +365,14 @@ fn judged(
     writers: &[u8],
     lost: &[u8],
     out: &[u8],
-) -> Progress {
-    let q = answers(counted(p), body, r);
-    compared(q, body, n, pens, writers, lost, out)
+) -> io::Result<Progress> {
+    let q = answers(rt, counted(p), body, r)?;
+    compared(rt, q, body, n, pens, writers, lost, out)
 }
 
 // A call is made and judged.
 fn made(
+    rt: &impl Print,
     p: Progress,
     body: &[u8],
     n: Lengths,
@@ -363,40 +381,41 @@ fn made(
     writers: &mut [u8],
     lost: &mut [u8],
     out: &mut [u8],
-) -> Progress
-    requires { ⌜ (n .pens ≤ length (now pens)) × (n .writers ≤ length (now writers)) × (n .lost ≤ length (now lost)) × (n .out ≤ length (now out)) ⌝ }
+) -> io::Result<Progress>
+    requires { (n.pens ≤ length pens.old) × (n.writers ≤ length writers.old) × (n.lost ≤ length lost.old) × (n.out ≤ length out.old) }
 {
     let h = p.head;
     let r = lent_turn(h, sheet, n, pens, writers, lost, out);
-    judged(p, body, n, r, pens, writers, lost, out)
+    judged(rt, p, body, n, r, pens, writers, lost, out)
 }
 
 // A call record.
 fn call(
+    rt: &impl Print,
     p: Progress,
     body: &[u8],
     pens: &mut [u8],
     writers: &mut [u8],
     lost: &mut [u8],
     out: &mut [u8],
-) -> Progress
-    requires { ⌜ (length (now pens) ≡ 66048) × (length (now writers) ≡ 5160) × (length (now lost) ≡ 4112) × (length (now out) ≡ 4112) ⌝ }
+) -> io::Result<Progress>
+    requires { (length pens.old ≡ 66048) × (length writers.old ≡ 5160) × (length lost.old ≡ 4112) × (length out.old ≡ 4112) }
 {
     if body.len() < 184 {
-        return disagrees(p, b"a call record is too short");
+        return disagrees(rt, p, "a call record is too short");
     }
     let n = lent_lengths(body);
     let end = 184 + n.sheet;
     if body.len() < end {
-        return disagrees(p, b"a call record is too short");
+        return disagrees(rt, p, "a call record is too short");
     }
     fill(out, body[12]);
-    made(p, body, n, &body[184..end], pens, writers, lost, out)
+    made(rt, p, body, n, &body[184..end], pens, writers, lost, out)
 }
 
 // What stands beyond the lengths of section 2 becomes zero, in pens from the smaller of the two on.
 fn clear_rest(pens: &mut [u8], writers: &mut [u8], lost: &mut [u8])
-    requires { ⌜ (length (now pens) ≡ 66048) × (length (now writers) ≡ 5160) × (length (now lost) ≡ 4112) ⌝ }
+    requires { (length pens.old ≡ 66048) × (length writers.old ≡ 5160) × (length lost.old ≡ 4112) }
 {
     octets::clear(pens, 16384, 49664);
     octets::clear(writers, 5120, 40);
@@ -405,7 +424,7 @@ fn clear_rest(pens: &mut [u8], writers: &mut [u8], lost: &mut [u8])
 
 // The length of pens that a list record asks for: with 32 places, or 128.
 fn pens_length(body: &[u8]) -> usize
-    ensures { λ r. ⌜ r ≤ 65536 ⌝ }
+    ensures { result ≤ 65536 }
 {
     if body.len() < 8 {
         return 65536;
@@ -419,7 +438,7 @@ fn pens_length(body: &[u8]) -> usize
 
 // The fronts of the buffers become those of the fresh state with pens of a length.
 fn fresh_head(pens: &mut [u8], n: usize, writers: &mut [u8], lost: &mut [u8]) -> Head
-    requires { ⌜ (length (now pens) ≡ 66048) × (n ≤ 65536) × (length (now writers) ≡ 5160) × (length (now lost) ≡ 4112) ⌝ }
+    requires { (length pens.old ≡ 66048) × (n ≤ 65536) × (length writers.old ≡ 5160) × (length lost.old ≡ 4112) }
 {
     let r = dcps::fresh(&mut pens[..n], &mut writers[..5120], &mut lost[..4096]);
     let h = r.head;
@@ -428,7 +447,7 @@ fn fresh_head(pens: &mut [u8], n: usize, writers: &mut [u8], lost: &mut [u8]) ->
 
 // A new list, from the fresh state.
 fn begin(p: Progress, body: &[u8], pens: &mut [u8], writers: &mut [u8], lost: &mut [u8]) -> Progress
-    requires { ⌜ (length (now pens) ≡ 66048) × (length (now writers) ≡ 5160) × (length (now lost) ≡ 4112) ⌝ }
+    requires { (length pens.old ≡ 66048) × (length writers.old ≡ 5160) × (length lost.old ≡ 4112) }
 {
     clear_rest(pens, writers, lost);
     let h = fresh_head(pens, pens_length(body), writers, lost);
@@ -464,9 +483,16 @@ fn change(body: &[u8], pens: &mut [u8], writers: &mut [u8], lost: &mut [u8]) {
 }
 
 // An expect record, by its buffer.
-fn expect(p: Progress, body: &[u8], pens: &[u8], writers: &[u8], lost: &[u8]) -> Progress {
+fn expect(
+    rt: &impl Print,
+    p: Progress,
+    body: &[u8],
+    pens: &[u8],
+    writers: &[u8],
+    lost: &[u8],
+) -> io::Result<Progress> {
     if body.len() < 8 {
-        return disagrees(p, b"an expect record is too short");
+        return disagrees(rt, p, "an expect record is too short");
     }
     let b = body[0];
     let ok = match b {
@@ -475,13 +501,14 @@ fn expect(p: Progress, body: &[u8], pens: &[u8], writers: &[u8], lost: &[u8]) ->
         _ => stands(body, lost),
     };
     if ok {
-        return p;
+        return Ok(p);
     }
-    disagrees(p, b"a record")
+    disagrees(rt, p, "a record")
 }
 
 // One record, by its type.
 fn record(
+    rt: &impl Print,
     p: Progress,
     kind: u8,
     body: &[u8],
@@ -489,19 +516,19 @@ fn record(
     writers: &mut [u8],
     lost: &mut [u8],
     out: &mut [u8],
-) -> Progress
-    requires { ⌜ (length (now pens) ≡ 66048) × (length (now writers) ≡ 5160) × (length (now lost) ≡ 4112) × (length (now out) ≡ 4112) ⌝ }
+) -> io::Result<Progress>
+    requires { (length pens.old ≡ 66048) × (length writers.old ≡ 5160) × (length lost.old ≡ 4112) × (length out.old ≡ 4112) }
 {
     match kind {
-        1 => p,
-        2 => begin(p, body, pens, writers, lost),
+        1 => Ok(p),
+        2 => Ok(begin(p, body, pens, writers, lost)),
         3 => {
             change(body, pens, writers, lost);
-            p
+            Ok(p)
         }
-        4 => headed(p, body),
-        5 => call(p, body, pens, writers, lost, out),
-        6 => expect(p, body, pens, writers, lost),
-        _ => ended(p),
+        4 => Ok(headed(p, body)),
+        5 => call(rt, p, body, pens, writers, lost, out),
+        6 => expect(rt, p, body, pens, writers, lost),
+        _ => Ok(ended(p)),
     }
 }

@@ -1,118 +1,118 @@
 -- Keys that rise, and a record put in by its key.
---     get-key                         a key by its place
+--     get_key                         a key by its place
 --     rising-lt                       of two records the first has the lesser key
---     only-key, nowhere-key           at most one record has a key; none where it would go in
+--     only_key, nowhere_key           at most one record has a key; none where it would go in
 --     put-set                         put is a `set` at its key's place
---     found-key, found-only           the same, from what was found
---     missing-inserts, missing-le, missing-nowhere, missing-put
+--     found_key, found_only           the same, from what was found
+--     missing_inserts, missing-le, missing-nowhere, missing-put
 --     missing-only, missing-sift      a record put in and then changed
 --     rising-put, rising-sift         the keys go on rising
---     distinct-ne, pairs-distinct     handles that are distinct, by places
+--     distinct_ne, pairs_distinct     handles that are distinct, by places
 --     only-handle                     of instances with distinct handles at most one has a handle
-use Prim.Native.Nat.{ℕ, zero, suc, _≤_, _<_}
+use Prim.Native.Nat.{ℕ, zero, suc, ◌≤◌, ◌<◌}
 use mathlib.Core.Bool.{true, false, not}
-use mathlib.Core.List.{List, [], _∷_, _++_, map}
-use mathlib.Core.Logic.{_≢_, ⊎-elim}
+use mathlib.Core.List.{List, [], ◌∷◌, ◌++◌, map}
+use mathlib.Core.Logic.{◌≢◌, ⊎_elim}
 use mathlib.Core.Option.{Option, none, some}
-use mathlib.Core.Path.{_≡_, refl, sym, ap, _∙_}
-use native.Mathlib.Nat.{eq-or-lt-of-le}
+use mathlib.Core.Path.{◌≡◌, refl, sym, ap, ◌∙◌}
+use native.Mathlib.Nat.{eq-or-lt_of_le}
 use native.Mathlib.Omega.{arith}
-use borrow.Author.Tests.{lt-ltb, le-ltb, ltb-true, ltb-false, eq-eqb, ne-eqb, eqb-true, eqb-false, not-true}
+use borrow.Author.Tests.{lt-ltb, le-ltb, ltb-true, ltb-false, eq-eqb, ne_eqb, eqb-true, eqb-false, not-true}
 use lib.Dec.{ltb, eqb}
-use lib.ListN.{length, getD, take, drop, set, length-map}
-use lib.Seq.{length-take-le, getD-at, set-at}
-use Rattle·model.specs.declared.Instance.{Instance}
-use Rattle·model.specs.Tables.{all, put, above, rising, sift, kept}
-use Rattle·model.specs.WellFormed.{handlesDistinct, otherHandle}
-use Rattle·tables·specs.specs.declared.Found.the-variants.{At, Missing}
-use Rattle·model.proofs.Tests.{both, split, lt-or-le}
-use Rattle·tables·proofs.proofs.KeyLaws.{rising-pairs}
-use Rattle·tables·specs.specs.Found.{foundIn}
-use Rattle·tables·proofs.proofs.FoundLaws.{InsertsAt, found-at, found-missing}
-use Rattle·tables·specs.specs.Places.{Only, Nowhere}
-use Rattle·tables·proofs.proofs.RecordLaws.{keyed, rising-records, above-less, put-inserts}
-use Rattle·tables·proofs.proofs.Finds.{all-at, at-all, only-insert}
-use Rattle·tables·proofs.proofs.Sifts.{sift-only}
+use lib.ListN.{length, get_or, take, drop, set, length-map}
+use lib.Seq.{length-take-le, get_or_at, set_at}
+use Rattle.model.specs.declared.Instance.{Instance}
+use Rattle.model.specs.Tables.{all, put, above, rising, sift, kept}
+use Rattle.model.specs.WellFormed.{handles_distinct, other_handle}
+use Rattle.tables.specs.declared.Found.TheVariants.{At, Missing}
+use Rattle.model.proofs.Tests.{both, split, lt-or-le}
+use Rattle.tables.proofs.KeyLaws.{rising_pairs}
+use Rattle.tables.specs.Found.{found_in}
+use Rattle.tables.proofs.FoundLaws.{InsertsAt, found_at, found_missing}
+use Rattle.tables.specs.Places.{Only, Nowhere}
+use Rattle.tables.proofs.RecordLaws.{keyed, rising-records, above-less, put_inserts}
+use Rattle.tables.proofs.Finds.{all-at, at_all, only-insert}
+use Rattle.tables.proofs.Sifts.{sift-only}
 
 module _ {A : Type 0} (key : A → ℕ) where
   -- ---- the test
 
-  pub get-key : (xs : List A) (i : ℕ) (d : A) → i < length xs → getD (map key xs) i 0 ≡ key (getD xs i d)
-  get-key [] i d l = absurd (omega arith)
-  get-key (x ∷ xs) zero d l = refl
-  get-key (x ∷ xs) (suc i) d l = get-key xs i d (omega arith)
+  pub get_key : (xs : List A) (i : ℕ) (d : A) → i < length xs → get_or (map key xs) i 0 ≡ key (get_or xs i d)
+  get_key [] i d l = absurd (omega arith)
+  get_key (x ∷ xs) zero d l = refl
+  get_key (x ∷ xs) (suc i) d l = get_key xs i d (omega arith)
 
-  pub above-at : (n : ℕ) (xs : List A) → above key n xs ≡ true → (i : ℕ) (d : A) → i < length xs → n < key (getD xs i d)
+  pub above_at : (n : ℕ) (xs : List A) → above key n xs ≡ true → (i : ℕ) (d : A) → i < length xs → n < key (get_or xs i d)
   unfolding above
-  above-at n [] h i d l = absurd (omega arith)
-  above-at n (x ∷ xs) h zero d l = ltb-true n (key x) (both (ltb n (key x)) (above key n xs) h .0)
-  above-at n (x ∷ xs) h (suc i) d l = above-at n xs (both (ltb n (key x)) (above key n xs) h .1) i d (omega arith)
+  above_at n [] h i d l = absurd (omega arith)
+  above_at n (x ∷ xs) h zero d l = ltb-true n (key x) (both (ltb n (key x)) (above key n xs) h).0
+  above_at n (x ∷ xs) h (suc i) d l = above_at n xs (both (ltb n (key x)) (above key n xs) h).1 i d (omega arith)
 
   -- ---- of two records the first has the lesser key
 
   module _ (xs : List A) (d : A) (r : rising key xs ≡ true) where
-    pub rising-lt : (i j : ℕ) → i < j → j < length xs → key (getD xs i d) < key (getD xs j d)
+    pub rising-lt : (i j : ℕ) → i < j → j < length xs → key (get_or xs i d) < key (get_or xs j d)
     rising-lt i j l m =
-        rw (get-key xs i d (omega arith), get-key xs j d m) at
-        (rising-pairs (map key xs) (rising-records key xs ∙ r) i j l (omega (arith, length-map xs key)))
+        rw (get_key xs i d (omega arith), get_key xs j d m) at
+        (rising_pairs (map key xs) (rising-records key xs ∙ r) i j l (omega (arith, length-map xs key)))
 
-    pub only-key : (i k : ℕ) → i < length xs → key (getD xs i d) ≡ k → Only (keyed key k) xs i d
-    only-key i k l e =
+    pub only_key : (i k : ℕ) → i < length xs → key (get_or xs i d) ≡ k → Only (keyed key k) xs i d
+    only_key i k l e =
         record {
           within = l;
-          here = eq-eqb (key (getD xs i d)) k e;
+          here = eq-eqb (key (get_or xs i d)) k e;
           elsewhere =
               λ j m n.
-              ne-eqb (key (getD xs j d)) k
-              (λ q. ⊎-elim (λ a. omega (arith, rising-lt j i a l))
-              (λ a. ⊎-elim (λ s. n (sym s)) (λ s. omega (arith, rising-lt i j s m)) (eq-or-lt-of-le a)) (lt-or-le j i));
+              ne_eqb (key (get_or xs j d)) k
+              (λ q. ⊎_elim (λ a. omega (arith, rising-lt j i a l))
+              (λ a. ⊎_elim (λ s. n (sym s)) (λ s. omega (arith, rising-lt i j s m)) (eq-or-lt_of_le a)) (lt-or-le j i));
         }
 
   -- a key that would go in is nowhere
-  pub nowhere-key : (xs : List A) (d : A) (k i : ℕ) → InsertsAt (map key xs) k i → Nowhere (keyed key k) xs d
-  nowhere-key xs d k i p j l =
-      ne-eqb (key (getD xs j d)) k
-      (λ e. ⊎-elim (λ a. omega (arith, get-key xs j d l, p .before j a))
-      (λ a. omega (arith, get-key xs j d l, p .behind j a (omega (arith, length-map xs key)))) (lt-or-le j i))
+  pub nowhere_key : (xs : List A) (d : A) (k i : ℕ) → InsertsAt (map key xs) k i → Nowhere (keyed key k) xs d
+  nowhere_key xs d k i p j l =
+      ne_eqb (key (get_or xs j d)) k
+      (λ e. ⊎_elim (λ a. omega (arith, get_key xs j d l, p.before j a))
+      (λ a. omega (arith, get_key xs j d l, p.behind j a (omega (arith, length-map xs key)))) (lt-or-le j i))
 
   -- ---- put
 
-  pub put-set : (xs : List A) (d y : A) (i : ℕ) → rising key xs ≡ true → i < length xs → key (getD xs i d) ≡ key y → put key y xs ≡ set xs i y
+  pub put-set : (xs : List A) (d y : A) (i : ℕ) → rising key xs ≡ true → i < length xs → key (get_or xs i d) ≡ key y → put key y xs ≡ set xs i y
   unfolding put rising
   put-set [] d y i r l e = absurd (omega arith)
   put-set (x ∷ xs) d y zero r l e = rw (le-ltb (key x) (key y) (omega arith), eq-eqb (key x) (key y) e)
   put-set (x ∷ xs) d y (suc i) r l e =
       let b = both (above key (key x) xs) (rising key xs) r in
-      rw (lt-ltb (key x) (key y) (omega (arith, above-at (key x) xs (b .0) i d (omega arith))))
-      (ap (λ (l : List A). x ∷ l) (put-set xs d y i (b .1) (omega arith) e))
+      rw (lt-ltb (key x) (key y) (omega (arith, above_at (key x) xs b.0 i d (omega arith))))
+      (ap (λ (l : List A). x ∷ l) (put-set xs d y i b.1 (omega arith) e))
 
   -- ---- from what was found
 
   module _ (xs : List A) (d : A) (r : rising key xs ≡ true) (k i : ℕ) where
     -- the place is one, and its record has the key
-    pub found-key : foundIn (map key xs) k ≡ At i → (i < length xs) × (key (getD xs i d) ≡ k)
-    found-key f =
-        let p = found-at (map key xs) k i f in
-        let l : i < length xs = omega (arith, p .within, length-map xs key) in
-        (l, sym (get-key xs i d l) ∙ p .here)
+    pub found_key : found_in (map key xs) k ≡ At i → (i < length xs) × (key (get_or xs i d) ≡ k)
+    found_key f =
+        let p = found_at (map key xs) k i f in
+        let l : i < length xs = omega (arith, p.within, length-map xs key) in
+        (l, sym (get_key xs i d l) ∙ p.here)
 
-    pub found-only : foundIn (map key xs) k ≡ At i → Only (keyed key k) xs i d
-    found-only f = only-key xs d r i k (found-key f .0) (found-key f .1)
+    pub found_only : found_in (map key xs) k ≡ At i → Only (keyed key k) xs i d
+    found_only f = only_key xs d r i k (found_key f).0 (found_key f).1
 
-    pub missing-inserts : foundIn (map key xs) k ≡ Missing i → InsertsAt (map key xs) k i
-    missing-inserts f = found-missing (map key xs) k i (rising-records key xs ∙ r) f
+    pub missing_inserts : found_in (map key xs) k ≡ Missing i → InsertsAt (map key xs) k i
+    missing_inserts f = found_missing (map key xs) k i (rising-records key xs ∙ r) f
 
-    pub missing-nowhere : foundIn (map key xs) k ≡ Missing i → Nowhere (keyed key k) xs d
-    missing-nowhere f = nowhere-key xs d k i (missing-inserts f)
+    pub missing-nowhere : found_in (map key xs) k ≡ Missing i → Nowhere (keyed key k) xs d
+    missing-nowhere f = nowhere_key xs d k i (missing_inserts f)
 
-    pub missing-le : foundIn (map key xs) k ≡ Missing i → i ≤ length xs
-    missing-le f = omega (arith, missing-inserts f .within, length-map xs key)
+    pub missing-le : found_in (map key xs) k ≡ Missing i → i ≤ length xs
+    missing-le f = omega (arith, (missing_inserts f).within, length-map xs key)
 
-    pub missing-put : (y : A) → key y ≡ k → foundIn (map key xs) k ≡ Missing i → put key y xs ≡ take i xs ++ y ∷ drop i xs
-    missing-put y e f = put-inserts key xs y i (rw e (missing-inserts f))
+    pub missing-put : (y : A) → key y ≡ k → found_in (map key xs) k ≡ Missing i → put key y xs ≡ take i xs ++ y ∷ drop i xs
+    missing-put y e f = put_inserts key xs y i (rw e (missing_inserts f))
 
     -- a record put in, and each taken through a function that acts on its key alone
-    module _ (f : A → Option A) (acts : (x : A) → keyed key k x ≡ false → f x ≡ some x) (m : foundIn (map key xs) k ≡ Missing i) (y : A) (e : key y ≡ k) where
+    module _ (f : A → Option A) (acts : (x : A) → keyed key k x ≡ false → f x ≡ some x) (m : found_in (map key xs) k ≡ Missing i) (y : A) (e : key y ≡ k) where
       pub missing-only : Only (keyed key k) (put key y xs) i d
       missing-only =
           rw (missing-put y e m) (only-insert (keyed key k) xs y d i (missing-le m) (missing-nowhere m) (eq-eqb (key y) k e))
@@ -120,9 +120,9 @@ module _ {A : Type 0} (key : A → ℕ) where
       pub missing-sift : (z : A) → f y ≡ some z → sift f (put key y xs) ≡ take i xs ++ z ∷ drop i xs
       missing-sift z g =
           let n : length (take i xs) ≡ i = length-take-le i xs (missing-le m) in
-          let w : getD (put key y xs) i d ≡ y = rw (missing-put y e m) (getD-at (take i xs) y (drop i xs) d i n) in
+          let w : get_or (put key y xs) i d ≡ y = rw (missing-put y e m) (get_or_at (take i xs) y (drop i xs) d i n) in
           sift-only f d (keyed key k) acts (put key y xs) i z missing-only (rw w g)
-          ∙ rw (missing-put y e m) (set-at (take i xs) y (drop i xs) z i n)
+          ∙ rw (missing-put y e m) (set_at (take i xs) y (drop i xs) z i n)
 
   -- ---- the keys go on rising
 
@@ -131,21 +131,21 @@ module _ {A : Type 0} (key : A → ℕ) where
   above-put n y [] l h = rw (lt-ltb n (key y) l)
   above-put n y (x ∷ xs) l h =
       let b = both (ltb n (key x)) (above key n xs) h in
-      split (ltb (key x) (key y)) (λ e. rw (e, b .0) (above-put n y xs l (b .1)))
-      (λ e. rw e (split (eqb (key x) (key y)) (λ q. rw (q, lt-ltb n (key y) l) (b .1)) (λ q. rw (q, lt-ltb n (key y) l, b .0) (b .1))))
+      split (ltb (key x) (key y)) (λ e. rw (e, b.0) (above-put n y xs l b.1))
+      (λ e. rw e (split (eqb (key x) (key y)) (λ q. rw (q, lt-ltb n (key y) l) b.1) (λ q. rw (q, lt-ltb n (key y) l, b.0) b.1)))
 
   pub rising-put : (y : A) (xs : List A) → rising key xs ≡ true → rising key (put key y xs) ≡ true
   unfolding rising put above
   rising-put y [] r = refl
   rising-put y (x ∷ xs) r =
       let b = both (above key (key x) xs) (rising key xs) r in
-      split (ltb (key x) (key y)) (λ e. rw (e, above-put (key x) y xs (ltb-true (key x) (key y) e) (b .0)) (rising-put y xs (b .1)))
+      split (ltb (key x) (key y)) (λ e. rw (e, above-put (key x) y xs (ltb-true (key x) (key y) e) b.0) (rising-put y xs b.1))
       (λ e. rw e (split (eqb (key x) (key y))
       (λ q. let s : key x ≡ key y = eqb-true (key x) (key y) q in rw (q, ← s) r)
       (λ q.
       let m : key y ≤ key x = ltb-false (key x) (key y) e in
-      let l : key y < key x = ⊎-elim (λ s. absurd (eqb-false (key x) (key y) q (sym s))) (λ s. s) (eq-or-lt-of-le m) in
-      rw (q, lt-ltb (key y) (key x) l, above-less key (key y) (key x) xs l (b .0)) r)))
+      let l : key y < key x = ⊎_elim (λ s. absurd (eqb-false (key x) (key y) q (sym s))) (λ s. s) (eq-or-lt_of_le m) in
+      rw (q, lt-ltb (key y) (key x) l, above-less key (key y) (key x) xs l b.0) r)))
 
   -- f leaves each key as it is
   abbrev pub KeepsKeys : (A → Option A) → Type 0
@@ -154,7 +154,7 @@ module _ {A : Type 0} (key : A → ℕ) where
   above-sift : (f : A → Option A) → KeepsKeys f → (n : ℕ) (xs : List A) → above key n xs ≡ true → above key n (sift f xs) ≡ true
   unfolding above sift
   above-sift f k n [] h = refl
-  above-sift f k n (x ∷ xs) h = each (both (ltb n (key x)) (above key n xs) h .0) (above-sift f k n xs (both (ltb n (key x)) (above key n xs) h .1)) (f x) refl
+  above-sift f k n (x ∷ xs) h = each (both (ltb n (key x)) (above key n xs) h).0 (above-sift f k n xs (both (ltb n (key x)) (above key n xs) h).1) (f x) refl
     where
       each : ltb n (key x) ≡ true → above key n (sift f xs) ≡ true → (o : Option A) → f x ≡ o → above key n (kept o (sift f xs)) ≡ true
       each l rest none e = rest
@@ -164,8 +164,8 @@ module _ {A : Type 0} (key : A → ℕ) where
   unfolding rising sift
   rising-sift f k [] r = refl
   rising-sift f k (x ∷ xs) r =
-      each (above-sift f k (key x) xs (both (above key (key x) xs) (rising key xs) r .0))
-      (rising-sift f k xs (both (above key (key x) xs) (rising key xs) r .1)) (f x) refl
+      each (above-sift f k (key x) xs (both (above key (key x) xs) (rising key xs) r).0)
+      (rising-sift f k xs (both (above key (key x) xs) (rising key xs) r).1) (f x) refl
     where
       each : above key (key x) (sift f xs) ≡ true → rising key (sift f xs) ≡ true → (o : Option A) → f x ≡ o → rising key (kept o (sift f xs)) ≡ true
       each a rest none e = rest
@@ -174,37 +174,37 @@ module _ {A : Type 0} (key : A → ℕ) where
 -- ---- handles
 
 -- an instance's handle as a number
-abbrev pub handleOf : Instance → ℕ
-handleOf x = x .handle .0
+abbrev pub handle_of : Instance → ℕ
+handle_of x = x.handle.0
 
 module _ (d : Instance) where
-  pub distinct-ne : (xs : List Instance) → handlesDistinct xs ≡ true → (i j : ℕ) → i < j → j < length xs → getD xs j d .handle .0 ≢ getD xs i d .handle .0
-  unfolding handlesDistinct
-  distinct-ne [] h i j l m = absurd (omega arith)
-  distinct-ne (x ∷ xs) h i zero l m = absurd (omega arith)
-  distinct-ne (x ∷ xs) h zero (suc j) l m =
-      eqb-false (getD xs j d .handle .0) (x .handle .0)
-      (not-true (eqb (getD xs j d .handle .0) (x .handle .0))
-      (all-at (otherHandle (x .handle .0)) xs d (both (all (otherHandle (x .handle .0)) xs) (handlesDistinct xs) h .0) j (omega arith)))
-  distinct-ne (x ∷ xs) h (suc i) (suc j) l m =
-      distinct-ne xs (both (all (otherHandle (x .handle .0)) xs) (handlesDistinct xs) h .1) i j (omega arith) (omega arith)
+  pub distinct_ne : (xs : List Instance) → handles_distinct xs ≡ true → (i j : ℕ) → i < j → j < length xs → (get_or xs j d).handle.0 ≢ (get_or xs i d).handle.0
+  unfolding handles_distinct
+  distinct_ne [] h i j l m = absurd (omega arith)
+  distinct_ne (x ∷ xs) h i zero l m = absurd (omega arith)
+  distinct_ne (x ∷ xs) h zero (suc j) l m =
+      eqb-false (get_or xs j d).handle.0 x.handle.0
+      (not-true (eqb (get_or xs j d).handle.0 x.handle.0)
+      (all-at (other_handle x.handle.0) xs d (both (all (other_handle x.handle.0) xs) (handles_distinct xs) h).0 j (omega arith)))
+  distinct_ne (x ∷ xs) h (suc i) (suc j) l m =
+      distinct_ne xs (both (all (other_handle x.handle.0) xs) (handles_distinct xs) h).1 i j (omega arith) (omega arith)
 
-  pub pairs-distinct : (xs : List Instance) → ((i j : ℕ) → i < j → j < length xs → getD xs j d .handle .0 ≢ getD xs i d .handle .0) → handlesDistinct xs ≡ true
-  unfolding handlesDistinct
-  pairs-distinct [] h = refl
-  pairs-distinct (x ∷ xs) h =
-      rw (at-all (otherHandle (x .handle .0)) xs d
-      (λ j l. ap not (ne-eqb (getD xs j d .handle .0) (x .handle .0) (h zero (suc j) (omega arith) (omega arith)))))
-      (pairs-distinct xs (λ i j l m. h (suc i) (suc j) (omega arith) (omega arith)))
+  pub pairs_distinct : (xs : List Instance) → ((i j : ℕ) → i < j → j < length xs → (get_or xs j d).handle.0 ≢ (get_or xs i d).handle.0) → handles_distinct xs ≡ true
+  unfolding handles_distinct
+  pairs_distinct [] h = refl
+  pairs_distinct (x ∷ xs) h =
+      rw (at_all (other_handle x.handle.0) xs d
+      (λ j l. ap not (ne_eqb (get_or xs j d).handle.0 x.handle.0 (h zero (suc j) (omega arith) (omega arith)))))
+      (pairs_distinct xs (λ i j l m. h (suc i) (suc j) (omega arith) (omega arith)))
 
-  pub only-handle : (xs : List Instance) → handlesDistinct xs ≡ true → (i k : ℕ) → i < length xs → getD xs i d .handle .0 ≡ k → Only (keyed handleOf k) xs i d
+  pub only-handle : (xs : List Instance) → handles_distinct xs ≡ true → (i k : ℕ) → i < length xs → (get_or xs i d).handle.0 ≡ k → Only (keyed handle_of k) xs i d
   only-handle xs h i k l e =
       record {
         within = l;
-        here = eq-eqb (getD xs i d .handle .0) k e;
+        here = eq-eqb (get_or xs i d).handle.0 k e;
         elsewhere =
             λ j m n.
-            ne-eqb (getD xs j d .handle .0) k
-            (λ q. ⊎-elim (λ a. distinct-ne xs h j i a l (e ∙ sym q))
-            (λ a. ⊎-elim (λ s. n (sym s)) (λ s. distinct-ne xs h i j s m (q ∙ sym e)) (eq-or-lt-of-le a)) (lt-or-le j i));
+            ne_eqb (get_or xs j d).handle.0 k
+            (λ q. ⊎_elim (λ a. distinct_ne xs h j i a l (e ∙ sym q))
+            (λ a. ⊎_elim (λ s. n (sym s)) (λ s. distinct_ne xs h i j s m (q ∙ sym e)) (eq-or-lt_of_le a)) (lt-or-le j i));
       }

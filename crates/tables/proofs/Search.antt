@@ -1,119 +1,119 @@
 -- The turns of the binary search and of the test that keys rise, in the code's own form.
---     Bracket, bracket-start, bracket-up, bracket-down, bracket-end     lo and hi close in on the place of k
---     find-at, find-other, find-end                                     what is found at the lower bound
---     rise-turn, rise-stop                                              one key more, and the first that does not rise
---     record-le                                                         a record's bytes are within the table
-use mathlib.Core.Path.{_≡_, refl, sym, ap, _∙_}
-use mathlib.Core.Logic.{⊎-elim}
-use mathlib.Core.Bool.{Bool, true, false, _&&_, and-false}
-use mathlib.Core.List.{List, [], _∷_}
-use Prim.Native.Nat.{ℕ, zero, suc, _+_, _-_, _*_, _≤_, _<_}
-use native.Mathlib.Nat.{suc-mul, mul-le-mul-right, eq-or-lt-of-le}
+--     Bracket, bracket_start, bracket_up, bracket_down, bracket_end     lo and hi close in on the place of k
+--     find_at, find_other, find-end                                     what is found at the lower bound
+--     rise_turn, rise_stop                                              one key more, and the first that does not rise
+--     record_le                                                         a record's bytes are within the table
+use mathlib.Core.Path.{◌≡◌, refl, sym, ap, ◌∙◌}
+use mathlib.Core.Logic.{⊎_elim}
+use mathlib.Core.Bool.{Bool, true, false, ◌&&◌, and-false}
+use mathlib.Core.List.{List, [], ◌∷◌}
+use Prim.Native.Nat.{ℕ, zero, suc, ◌+◌, ◌-◌, ◌*◌, ◌≤◌, ◌<◌}
+use native.Mathlib.Nat.{suc-mul, mul-le-mul_right, eq-or-lt_of_le}
 use native.Mathlib.Numerals.{add-one}
 use native.Mathlib.Omega.{arith}
 use lib.Dec.{ltb}
-use lib.ListN.{length, getD}
+use lib.ListN.{length, get_or}
 use borrow.Author.Tests.{eqb-true, eqb-false}
-use Rattle·model.specs.declared.Guid.{Guid}
-use Rattle·model.specs.Guids.{num, same, guidAt}
-use Rattle·tables·specs.specs.declared.Found.the-variants.{At, Missing}
-use Rattle·tables·specs.specs.Keys.{keys, rising}
-use Rattle·tables·proofs.proofs.KeyLaws.{length-keys, getD-keys, rising-snoc, rising-left, rising-pairs}
-use Rattle·tables·specs.specs.Found.{lowerBound, foundIn}
-use Rattle·tables·proofs.proofs.FoundLaws.{lower-unique, lower-found, lower-missing}
+use Rattle.model.specs.declared.Guid.{Guid}
+use Rattle.model.specs.Guids.{num, same, guid_at}
+use Rattle.tables.specs.declared.Found.TheVariants.{At, Missing}
+use Rattle.tables.specs.Keys.{keys, rising}
+use Rattle.tables.proofs.KeyLaws.{length-keys, get_or-keys, rising_snoc, rising-left, rising_pairs}
+use Rattle.tables.specs.Found.{lower_bound, found_in}
+use Rattle.tables.proofs.FoundLaws.{lower_unique, lower_found, lower_missing}
 
-pub record-le : (size : ℕ) {i n : ℕ} → i < n → i * size + size ≤ n * size
-record-le size {i} h = omega (arith, mul-le-mul-right size h, suc-mul i size)
+pub record_le : (size : ℕ) {i n : ℕ} → i < n → i * size + size ≤ n * size
+record_le size {i} h = omega (arith, mul-le-mul_right size h, suc-mul i size)
 
 -- ---- the binary search
 
 -- all keys before lo are less than k, and none from hi on
 pub record Bracket (ks : List ℕ) (k lo hi : ℕ) : Type 0 where
-  pub lo-le : lo ≤ hi
-  pub hi-le : hi ≤ length ks
-  pub below : (i : ℕ) → i < lo → getD ks i 0 < k
-  pub above : (i : ℕ) → hi ≤ i → i < length ks → k ≤ getD ks i 0
+  pub lo_le : lo ≤ hi
+  pub hi_le : hi ≤ length ks
+  pub below : (i : ℕ) → i < lo → get_or ks i 0 < k
+  pub above : (i : ℕ) → hi ≤ i → i < length ks → k ≤ get_or ks i 0
 
-pub bracket-start : (ks : List ℕ) (k n : ℕ) → length ks ≡ n → Bracket ks k 0 n
-bracket-start ks k n e =
+pub bracket_start : (ks : List ℕ) (k n : ℕ) → length ks ≡ n → Bracket ks k 0 n
+bracket_start ks k n e =
     record {
-      lo-le = omega arith;
-      hi-le = omega arith;
+      lo_le = omega arith;
+      hi_le = omega arith;
       below = λ i l. absurd (omega arith);
       above = λ i l m. absurd (omega arith);
     }
 
 module _ {ks : List ℕ} {k lo hi : ℕ} (r : rising ks ≡ true) (b : Bracket ks k lo hi) (m : ℕ) (lm : lo ≤ m) (mh : m < hi) where
   -- the keys are in order around m
-  at-most : (i j : ℕ) → i ≤ j → j < length ks → getD ks i 0 ≤ getD ks j 0
-  at-most i j l h = ⊎-elim (λ e. rw e (omega arith)) (λ q. omega (arith, rising-pairs ks r i j q h)) (eq-or-lt-of-le l)
+  at_most : (i j : ℕ) → i ≤ j → j < length ks → get_or ks i 0 ≤ get_or ks j 0
+  at_most i j l h = ⊎_elim (λ e. rw e (omega arith)) (λ q. omega (arith, rising_pairs ks r i j q h)) (eq-or-lt_of_le l)
 
-  pub bracket-up : getD ks m 0 < k → Bracket ks k (m + 1) hi
-  bracket-up c =
+  pub bracket_up : get_or ks m 0 < k → Bracket ks k (m + 1) hi
+  bracket_up c =
       record {
-        lo-le = omega arith;
-        hi-le = b .hi-le;
-        below = λ i l. omega (arith, at-most i m (omega arith) (omega (arith, b .hi-le)));
-        above = b .above;
+        lo_le = omega arith;
+        hi_le = b.hi_le;
+        below = λ i l. omega (arith, at_most i m (omega arith) (omega (arith, b.hi_le)));
+        above = b.above;
       }
 
-  pub bracket-down : k ≤ getD ks m 0 → Bracket ks k lo m
-  bracket-down c =
+  pub bracket_down : k ≤ get_or ks m 0 → Bracket ks k lo m
+  bracket_down c =
       record {
-        lo-le = lm;
-        hi-le = omega (arith, b .hi-le);
-        below = b .below;
-        above = λ i l h. omega (arith, at-most m i l h);
+        lo_le = lm;
+        hi_le = omega (arith, b.hi_le);
+        below = b.below;
+        above = λ i l h. omega (arith, at_most m i l h);
       }
 
-pub bracket-end : (ks : List ℕ) (k lo hi : ℕ) → Bracket ks k lo hi → hi ≤ lo → lo ≡ lowerBound ks k
-bracket-end ks k lo hi b h =
-    sym (lower-unique ks k lo (omega (arith, b .lo-le, b .hi-le)) (b .below) (b .above lo h))
+pub bracket_end : (ks : List ℕ) (k lo hi : ℕ) → Bracket ks k lo hi → hi ≤ lo → lo ≡ lower_bound ks k
+bracket_end ks k lo hi b h =
+    sym (lower_unique ks k lo (omega (arith, b.lo_le, b.hi_le)) b.below (b.above lo h))
 
-module _ (size count : ℕ) (t : List ℕ) (key : Guid) (place : ℕ) (e : place ≡ lowerBound (keys size count t) (num key)) where
+module _ (size count : ℕ) (t : List ℕ) (key : Guid) (place : ℕ) (e : place ≡ lower_bound (keys size count t) (num key)) where
   -- the key g that was read at the place
-  read : (g : Guid) → g ≡ guidAt t (place * size) → place < count → getD (keys size count t) place 0 ≡ num g
-  read g q h = getD-keys size count t place h ∙ sym (ap num q)
+  read : (g : Guid) → g ≡ guid_at t (place * size) → place < count → get_or (keys size count t) place 0 ≡ num g
+  read g q h = get_or-keys size count t place h ∙ sym (ap num q)
 
-  pub find-at : (g : Guid) → g ≡ guidAt t (place * size) → place < count → same g key ≡ true → At place ≡ foundIn (keys size count t) (num key)
-  find-at g q h s =
-      sym (lower-found (keys size count t) (num key) place (sym e) (omega (arith, length-keys size count t)) (read g q h ∙ eqb-true (num g) (num key) s))
+  pub find_at : (g : Guid) → g ≡ guid_at t (place * size) → place < count → same g key ≡ true → At place ≡ found_in (keys size count t) (num key)
+  find_at g q h s =
+      sym (lower_found (keys size count t) (num key) place (sym e) (omega (arith, length-keys size count t)) (read g q h ∙ eqb-true (num g) (num key) s))
 
-  pub find-other : (g : Guid) → g ≡ guidAt t (place * size) → place < count → same g key ≡ false → Missing place ≡ foundIn (keys size count t) (num key)
-  find-other g q h s =
-      sym (lower-missing (keys size count t) (num key) place (sym e) (λ l z. eqb-false (num g) (num key) s (sym (read g q h) ∙ z)))
+  pub find_other : (g : Guid) → g ≡ guid_at t (place * size) → place < count → same g key ≡ false → Missing place ≡ found_in (keys size count t) (num key)
+  find_other g q h s =
+      sym (lower_missing (keys size count t) (num key) place (sym e) (λ l z. eqb-false (num g) (num key) s (sym (read g q h) ∙ z)))
 
-  pub find-end : count ≤ place → Missing place ≡ foundIn (keys size count t) (num key)
-  find-end h = sym (lower-missing (keys size count t) (num key) place (sym e) (λ l z. omega (arith, length-keys size count t)))
+  pub find-end : count ≤ place → Missing place ≡ found_in (keys size count t) (num key)
+  find-end h = sym (lower_missing (keys size count t) (num key) place (sym e) (λ l z. omega (arith, length-keys size count t)))
 
 -- ---- keys that rise
 
 -- key i after key i - 1
 abbrev pub Rises : ℕ → List ℕ → ℕ → Bool
-Rises size t i = ltb (num (guidAt t ((i - 1) * size))) (num (guidAt t (i * size)))
+Rises size t i = ltb (num (guid_at t ((i - 1) * size))) (num (guid_at t (i * size)))
 
-rise-next : (size : ℕ) (t : List ℕ) (i : ℕ) → 0 < i → rising (keys size (i + 1) t) ≡ (rising (keys size i t) && Rises size t i)
+rise_next : (size : ℕ) (t : List ℕ) (i : ℕ) → 0 < i → rising (keys size (i + 1) t) ≡ (rising (keys size i t) && Rises size t i)
 unfolding keys
-rise-next size t zero h = absurd (omega arith)
-rise-next size t (suc j) h =
+rise_next size t zero h = absurd (omega arith)
+rise_next size t (suc j) h =
     let e : suc j - 1 ≡ j = omega arith in
-    rw (add-one, e) (rising-snoc (keys size j t) (num (guidAt t (j * size))) (num (guidAt t (suc j * size))))
+    rw (add-one, e) (rising_snoc (keys size j t) (num (guid_at t (j * size))) (num (guid_at t (suc j * size))))
 
-pub rise-turn : (size : ℕ) (t : List ℕ) (i : ℕ) → 0 < i → rising (keys size i t) ≡ true → Rises size t i ≡ true → rising (keys size (i + 1) t) ≡ true
-rise-turn size t i h p q = rise-next size t i h ∙ rw (p, q)
+pub rise_turn : (size : ℕ) (t : List ℕ) (i : ℕ) → 0 < i → rising (keys size i t) ≡ true → Rises size t i ≡ true → rising (keys size (i + 1) t) ≡ true
+rise_turn size t i h p q = rise_next size t i h ∙ rw (p, q)
 
 -- the keys of fewer records rise too
 fewer : (size n : ℕ) (t : List ℕ) (i : ℕ) → i ≤ n → rising (keys size n t) ≡ true → rising (keys size i t) ≡ true
 unfolding keys
 fewer size zero t i h r = let e : i ≡ 0 = omega arith in rw e r
 fewer size (suc n) t i h r =
-    ⊎-elim (λ e. rw e r) (λ l. fewer size n t i (omega arith) (rising-left (keys size n t) (num (guidAt t (n * size)) ∷ []) r)) (eq-or-lt-of-le h)
+    ⊎_elim (λ e. rw e r) (λ l. fewer size n t i (omega arith) (rising-left (keys size n t) (num (guid_at t (n * size)) ∷ []) r)) (eq-or-lt_of_le h)
 
-pub rise-stop : (size n : ℕ) (t : List ℕ) (i : ℕ) → 0 < i → i < n → Rises size t i ≡ false → false ≡ rising (keys size n t)
-rise-stop size n t i h l q = each (rising (keys size n t)) refl
+pub rise_stop : (size n : ℕ) (t : List ℕ) (i : ℕ) → 0 < i → i < n → Rises size t i ≡ false → false ≡ rising (keys size n t)
+rise_stop size n t i h l q = each (rising (keys size n t)) refl
   where
     each : (b : Bool) → rising (keys size n t) ≡ b → false ≡ b
     each false e = refl
     each true e =
         let z : (rising (keys size i t) && Rises size t i) ≡ false = rw q (and-false (rising (keys size i t))) in
-        sym (sym (fewer size n t (i + 1) (omega arith) e) ∙ rise-next size t i h ∙ z)
+        sym (sym (fewer size n t (i + 1) (omega arith) e) ∙ rise_next size t i h ∙ z)

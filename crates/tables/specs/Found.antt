@@ -1,18 +1,14 @@
 -- The place of a key in a list of keys.
-use Prim.Native.Nat.{ℕ, zero, suc}
-use mathlib.Core.Bool.{_&&_, cond}
-use mathlib.Core.List.{List, [], _∷_}
-use lib.Dec.{ltb, eqb}
-use lib.ListN.{length, getD}
-use Rattle·tables·specs.specs.declared.Found.{Found}
-use Rattle·tables·specs.specs.declared.Found.the-variants.{At, Missing}
+use Rattle.std.specs.Prelude.{ℕ, zero, suc, ◌&&◌, cond, List, [], ◌∷◌, ltb, eqb, length, get_or}
+use Rattle.tables.specs.declared.Found.{Found}
+use Rattle.tables.specs.declared.Found.TheVariants.{At, Missing}
 
 -- how many keys stand before the first that is not less than k
-unfoldable pub lowerBound : List ℕ → ℕ → ℕ
-lowerBound [] k = zero
-lowerBound (x ∷ ks) k = cond (ltb x k) (suc (lowerBound ks k)) zero
+unfoldable pub lower_bound : List ℕ → ℕ → ℕ
+lower_bound [] k = zero
+lower_bound (x ∷ ks) k = cond (ltb x k) (suc (lower_bound ks k)) zero
 
 -- At its place where k is among the keys, else Missing, with the place where it would go in
-unfoldable pub foundIn : List ℕ → ℕ → Found
-foundIn ks k =
-    cond (ltb (lowerBound ks k) (length ks) && eqb (getD ks (lowerBound ks k) 0) k) (At (lowerBound ks k)) (Missing (lowerBound ks k))
+unfoldable pub found_in : List ℕ → ℕ → Found
+found_in ks k =
+    cond (ltb (lower_bound ks k) (length ks) && eqb (get_or ks (lower_bound ks k) 0) k) (At (lower_bound ks k)) (Missing (lower_bound ks k))

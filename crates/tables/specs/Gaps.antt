@@ -1,9 +1,7 @@
 -- A place opened and closed among the first `count` records of a table of records of `size` bytes.
-use Prim.Native.Nat.{ℕ, _+_, _-_, _*_}
-use mathlib.Core.List.{List}
-use lib.ListN.{drop, replicate}
-use lib.Seq.{paste}
-use Rattle·octets.specs.Patch.{patch}
+use Rattle.std.specs.Prelude.{ℕ, ◌+◌, ◌-◌, ◌*◌, List, drop, replicate}
+use Rattle.std.proofs.Math.Seq.{paste}
+use Rattle.octets.specs.Patch.{patch}
 
 -- the records from place at on stand one place higher
 abbrev pub opened : ℕ → ℕ → ℕ → List ℕ → List ℕ

@@ -1,14 +1,11 @@
 -- The keys of a table: records of `size` bytes end to end, each with a 16-byte key in front.
-use Prim.Native.Nat.{ℕ, zero, suc, _*_}
-use mathlib.Core.Bool.{Bool, true, _&&_}
-use mathlib.Core.List.{List, [], _∷_, _++_}
-use lib.Dec.{ltb}
-use Rattle·model.specs.Guids.{num, guidAt}
+use Rattle.std.specs.Prelude.{ℕ, zero, suc, ◌*◌, Bool, true, ◌&&◌, List, [], ◌∷◌, ◌++◌, ltb}
+use Rattle.model.specs.Guids.{num, guid_at}
 
 -- the numbers of the keys of the first n records
 unfoldable pub keys : ℕ → ℕ → List ℕ → List ℕ
 keys size zero t = []
-keys size (suc n) t = keys size n t ++ num (guidAt t (n * size)) ∷ []
+keys size (suc n) t = keys size n t ++ num (guid_at t (n * size)) ∷ []
 
 -- k is less than the first of ks, if there is one
 unfoldable pub leads : ℕ → List ℕ → Bool

@@ -1,15 +1,16 @@
 // Tables in a slice: records of one size end to end, each with a 16-byte key in front, the keys rising.
+#![tactic(auto)]
+
+ghost use Rattle.std.specs.Prelude.{true, ◌≡◌, ◌+◌, ◌*◌, ◌≤◌, ◌<◌, length};
+ghost use Rattle.model.specs.Guids.{num};
+ghost use Rattle.tables.specs.Keys.{keys, rising};
+ghost use Rattle.tables.specs.Found.{lower_bound, found_in};
+ghost use Rattle.tables.specs.Gaps.{opened, closed};
+
 use model::Guid;
-ghost use mathlib.Core.Bool.{true};
-ghost use mathlib.Core.Path.{_≡_};
-ghost use Prim.Native.Nat.{_+_, _*_, _≤_, _<_};
-ghost use lib.ListN.{length};
-ghost use Rattle·model.specs.Guids.{num};
-ghost use Rattle·tables·specs.specs.Keys.{keys, rising};
-ghost use Rattle·tables·specs.specs.Found.{lowerBound, foundIn};
-ghost use Rattle·tables·specs.specs.Gaps.{opened, closed};
 
 // Where a key was looked for: the place of its record, or the place where its record would go in.
+#[derive(Clone, Copy)]
 pub enum Found {
     At(usize),
     Missing(usize),
@@ -17,8 +18,8 @@ pub enum Found {
 
 // Whether the keys of the first count records rise.
 pub fn keys_rise(t: &[u8], size: usize, count: usize) -> bool
-    requires { ⌜ (16 ≤ size) × (count * size ≤ length (now t)) ⌝ }
-    ensures { λ r. ⌜ r ≡ rising (keys size count (now (t .entry))) ⌝ }
+    requires { (16 ≤ size) × (count * size ≤ length t.now) }
+    ensures { result ≡ rising (keys size count t.now) }
 {
     if count == 0 {
         return true;
@@ -38,8 +39,8 @@ pub fn keys_rise(t: &[u8], size: usize, count: usize) -> bool
 
 // How many of the first count records stand before the key: a binary search, in 16 bits, as there are 128 at most.
 pub fn lower_bound(t: &[u8], size: usize, count: usize, key: Guid) -> usize
-    requires { ⌜ (16 ≤ size) × (count ≤ 128) × (count * size ≤ length (now t)) × (rising (keys size count (now t)) ≡ true) ⌝ }
-    ensures { λ r. ⌜ r ≡ lowerBound (keys size count (now (t .entry))) (num key) ⌝ }
+    requires { (16 ≤ size) × (count ≤ 128) × (count * size ≤ length t.now) × (rising (keys size count t.now) ≡ true) }
+    ensures { result ≡ lower_bound (keys size count t.now) (num key) }
 {
     let mut lo = 0u16;
     let mut hi = count as u16;
@@ -56,8 +57,8 @@ pub fn lower_bound(t: &[u8], size: usize, count: usize, key: Guid) -> usize
 
 // The place of the key among the first count records.
 pub fn find(t: &[u8], size: usize, count: usize, key: Guid) -> Found
-    requires { ⌜ (16 ≤ size) × (count ≤ 128) × (count * size ≤ length (now t)) × (rising (keys size count (now t)) ≡ true) ⌝ }
-    ensures { λ r. ⌜ r ≡ foundIn (keys size count (now (t .entry))) (num key) ⌝ }
+    requires { (16 ≤ size) × (count ≤ 128) × (count * size ≤ length t.now) × (rising (keys size count t.now) ≡ true) }
+    ensures { result ≡ found_in (keys size count t.now) (num key) }
 {
     let place = lower_bound(t, size, count, key);
     if place < count {
@@ -70,16 +71,16 @@ pub fn find(t: &[u8], size: usize, count: usize, key: Guid) -> Found
 
 // The records from place at on move up by one place. The record there is left for the caller to write over.
 pub fn open_gap(t: &mut [u8], size: usize, at: usize, count: usize)
-    requires { ⌜ (at ≤ count) × (count * size + size ≤ length (now t)) ⌝ }
-    ensures { λ _. ⌜ now (t .exit) ≡ opened size at count (now (t .entry)) ⌝ }
+    requires { (at ≤ count) × (count * size + size ≤ length t.old) }
+    ensures { t.new ≡ opened size at count t.old }
 {
     octets::move_up(t, at * size + size, at * size, (count - at) * size);
 }
 
 // The record at place at is taken out: those behind it move down by one place, and the last place is cleared.
 pub fn close_gap(t: &mut [u8], size: usize, at: usize, count: usize)
-    requires { ⌜ (at < count) × (count * size ≤ length (now t)) ⌝ }
-    ensures { λ _. ⌜ now (t .exit) ≡ closed size at count (now (t .entry)) ⌝ }
+    requires { (at < count) × (count * size ≤ length t.old) }
+    ensures { t.new ≡ closed size at count t.old }
 {
     octets::move_down(t, at * size, at * size + size, (count - (at + 1)) * size);
     octets::clear(t, (count - 1) * size, size);

@@ -1,65 +1,61 @@
 // Handles handed out by an allocator, and walks over tables of two instances, run. Each line is a case and its answer.
-use libc::STDOUT_FILENO;
-use model::FoundHandle;
-use model::Head;
+#![tactic(auto)]
+
+use model::{FoundHandle, Head};
+use std::io;
 
 // Every group of cases.
-fn main() {
-    allocation(0);
-    allocation(1);
-    allocation(0xFFFF_FFFF_FFFF_FFFF);
-    no_instance();
-    two_instances();
-    small_table();
-    wrong_length();
-    wrong_form();
+fn main(rt: HostRuntime) -> io::Result<()> {
+    allocation(&rt, 0)?;
+    allocation(&rt, 1)?;
+    allocation(&rt, 0xFFFF_FFFF_FFFF_FFFF)?;
+    no_instance(&rt)?;
+    two_instances(&rt)?;
+    small_table(&rt)?;
+    wrong_length(&rt)?;
+    wrong_form(&rt)
 }
 
 // The handle that an allocator at the counter gives, and the counter after it.
-fn allocation(counter: u64) {
-    io::write_all(STDOUT_FILENO, b"allocate at ");
-    io::print_decimal(STDOUT_FILENO, counter);
+fn allocation(rt: &impl Print, counter: u64) -> io::Result<()> {
+    print!(rt; "allocate at {counter}")?;
     let step = handle_allocator::allocate_at(counter);
     let handle = step.handle;
-    io::write_all(STDOUT_FILENO, b": ");
-    io::print_decimal(STDOUT_FILENO, handle.0);
-    io::write_all(STDOUT_FILENO, b", then ");
-    io::print_decimal(STDOUT_FILENO, step.counter);
-    io::write_all(STDOUT_FILENO, b"\n");
+    println!(rt; ": {}, then {}", handle.0, step.counter)
 }
 
 // The table is empty.
-fn no_instance() {
+fn no_instance(rt: &impl Print) -> io::Result<()> {
     let pens = [0u8; 65536];
-    walk(b"no instance", &pens, 1);
+    walk(rt, "no instance", &pens, 1)
 }
 
 // Every handle in key order, and two steps behind the last; and the last position that there is.
-fn two_instances() {
+fn two_instances(rt: &impl Print) -> io::Result<()> {
     let mut pens = [0u8; 65536];
     registered(&mut pens);
-    walk(b"two instances", &pens, 4);
-    last_position(&pens);
+    walk(rt, "two instances", &pens, 4)?;
+    last_position(rt, &pens)
 }
 
 // The same in a table of 32 places.
-fn small_table() {
+fn small_table(rt: &impl Print) -> io::Result<()> {
     let mut pens = [0u8; 16384];
     registered(&mut pens);
-    walk(b"two of 32", &pens, 3);
+    walk(rt, "two of 32", &pens, 3)
 }
 
 // Refusal 1.
-fn wrong_length() {
+fn wrong_length(rt: &impl Print) -> io::Result<()> {
     let pens = [0u8; 512];
-    walk(b"a table of one place", &pens, 2);
+    walk(rt, "a table of one place", &pens, 2)
 }
 
 // Refusal 3.
-fn wrong_form() {
+fn wrong_form(rt: &impl Print) -> io::Result<()> {
     let mut pens = [0u8; 65536];
     octets::put_u8(&mut pens, 65535, 1);
-    walk(b"a byte behind the records", &pens, 1);
+    walk(rt, "a byte behind the records", &pens, 1)
 }
 
 // Two instances are registered: the second has the lower key.
@@ -103,47 +99,38 @@ fn call(head: Head, key: u64, pens: &mut [u8], writers: &mut [u8], lost: &mut [u
 }
 
 // So many steps of a walker from the table's start.
-fn walk(name: &[u8], pens: &[u8], steps: u64) {
+fn walk(rt: &impl Print, name: &str, pens: &[u8], steps: u64) -> io::Result<()> {
     let mut position = 0;
     let mut i = 0;
     while i < steps {
-        io::write_all(STDOUT_FILENO, name);
-        position = step(pens, position);
+        print!(rt; "{name}")?;
+        position = step(rt, pens, position)?;
         i += 1;
     }
+    Ok(())
 }
 
 // One step: the position, and what is given there. Where the walker stands after it.
-fn step(pens: &[u8], position: usize) -> usize {
-    io::write_all(STDOUT_FILENO, b" at ");
-    io::print_decimal(STDOUT_FILENO, position as u64);
+fn step(rt: &impl Print, pens: &[u8], position: usize) -> io::Result<usize> {
+    print!(rt; " at {position}")?;
     let walked = instance_walker::step_at(pens, position);
     let found = walked.found;
-    answer(found);
-    walked.position
+    answer(rt, found)?;
+    Ok(walked.position)
 }
 
 // The last position that there is.
-fn last_position(pens: &[u8]) {
-    io::write_all(STDOUT_FILENO, b"two instances at 2^64-1");
+fn last_position(rt: &impl Print, pens: &[u8]) -> io::Result<()> {
+    print!(rt; "two instances at 2^64-1")?;
     let found = instance_walker::handle_at(pens, 0xFFFF_FFFF_FFFF_FFFF);
-    answer(found);
+    answer(rt, found)
 }
 
 // What a walker gives.
-fn answer(found: FoundHandle) {
+fn answer(rt: &impl Print, found: FoundHandle) -> io::Result<()> {
     match found {
-        FoundHandle::Refused(number) => {
-            io::write_all(STDOUT_FILENO, b": refused ");
-            io::print_decimal(STDOUT_FILENO, number as u64);
-        }
-        FoundHandle::Missing => {
-            io::write_all(STDOUT_FILENO, b": none");
-        }
-        FoundHandle::Is(handle) => {
-            io::write_all(STDOUT_FILENO, b": handle ");
-            io::print_decimal(STDOUT_FILENO, handle.0);
-        }
+        FoundHandle::Refused(number) => println!(rt; ": refused {number}"),
+        FoundHandle::Missing => println!(rt; ": none"),
+        FoundHandle::Is(handle) => println!(rt; ": handle {}", handle.0),
     }
-    io::write_all(STDOUT_FILENO, b"\n");
 }

@@ -3,27 +3,22 @@
 // Derives from liveliness_tracker.rs of ZeroDDS (DDS 1.4, 2.2.3.11 and 2.2.4.1).
 // Copyright 2026 ZeroDDS Contributors. SPDX-License-Identifier: Apache-2.0. Changed: written anew in Rattle, with the state
 // lent as head and buffers.
-use model::AcknowledgeUse;
-use model::Called;
-use model::Head;
-use model::Sheet;
-use model::TrackerCall;
-ghost use mathlib.Core.Bool.{true};
-ghost use mathlib.Core.List.{List};
-ghost use mathlib.Core.Path.{_≡_};
-ghost use Prim.Native.Nat.{ℕ};
-ghost use lib.ListN.{length};
-ghost use Rattle·model.specs.Calls.{tracker};
-ghost use Rattle·model.specs.Refusals.{sheetRefusal};
-ghost use Rattle·model.specs.WellFormed.{headOk, lostOk};
-ghost use Rattle·model.specs.Writers.{acknowledgeableWith};
-ghost use Rattle·writer_counts.specs.WriterCalls.{WritersFormed, heldBy};
-ghost use Rattle·call_laws.specs.Entered.{TrackerJudged};
+#![tactic(auto)]
+
+ghost use Rattle.std.specs.Prelude.{true, List, ◌≡◌, ℕ, length};
+ghost use Rattle.model.specs.Calls.{tracker};
+ghost use Rattle.model.specs.Refusals.{sheet_refusal};
+ghost use Rattle.model.specs.WellFormed.{head_ok, lost_ok};
+ghost use Rattle.model.specs.Writers.{acknowledgeable_with};
+ghost use Rattle.writer_counts.specs.WriterCalls.{WritersFormed, held_by};
+ghost use Rattle.call_laws.specs.Entered.{TrackerJudged};
+
+use model::{AcknowledgeUse, Called, Head, Sheet, TrackerCall};
 
 // Whether both counts can take what is acknowledged of them, where a part is.
 fn acknowledge_ok(acknowledges: AcknowledgeUse, s: Sheet, head: Head) -> bool
-    requires { ⌜ headOk head ≡ true ⌝ }
-    ensures { λ r. ⌜ ((pens writers lost : List ℕ) → r ≡ acknowledgeableWith acknowledges s (heldBy head pens writers lost)) ⌝ }
+    requires { head_ok head ≡ true }
+    ensures { (pens writers lost : List ℕ) → result ≡ acknowledgeable_with acknowledges s (held_by head pens writers lost) }
 {
     match acknowledges {
         AcknowledgeUse::Nothing => true,
@@ -34,8 +29,8 @@ fn acknowledge_ok(acknowledges: AcknowledgeUse, s: Sheet, head: Head) -> bool
 
 // The number of the refusal that the sheet of a call on writers meets, 0 for none.
 fn tracker_refusal(c: TrackerCall, s: Sheet, head: Head) -> u8
-    requires { ⌜ headOk head ≡ true ⌝ }
-    ensures { λ r. ⌜ ((pens writers lost : List ℕ) → r ≡ sheetRefusal (tracker c) s (heldBy head pens writers lost)) ⌝ }
+    requires { head_ok head ≡ true }
+    ensures { (pens writers lost : List ℕ) → result ≡ sheet_refusal (tracker c) s (held_by head pens writers lost) }
 {
     let rule = call_codes::tracker_rule(c);
     let clocks = rule.clocks;
@@ -61,9 +56,9 @@ fn turn_writers(
     lost: &mut [u8],
     out: &mut [u8],
 ) -> Called
-    requires { ⌜ WritersFormed head (now writers) × (length (now lost) ≡ 4096) × (lostOk (head .«lost_count») (now lost) ≡ true) × (length (now out) ≡ 4096)
-        × ((pens writers lost : List ℕ) → 0 ≡ sheetRefusal (tracker c) s (heldBy head pens writers lost)) ⌝ }
-    ensures { λ r. ⌜ TrackerJudged c s head (now (writers .entry)) (now (lost .entry)) (now (out .entry)) r (now (writers .exit)) (now (lost .exit)) (now (out .exit)) ⌝ }
+    requires { WritersFormed head writers.now × (length lost.now ≡ 4096) × (lost_ok head.lost_count lost.now ≡ true) × (length out.old ≡ 4096)
+        × ((pens writers lost : List ℕ) → 0 ≡ sheet_refusal (tracker c) s (held_by head pens writers lost)) }
+    ensures { TrackerJudged c s head writers.old lost.old out.old result writers.new lost.new out.new }
 {
     match c {
         TrackerCall::Matched => writer_liveliness::matched(s, head, writers),
@@ -71,9 +66,7 @@ fn turn_writers(
         TrackerCall::LostWithParticipant => writer_liveliness::leave(true, s, head, writers),
         TrackerCall::WriterAsserted => writer_liveliness::writer_asserted(s, head, writers),
         TrackerCall::ParticipantAsserted => writer_liveliness::participant_asserted(
-            s,
-            head,
-            writers,
+            s, head, writers,
         ),
         TrackerCall::Expire => writer_expiry::expire(s, head, writers, lost),
         TrackerCall::TakeLost => writer_expiry::take_lost(s, head, lost, out),
@@ -91,8 +84,8 @@ pub fn tracker_turn(
     lost: &mut [u8],
     out: &mut [u8],
 ) -> Called
-    requires { ⌜ WritersFormed head (now writers) × (length (now lost) ≡ 4096) × (lostOk (head .«lost_count») (now lost) ≡ true) × (length (now out) ≡ 4096) ⌝ }
-    ensures { λ r. ⌜ TrackerJudged c s head (now (writers .entry)) (now (lost .entry)) (now (out .entry)) r (now (writers .exit)) (now (lost .exit)) (now (out .exit)) ⌝ }
+    requires { WritersFormed head writers.old × (length lost.old ≡ 4096) × (lost_ok head.lost_count lost.old ≡ true) × (length out.old ≡ 4096) }
+    ensures { TrackerJudged c s head writers.old lost.old out.old result writers.new lost.new out.new }
 {
     let number = tracker_refusal(c, s, head);
     if number != 0 {

@@ -3,25 +3,20 @@
 // Derives from liveliness_tracker.rs of ZeroDDS.
 // Copyright 2026 ZeroDDS Contributors. SPDX-License-Identifier: Apache-2.0. Changed: written anew in Rattle, the tracker's
 // fields as the head by value.
-use model::Called;
-use model::Guid;
-use model::Head;
-use model::LastWriter;
-use model::Writer;
-use writer_pass::Counts;
-use writer_pass::Tally;
-ghost use mathlib.Core.Bool.{true};
-ghost use mathlib.Core.Path.{_≡_};
-ghost use Prim.Native.Nat.{_+_, _-_, _≤_};
-ghost use lib.IntN.{pos, _-ℤ_};
-ghost use Rattle·model.specs.State.{classOf, isAliveClass, isNotAliveClass};
-ghost use Rattle·model.specs.WellFormed.{within};
-ghost use Rattle·writer_counts·specs.specs.Turns.{CountsFit, settledHead, calledBy, stillTally, shiftedTally, goneTally, departsTally};
+#![tactic(auto)]
+
+ghost use Rattle.std.specs.Prelude.{true, ◌≡◌, ◌+◌, ◌-◌, ◌≤◌, pos, ◌-ℤ◌};
+ghost use Rattle.model.specs.State.{class_of, is_alive_class, is_not_alive_class};
+ghost use Rattle.model.specs.WellFormed.{within};
+ghost use Rattle.writer_counts.specs.Turns.{CountsFit, settled_head, called_by, still_tally, shifted_tally, gone_tally, departs_tally};
+
+use model::{Called, Guid, Head, LastWriter, Writer};
+use writer_pass::{Counts, Tally};
 
 // The change of a count that was `count` with `change`, and is `after`: what was acknowledged of it stays.
 pub fn change_after(count: u32, change: i32, after: u32) -> i32
-    requires { ⌜ (after ≤ 128) × (within (pos count -ℤ change) ≡ true) ⌝ }
-    ensures { λ r. ⌜ r ≡ pos after -ℤ (pos count -ℤ change) ⌝ }
+    requires { (after ≤ 128) × (within (pos count -ℤ change) ≡ true) }
+    ensures { result ≡ pos after -ℤ (pos count -ℤ change) }
 {
     numbers::change_of(after, numbers::acknowledged(count, change))
 }
@@ -29,8 +24,8 @@ pub fn change_after(count: u32, change: i32, after: u32) -> i32
 // The head after a turn of the writers: counts, changes and last writer follow from its tally, the acknowledged amounts
 // stay.
 pub fn settle_head(head: Head, writer_count: u32, lost_count: u32, tally: Tally) -> Head
-    requires { ⌜ CountsFit head tally ⌝ }
-    ensures { λ r. ⌜ r ≡ settledHead head «writer_count» «lost_count» tally ⌝ }
+    requires { CountsFit head tally }
+    ensures { result ≡ settled_head head writer_count lost_count tally }
 {
     let counts = tally.counts;
     let last = tally.last;
@@ -58,8 +53,8 @@ pub fn settle_head(head: Head, writer_count: u32, lost_count: u32, tally: Tally)
 
 // What a turn of the writers leaves by value: whether a class changed, and the head.
 pub fn called(head: Head, writer_count: u32, tally: Tally) -> Called
-    requires { ⌜ CountsFit head tally ⌝ }
-    ensures { λ r. ⌜ r ≡ calledBy head «writer_count» tally ⌝ }
+    requires { CountsFit head tally }
+    ensures { result ≡ called_by head writer_count tally }
 {
     let a = answers::saying(tally.moved != 0);
     let h = settle_head(head, writer_count, head.lost_count, tally);
@@ -68,7 +63,7 @@ pub fn called(head: Head, writer_count: u32, tally: Tally) -> Called
 
 // The tally of a turn that changes no class.
 pub fn still(head: Head) -> Tally
-    ensures { λ r. ⌜ r ≡ stillTally head ⌝ }
+    ensures { result ≡ still_tally head }
 {
     let last = head.last_writer;
     let counts = Counts {
@@ -84,7 +79,7 @@ pub fn still(head: Head) -> Tally
 
 // The tally of a turn that changes the class of one writer.
 fn shifted(alive: u32, not_alive: u32, guid: Guid) -> Tally
-    ensures { λ r. ⌜ r ≡ shiftedTally alive «not_alive» guid ⌝ }
+    ensures { result ≡ shifted_tally alive not_alive guid }
 {
     let counts = Counts {
         alive: alive,
@@ -99,9 +94,9 @@ fn shifted(alive: u32, not_alive: u32, guid: Guid) -> Tally
 
 // The tally of a turn that takes the writer out.
 pub fn gone(head: Head, w: Writer) -> Tally
-    requires { ⌜ (isAliveClass (classOf (w .liveliness .state)) ≡ true → 1 ≤ head .alive)
-        × (isNotAliveClass (classOf (w .liveliness .state)) ≡ true → 1 ≤ head .«not_alive») ⌝ }
-    ensures { λ r. ⌜ r ≡ goneTally head w ⌝ }
+    requires { (is_alive_class (class_of w.liveliness.state) ≡ true → 1 ≤ head.alive)
+        × (is_not_alive_class (class_of w.liveliness.state) ≡ true → 1 ≤ head.not_alive) }
+    ensures { result ≡ gone_tally head w }
 {
     let l = w.liveliness;
     let s = l.state;
@@ -117,8 +112,8 @@ pub fn gone(head: Head, w: Writer) -> Tally
 
 // The tally of a turn in which the writer departs.
 pub fn departs(head: Head, w: Writer) -> Tally
-    requires { ⌜ (isAliveClass (classOf (w .liveliness .state)) ≡ true → 1 ≤ head .alive) × (head .«not_alive» ≤ 128) ⌝ }
-    ensures { λ r. ⌜ r ≡ departsTally head w ⌝ }
+    requires { (is_alive_class (class_of w.liveliness.state) ≡ true → 1 ≤ head.alive) × (head.not_alive ≤ 128) }
+    ensures { result ≡ departs_tally head w }
 {
     let l = w.liveliness;
     let s = l.state;

@@ -1,13 +1,13 @@
 -- The code's assertion as model's, and the number of a class.
-use Prim.Native.Nat.{ℕ}
-use Rattle·model.specs.State.{Class, alive, notAlive, neither}
-use Rattle·model.specs.Writers.{Assertion as AssertionOf}
-use Rattle·writer_effects·specs.specs.declared.Assertion.{Assertion}
+use Rattle.std.specs.Prelude.{ℕ}
+use Rattle.model.specs.State.{Class, alive, not_alive, neither}
+use Rattle.model.specs.Writers.{Assertion as AssertionOf}
+use Rattle.writer_effects.specs.declared.Assertion.{Assertion}
 
-abbrev pub assertionOf : Assertion → AssertionOf
-assertionOf a = record { guid = a .guid; named = a .named; manual = a .manual; clock = a .clock }
+abbrev pub assertion_of : Assertion → AssertionOf
+assertion_of a = record { guid = a.guid; named = a.named; manual = a.manual; clock = a.clock }
 
-abbrev pub classNumber : Class → ℕ
-classNumber neither = 0
-classNumber alive = 1
-classNumber notAlive = 2
+abbrev pub class_number : Class → ℕ
+class_number neither = 0
+class_number alive = 1
+class_number not_alive = 2

@@ -3,21 +3,18 @@
 // Derives from liveliness_tracker.rs of ZeroDDS (DDS 1.4, 2.2.3.11 and 2.2.4.1).
 // Copyright 2026 ZeroDDS Contributors. SPDX-License-Identifier: Apache-2.0. Changed: written anew in Rattle, each effect
 // as a function of the writer's value.
-use model::Guid;
-use model::Liveliness;
-use model::LivelinessKind;
-use model::MaybeLease;
-use model::Sheet;
-use model::Writer;
-use model::WriterState;
-ghost use mathlib.Core.Bool.{_&&_};
-ghost use mathlib.Core.Option.{none, some};
-ghost use mathlib.Core.Path.{_≡_};
-ghost use Rattle·model.specs.State.{classOf, isAliveClass, isNotAliveClass};
-ghost use Rattle·model.specs.Writers.{isTracked, isNotAlive, isAutomatic, coversKind, hasGuid, leaseOn, matchedAs, matchedWriter, withState, covers, renews, departed};
-ghost use Rattle·writer_effects·specs.specs.Acts.{assertionOf, classNumber};
+#![tactic(auto)]
+
+ghost use Rattle.std.specs.Prelude.{◌&&◌, ◌≡◌};
+ghost use Rattle.std.proofs.Math.Option.{none, some};
+ghost use Rattle.model.specs.State.{class_of, is_alive_class, is_not_alive_class};
+ghost use Rattle.model.specs.Writers.{is_tracked, is_not_alive, is_automatic, covers_kind, has_guid, lease_on, matched_as, matched_writer, with_state, covers, renews, departed};
+ghost use Rattle.writer_effects.specs.Acts.{assertion_of, class_number};
+
+use model::{Guid, Liveliness, LivelinessKind, MaybeLease, Sheet, Writer, WriterState};
 
 // An assertion: whom it names or whose prefix it gives, whether it names that writer, whether it is manual, and its clock.
+#[derive(Clone, Copy)]
 pub struct Assertion {
     pub guid: Guid,
     pub named: bool,
@@ -27,7 +24,7 @@ pub struct Assertion {
 
 // Whether a state is one of a tracked writer: matched and not departed.
 pub fn is_tracked(s: WriterState) -> bool
-    ensures { λ r. ⌜ r ≡ isTracked s ⌝ }
+    ensures { result ≡ is_tracked s }
 {
     match s {
         WriterState::Unasserted => true,
@@ -39,7 +36,7 @@ pub fn is_tracked(s: WriterState) -> bool
 
 // Whether a state is not alive, and not departed.
 fn is_not_alive(s: WriterState) -> bool
-    ensures { λ r. ⌜ r ≡ isNotAlive s ⌝ }
+    ensures { result ≡ is_not_alive s }
 {
     match s {
         WriterState::Unasserted => false,
@@ -51,7 +48,7 @@ fn is_not_alive(s: WriterState) -> bool
 
 // The number of a state's class: 0 neither, 1 alive, 2 not alive, with departed.
 fn class_number(s: WriterState) -> u8
-    ensures { λ r. ⌜ r ≡ classNumber (classOf s) ⌝ }
+    ensures { result ≡ class_number (class_of s) }
 {
     match s {
         WriterState::Unasserted => 0,
@@ -63,21 +60,21 @@ fn class_number(s: WriterState) -> u8
 
 // Whether a state is counted as alive.
 pub fn counts_alive(s: WriterState) -> bool
-    ensures { λ r. ⌜ r ≡ isAliveClass (classOf s) ⌝ }
+    ensures { result ≡ is_alive_class (class_of s) }
 {
     class_number(s) == 1
 }
 
 // Whether a state is counted as not alive.
 pub fn counts_not_alive(s: WriterState) -> bool
-    ensures { λ r. ⌜ r ≡ isNotAliveClass (classOf s) ⌝ }
+    ensures { result ≡ is_not_alive_class (class_of s) }
 {
     class_number(s) == 2
 }
 
 // Whether a kind is automatic.
 pub fn is_automatic(k: LivelinessKind) -> bool
-    ensures { λ r. ⌜ r ≡ isAutomatic k ⌝ }
+    ensures { result ≡ is_automatic k }
 {
     match k {
         LivelinessKind::Automatic => true,
@@ -88,7 +85,7 @@ pub fn is_automatic(k: LivelinessKind) -> bool
 
 // Whether an assertion by a participant covers a kind.
 fn covers_kind(k: LivelinessKind, manual: bool) -> bool
-    ensures { λ r. ⌜ r ≡ coversKind k manual ⌝ }
+    ensures { result ≡ covers_kind k manual }
 {
     match k {
         LivelinessKind::Automatic => true,
@@ -99,7 +96,7 @@ fn covers_kind(k: LivelinessKind, manual: bool) -> bool
 
 // Whether the assertion names the writer.
 fn names(a: Assertion, w: Writer) -> bool
-    ensures { λ r. ⌜ r ≡ (a .named && hasGuid (a .guid) w) ⌝ }
+    ensures { result ≡ (a.named && has_guid a.guid w) }
 {
     let g = w.guid;
     let named = a.guid;
@@ -111,7 +108,7 @@ fn names(a: Assertion, w: Writer) -> bool
 
 // Whether the assertion covers the writer: it names it, or covers its kind at the same prefix.
 pub fn covers(a: Assertion, w: Writer) -> bool
-    ensures { λ r. ⌜ r ≡ covers (assertionOf a) w ⌝ }
+    ensures { result ≡ covers (assertion_of a) w }
 {
     if names(a, w) {
         return true;
@@ -128,7 +125,7 @@ pub fn covers(a: Assertion, w: Writer) -> bool
 
 // Whether the assertion acts on the writer: it is later than the last, or equal and the writer not yet not alive.
 pub fn renews(a: Assertion, w: Writer) -> bool
-    ensures { λ r. ⌜ r ≡ renews (assertionOf a) w ⌝ }
+    ensures { result ≡ renews (assertion_of a) w }
 {
     let l = w.liveliness;
     let s = l.state;
@@ -146,7 +143,7 @@ pub fn renews(a: Assertion, w: Writer) -> bool
 
 // The writer with another state and last assertion.
 pub fn with_state(w: Writer, state: WriterState, last: u64) -> Writer
-    ensures { λ r. ⌜ r ≡ withState state last w ⌝ }
+    ensures { result ≡ with_state state last w }
 {
     let guid = w.guid;
     let l = w.liveliness;
@@ -166,7 +163,7 @@ pub fn with_state(w: Writer, state: WriterState, last: u64) -> Writer
 
 // The lease on the sheet.
 fn lease_on(sheet: Sheet) -> MaybeLease
-    ensures { λ r. ⌜ r ≡ leaseOn sheet ⌝ }
+    ensures { result ≡ lease_on sheet }
 {
     if sheet.lease_present {
         MaybeLease {
@@ -183,7 +180,7 @@ fn lease_on(sheet: Sheet) -> MaybeLease
 
 // A writer with the GUID, kind and lease on the sheet.
 fn matched_as(sheet: Sheet, state: WriterState, last: u64) -> Writer
-    ensures { λ r. ⌜ r ≡ matchedAs sheet state last ⌝ }
+    ensures { result ≡ matched_as sheet state last }
 {
     let guid = sheet.guid;
     let kind = writer_record::kind_numbered(sheet.kind);
@@ -202,7 +199,7 @@ fn matched_as(sheet: Sheet, state: WriterState, last: u64) -> Writer
 
 // The writer that a match starts: it has asserted nothing yet.
 pub fn first_matched(sheet: Sheet) -> Writer
-    ensures { λ r. ⌜ r ≡ matchedWriter sheet none ⌝ }
+    ensures { result ≡ matched_writer sheet none }
 {
     matched_as(sheet, WriterState::Unasserted, sheet.a)
 }
@@ -210,7 +207,7 @@ pub fn first_matched(sheet: Sheet) -> Writer
 // The writer that a match leaves where there is a record: a tracked one keeps its state, a departed one comes back not
 // alive at 0.
 pub fn matched_again(sheet: Sheet, w: Writer) -> Writer
-    ensures { λ r. ⌜ r ≡ matchedWriter sheet (some w) ⌝ }
+    ensures { result ≡ matched_writer sheet (some w) }
 {
     let l = w.liveliness;
     let s = l.state;
@@ -223,7 +220,7 @@ pub fn matched_again(sheet: Sheet, w: Writer) -> Writer
 
 // The record of a writer that departed: only GUID and state.
 pub fn departed(guid: Guid) -> Writer
-    ensures { λ r. ⌜ r ≡ departed guid ⌝ }
+    ensures { result ≡ departed guid }
 {
     let lease = MaybeLease {
         present: false,

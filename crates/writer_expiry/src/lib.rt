@@ -1,30 +1,25 @@
 // The tracker calls on Lost: code 37, which declares the writers whose lease ran out, and code 38, which takes the list.
-// Each does what model's `trackerCall` says; refusal 12 is answered here, with nothing written.
+// Each does what model's `tracker_call` says; refusal 12 is answered here, with nothing written.
 //
 // Derives from liveliness_tracker.rs of ZeroDDS (DDS 1.4, 2.2.2.5.1.3, 2.2.3.9.2 and 2.2.4.1).
 // Copyright 2026 ZeroDDS Contributors. SPDX-License-Identifier: Apache-2.0. Changed: written anew in Rattle, Lost as a
 // list of GUIDs in lent bytes.
-use model::Called;
-use model::Head;
-use model::LastWriter;
-use model::Sheet;
-use writer_pass::Counts;
-use writer_pass::Dues;
-use writer_pass::Tally;
-ghost use mathlib.Core.Bool.{true};
-ghost use mathlib.Core.Path.{_≡_};
-ghost use Prim.Native.Nat.{_+_, _≤_};
-ghost use lib.ListN.{length};
-ghost use Rattle·model.specs.State.{writersIn};
-ghost use Rattle·model.specs.WellFormed.{lostOk};
-ghost use Rattle·writer_pass.specs.Passes.{duesOf};
-ghost use Rattle·writer_counts.specs.WriterCalls.{WritersFormed};
-ghost use Rattle·writer_expiry·specs.specs.Losing.{expiryTally, Expires, Takes};
+#![tactic(auto)]
+
+ghost use Rattle.std.specs.Prelude.{true, ◌≡◌, ◌+◌, ◌≤◌, length};
+ghost use Rattle.model.specs.State.{writers_in};
+ghost use Rattle.model.specs.WellFormed.{lost_ok};
+ghost use Rattle.writer_pass.specs.Passes.{dues_of};
+ghost use Rattle.writer_counts.specs.WriterCalls.{WritersFormed};
+ghost use Rattle.writer_expiry.specs.Losing.{expiry_tally, Expires, Takes};
+
+use model::{Called, Head, LastWriter, Sheet};
+use writer_pass::{Counts, Dues, Tally};
 
 // The tally of an expiry: so many alive writers are not alive now.
 fn tally_of(head: Head, gone: u32, last: LastWriter) -> Tally
-    requires { ⌜ (gone ≤ head .alive) × (head .«not_alive» + gone ≤ 128) ⌝ }
-    ensures { λ r. ⌜ r ≡ expiryTally head gone last ⌝ }
+    requires { (gone ≤ head.alive) × (head.not_alive + gone ≤ 128) }
+    ensures { result ≡ expiry_tally head gone last }
 {
     let counts = Counts {
         alive: head.alive - gone,
@@ -45,9 +40,9 @@ fn expire_within(
     lost: &mut [u8],
     dues: Dues,
 ) -> Called
-    requires { ⌜ WritersFormed head (now writers) × (length (now lost) ≡ 4096) × (lostOk (head .«lost_count») (now lost) ≡ true)
-        × (dues ≡ duesOf (sheet .a) (writersIn (head .«writer_count») (now writers))) × (head .«lost_count» + dues .gone ≤ 256) ⌝ }
-    ensures { λ r. ⌜ Expires sheet head (now (writers .entry)) (now (lost .entry)) r (now (writers .exit)) (now (lost .exit)) ⌝ }
+    requires { WritersFormed head writers.old × (length lost.old ≡ 4096) × (lost_ok head.lost_count lost.old ≡ true)
+        × (dues ≡ dues_of sheet.a (writers_in head.writer_count writers.old)) × (head.lost_count + dues.gone ≤ 256) }
+    ensures { Expires sheet head writers.old lost.old result writers.new lost.new }
 {
     let count = head.writer_count as usize;
     let n = head.lost_count;
@@ -63,8 +58,8 @@ fn expire_within(
 
 // Code 37: every alive writer whose lease has run out at the clock becomes not alive.
 pub fn expire(sheet: Sheet, head: Head, writers: &mut [u8], lost: &mut [u8]) -> Called
-    requires { ⌜ WritersFormed head (now writers) × (length (now lost) ≡ 4096) × (lostOk (head .«lost_count») (now lost) ≡ true) ⌝ }
-    ensures { λ r. ⌜ Expires sheet head (now (writers .entry)) (now (lost .entry)) r (now (writers .exit)) (now (lost .exit)) ⌝ }
+    requires { WritersFormed head writers.old × (length lost.old ≡ 4096) × (lost_ok head.lost_count lost.old ≡ true) }
+    ensures { Expires sheet head writers.old lost.old result writers.new lost.new }
 {
     let count = head.writer_count as usize;
     let dues = writer_pass::find_dues(writers, count, sheet.a);
@@ -76,8 +71,8 @@ pub fn expire(sheet: Sheet, head: Head, writers: &mut [u8], lost: &mut [u8]) -> 
 
 // Code 38: the writers that expired since the latest such call go to Out, and Lost is empty.
 pub fn take_lost(sheet: Sheet, head: Head, lost: &mut [u8], out: &mut [u8]) -> Called
-    requires { ⌜ (length (now lost) ≡ 4096) × (lostOk (head .«lost_count») (now lost) ≡ true) × (length (now out) ≡ 4096) ⌝ }
-    ensures { λ r. ⌜ Takes sheet head (now (lost .entry)) (now (out .entry)) r (now (lost .exit)) (now (out .exit)) ⌝ }
+    requires { (length lost.old ≡ 4096) × (lost_ok head.lost_count lost.old ≡ true) × (length out.old ≡ 4096) }
+    ensures { Takes sheet head lost.old out.old result lost.new out.new }
 {
     let n = head.lost_count;
     let size = n as usize * 16;

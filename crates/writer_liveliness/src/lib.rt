@@ -1,39 +1,37 @@
 // The tracker calls on the writers alone, codes 32 to 36, over the lent writers, with the head
-// by value. Each does what model's `trackerCall` says; refusal 11 is answered here, with nothing written.
+// by value. Each does what model's `tracker_call` says; refusal 11 is answered here, with nothing written.
 //
 // Derives from liveliness_tracker.rs of ZeroDDS (DDS 1.4, 2.2.3.11 and 2.2.4.1).
 // Copyright 2026 ZeroDDS Contributors. SPDX-License-Identifier: Apache-2.0. Changed: written anew in Rattle, the tracked
 // and the departed writers as ordered records in lent bytes.
-use model::Called;
-use model::Head;
-use model::Sheet;
+#![tactic(auto)]
+
+ghost use Rattle.std.specs.Prelude.{true, false, cond, ◌≡◌, ◌+◌, ◌-◌, ◌*◌, ◌<◌, take, drop};
+ghost use Rattle.octets.specs.Patch.{patch};
+ghost use Rattle.model.specs.declared.TrackerCall.TheVariants.{Matched, Unmatched, LostWithParticipant, WriterAsserted, ParticipantAsserted};
+ghost use Rattle.model.specs.Guids.{num};
+ghost use Rattle.model.specs.Refusals.{clocks_used_by};
+ghost use Rattle.model.specs.Tables.{all};
+ghost use Rattle.model.specs.WellFormed.{clock_ok};
+ghost use Rattle.model.specs.WriterRecord.{writer_of, writer_bytes};
+ghost use Rattle.model.specs.Writers.{departed};
+ghost use Rattle.tables.specs.declared.Found.TheVariants.{At, Missing};
+ghost use Rattle.tables.specs.Found.{found_in};
+ghost use Rattle.tables.specs.Gaps.{closed};
+ghost use Rattle.tables.specs.Keys.{keys};
+ghost use Rattle.writer_counts.specs.Turns.{CountsFit, called_by, still_tally, gone_tally, departs_tally};
+ghost use Rattle.writer_counts.specs.WriterCalls.{WritersFormed, Turns, leaving, Passable, assertion_on, automatic, asserted_table, asserted_tally};
+
+use model::{Called, Head, Sheet};
 use tables::Found;
 use writer_effects::Assertion;
 use writer_pass::Counts;
-ghost use mathlib.Core.Bool.{true, false, cond};
-ghost use mathlib.Core.Path.{_≡_};
-ghost use Prim.Native.Nat.{_+_, _-_, _*_, _<_};
-ghost use lib.ListN.{take, drop};
-ghost use Rattle·octets.specs.Patch.{patch};
-ghost use Rattle·model.specs.declared.TrackerCall.the-variants.{Matched, Unmatched, LostWithParticipant, WriterAsserted, ParticipantAsserted};
-ghost use Rattle·model.specs.Guids.{num};
-ghost use Rattle·model.specs.Refusals.{clocksUsedBy};
-ghost use Rattle·model.specs.Tables.{all};
-ghost use Rattle·model.specs.WellFormed.{clockOk};
-ghost use Rattle·model.specs.WriterRecord.{writerOf, writerBytes};
-ghost use Rattle·model.specs.Writers.{departed};
-ghost use Rattle·tables.specs.declared.Found.the-variants.{At, Missing};
-ghost use Rattle·tables.specs.Found.{foundIn};
-ghost use Rattle·tables.specs.Gaps.{closed};
-ghost use Rattle·tables.specs.Keys.{keys};
-ghost use Rattle·writer_counts.specs.Turns.{CountsFit, calledBy, stillTally, goneTally, departsTally};
-ghost use Rattle·writer_counts.specs.WriterCalls.{WritersFormed, Turns, leaving, Passable, assertionOn, automatic, assertedTable, assertedTally};
 
 // An assertion on the first count writers.
 fn assert_on(head: Head, writers: &mut [u8], count: u32, a: Assertion) -> Called
-    requires { ⌜ Passable head count (now writers) ⌝ }
-    ensures { λ r. ⌜ (now (writers .exit) ≡ assertedTable a count (now (writers .entry)))
-        × (r ≡ calledBy head count (assertedTally head a count (now (writers .entry)))) ⌝ }
+    requires { Passable head count writers.old }
+    ensures { (writers.new ≡ asserted_table a count writers.old)
+        × (result ≡ called_by head count (asserted_tally head a count writers.old)) }
 {
     let last = head.last_writer;
     let counts = Counts {
@@ -46,8 +44,8 @@ fn assert_on(head: Head, writers: &mut [u8], count: u32, a: Assertion) -> Called
 
 // Code 35: the writer asserted its own liveliness, which is a manual assertion of its participant too.
 pub fn writer_asserted(sheet: Sheet, head: Head, writers: &mut [u8]) -> Called
-    requires { ⌜ WritersFormed head (now writers) ⌝ }
-    ensures { λ r. ⌜ Turns WriterAsserted sheet head (now (writers .entry)) r (now (writers .exit)) ⌝ }
+    requires { WritersFormed head writers.old }
+    ensures { Turns WriterAsserted sheet head writers.old result writers.new }
 {
     let guid = sheet.guid;
     let a = Assertion {
@@ -61,8 +59,8 @@ pub fn writer_asserted(sheet: Sheet, head: Head, writers: &mut [u8]) -> Called
 
 // Code 36: the participant of a prefix asserted its writers, manually or by running.
 pub fn participant_asserted(sheet: Sheet, head: Head, writers: &mut [u8]) -> Called
-    requires { ⌜ WritersFormed head (now writers) ⌝ }
-    ensures { λ r. ⌜ Turns ParticipantAsserted sheet head (now (writers .entry)) r (now (writers .exit)) ⌝ }
+    requires { WritersFormed head writers.old }
+    ensures { Turns ParticipantAsserted sheet head writers.old result writers.new }
 {
     let guid = sheet.guid;
     let a = Assertion {
@@ -76,8 +74,8 @@ pub fn participant_asserted(sheet: Sheet, head: Head, writers: &mut [u8]) -> Cal
 
 // A turn that changes no class and leaves the writers as they are.
 fn kept(head: Head) -> Called
-    requires { ⌜ CountsFit head (stillTally head) ⌝ }
-    ensures { λ r. ⌜ r ≡ calledBy head (head .«writer_count») (stillTally head) ⌝ }
+    requires { CountsFit head (still_tally head) }
+    ensures { result ≡ called_by head head.writer_count (still_tally head) }
 {
     let tally = writer_counts::still(head);
     writer_counts::called(head, head.writer_count, tally)
@@ -85,9 +83,9 @@ fn kept(head: Head) -> Called
 
 // The writer at place i is taken out.
 fn removed(head: Head, writers: &mut [u8], i: usize) -> Called
-    requires { ⌜ WritersFormed head (now writers) × (i < head .«writer_count») ⌝ }
-    ensures { λ r. ⌜ (now (writers .exit) ≡ closed 40 i (head .«writer_count») (now (writers .entry)))
-        × (r ≡ calledBy head (head .«writer_count» - 1) (goneTally head (writerOf (take 40 (drop (i * 40) (now (writers .entry))))))) ⌝ }
+    requires { WritersFormed head writers.old × (i < head.writer_count) }
+    ensures { (writers.new ≡ closed 40 i head.writer_count writers.old)
+        × (result ≡ called_by head (head.writer_count - 1) (gone_tally head (writer_of (take 40 (drop (i * 40) writers.old))))) }
 {
     let w = writer_record::writer_at(writers, i);
     let count = head.writer_count;
@@ -98,8 +96,8 @@ fn removed(head: Head, writers: &mut [u8], i: usize) -> Called
 
 // Code 33 at the place of the writer's record: it is taken out unless it departed.
 fn unmatched_at(sheet: Sheet, head: Head, writers: &mut [u8], i: usize) -> Called
-    requires { ⌜ WritersFormed head (now writers) × (foundIn (keys 40 (head .«writer_count») (now writers)) (num (sheet .guid)) ≡ At i) ⌝ }
-    ensures { λ r. ⌜ Turns Unmatched sheet head (now (writers .entry)) r (now (writers .exit)) ⌝ }
+    requires { WritersFormed head writers.old × (found_in (keys 40 head.writer_count writers.old) (num sheet.guid) ≡ At i) }
+    ensures { Turns Unmatched sheet head writers.old result writers.new }
 {
     let w = writer_record::writer_at(writers, i);
     let l = w.liveliness;
@@ -112,9 +110,9 @@ fn unmatched_at(sheet: Sheet, head: Head, writers: &mut [u8], i: usize) -> Calle
 
 // The writer at place i departs: its record keeps GUID and state alone.
 fn departed_at(head: Head, writers: &mut [u8], i: usize) -> Called
-    requires { ⌜ WritersFormed head (now writers) × (i < head .«writer_count») ⌝ }
-    ensures { λ r. ⌜ (now (writers .exit) ≡ patch (now (writers .entry)) (i * 40) 40 (writerBytes (departed (writerOf (take 40 (drop (i * 40) (now (writers .entry)))) .guid))))
-        × (r ≡ calledBy head (head .«writer_count») (departsTally head (writerOf (take 40 (drop (i * 40) (now (writers .entry))))))) ⌝ }
+    requires { WritersFormed head writers.old × (i < head.writer_count) }
+    ensures { (writers.new ≡ patch writers.old (i * 40) 40 (writer_bytes (departed (writer_of (take 40 (drop (i * 40) writers.old))).guid)))
+        × (result ≡ called_by head head.writer_count (departs_tally head (writer_of (take 40 (drop (i * 40) writers.old))))) }
 {
     let w = writer_record::writer_at(writers, i);
     let g = w.guid;
@@ -125,8 +123,8 @@ fn departed_at(head: Head, writers: &mut [u8], i: usize) -> Called
 
 // Code 34 at the place of the writer's record: an unasserted one is taken out, any other departs.
 fn lost_at(sheet: Sheet, head: Head, writers: &mut [u8], i: usize) -> Called
-    requires { ⌜ WritersFormed head (now writers) × (foundIn (keys 40 (head .«writer_count») (now writers)) (num (sheet .guid)) ≡ At i) ⌝ }
-    ensures { λ r. ⌜ Turns LostWithParticipant sheet head (now (writers .entry)) r (now (writers .exit)) ⌝ }
+    requires { WritersFormed head writers.old × (found_in (keys 40 head.writer_count writers.old) (num sheet.guid) ≡ At i) }
+    ensures { Turns LostWithParticipant sheet head writers.old result writers.new }
 {
     let w = writer_record::writer_at(writers, i);
     let l = w.liveliness;
@@ -139,8 +137,8 @@ fn lost_at(sheet: Sheet, head: Head, writers: &mut [u8], i: usize) -> Called
 
 // Codes 33 and 34 at the place of the writer's record.
 fn leave_at(lost: bool, sheet: Sheet, head: Head, writers: &mut [u8], i: usize) -> Called
-    requires { ⌜ WritersFormed head (now writers) × (foundIn (keys 40 (head .«writer_count») (now writers)) (num (sheet .guid)) ≡ At i) ⌝ }
-    ensures { λ r. ⌜ Turns (leaving lost) sheet head (now (writers .entry)) r (now (writers .exit)) ⌝ }
+    requires { WritersFormed head writers.old × (found_in (keys 40 head.writer_count writers.old) (num sheet.guid) ≡ At i) }
+    ensures { Turns (leaving lost) sheet head writers.old result writers.new }
 {
     if lost {
         return lost_at(sheet, head, writers, i);
@@ -151,8 +149,8 @@ fn leave_at(lost: bool, sheet: Sheet, head: Head, writers: &mut [u8], i: usize) 
 // Code 33: the writer is no longer matched. Code 34: so too, because its participant's lease ran out, which is no normal
 // deletion.
 pub fn leave(lost: bool, sheet: Sheet, head: Head, writers: &mut [u8]) -> Called
-    requires { ⌜ WritersFormed head (now writers) ⌝ }
-    ensures { λ r. ⌜ Turns (leaving lost) sheet head (now (writers .entry)) r (now (writers .exit)) ⌝ }
+    requires { WritersFormed head writers.old }
+    ensures { Turns (leaving lost) sheet head writers.old result writers.new }
 {
     let guid = sheet.guid;
     let count = head.writer_count as usize;
@@ -164,9 +162,9 @@ pub fn leave(lost: bool, sheet: Sheet, head: Head, writers: &mut [u8]) -> Called
 
 // An automatic match then asserts, by the participant and by name.
 fn match_asserts(sheet: Sheet, head: Head, writers: &mut [u8], count: u32) -> Called
-    requires { ⌜ Passable head count (now writers) ⌝ }
-    ensures { λ r. ⌜ (now (writers .exit) ≡ cond (automatic sheet) (assertedTable (assertionOn true false sheet) count (now (writers .entry))) (now (writers .entry)))
-        × (r ≡ calledBy head count (cond (automatic sheet) (assertedTally head (assertionOn true false sheet) count (now (writers .entry))) (stillTally head))) ⌝ }
+    requires { Passable head count writers.old }
+    ensures { (writers.new ≡ cond (automatic sheet) (asserted_table (assertion_on true false sheet) count writers.old) writers.old)
+        × (result ≡ called_by head count (cond (automatic sheet) (asserted_tally head (assertion_on true false sheet) count writers.old) (still_tally head))) }
 {
     let guid = sheet.guid;
     let k = writer_record::kind_numbered(sheet.kind);
@@ -185,9 +183,9 @@ fn match_asserts(sheet: Sheet, head: Head, writers: &mut [u8], count: u32) -> Ca
 
 // Code 32 at the place of the writer's record: a tracked one takes kind and lease, a departed one comes back.
 fn match_again(sheet: Sheet, head: Head, writers: &mut [u8], i: usize) -> Called
-    requires { ⌜ WritersFormed head (now writers) × (all clockOk (clocksUsedBy Matched sheet) ≡ true)
-        × (foundIn (keys 40 (head .«writer_count») (now writers)) (num (sheet .guid)) ≡ At i) ⌝ }
-    ensures { λ r. ⌜ Turns Matched sheet head (now (writers .entry)) r (now (writers .exit)) ⌝ }
+    requires { WritersFormed head writers.old × (all clock_ok (clocks_used_by Matched sheet) ≡ true)
+        × (found_in (keys 40 head.writer_count writers.old) (num sheet.guid) ≡ At i) }
+    ensures { Turns Matched sheet head writers.old result writers.new }
 {
     let w = writer_record::writer_at(writers, i);
     writer_record::put_writer(writers, i, writer_effects::matched_again(sheet, w));
@@ -201,9 +199,9 @@ fn match_again(sheet: Sheet, head: Head, writers: &mut [u8], i: usize) -> Called
 
 // Code 32 where the GUID has no record: it goes in at place i, or every place is taken.
 fn match_first(sheet: Sheet, head: Head, writers: &mut [u8], i: usize) -> Called
-    requires { ⌜ WritersFormed head (now writers) × (all clockOk (clocksUsedBy Matched sheet) ≡ true)
-        × (foundIn (keys 40 (head .«writer_count») (now writers)) (num (sheet .guid)) ≡ Missing i) ⌝ }
-    ensures { λ r. ⌜ Turns Matched sheet head (now (writers .entry)) r (now (writers .exit)) ⌝ }
+    requires { WritersFormed head writers.old × (all clock_ok (clocks_used_by Matched sheet) ≡ true)
+        × (found_in (keys 40 head.writer_count writers.old) (num sheet.guid) ≡ Missing i) }
+    ensures { Turns Matched sheet head writers.old result writers.new }
 {
     let count = head.writer_count;
     if 128 <= count {
@@ -216,8 +214,8 @@ fn match_first(sheet: Sheet, head: Head, writers: &mut [u8], i: usize) -> Called
 
 // Code 32: the writer matched, with the liveliness that it offers.
 pub fn matched(sheet: Sheet, head: Head, writers: &mut [u8]) -> Called
-    requires { ⌜ WritersFormed head (now writers) × (all clockOk (clocksUsedBy Matched sheet) ≡ true) ⌝ }
-    ensures { λ r. ⌜ Turns Matched sheet head (now (writers .entry)) r (now (writers .exit)) ⌝ }
+    requires { WritersFormed head writers.old × (all clock_ok (clocks_used_by Matched sheet) ≡ true) }
+    ensures { Turns Matched sheet head writers.old result writers.new }
 {
     let guid = sheet.guid;
     let count = head.writer_count as usize;

@@ -4,37 +4,34 @@
 // Derives from liveliness_tracker.rs of ZeroDDS (renew_participant and expire).
 // Copyright 2026 ZeroDDS Contributors. SPDX-License-Identifier: Apache-2.0. Changed: written anew in Rattle, over records
 // in lent bytes.
-use model::Guid;
-use model::LastWriter;
-use model::MaybeDue;
-use model::Writer;
-use model::WriterState;
+#![tactic(auto)]
+
+ghost use Rattle.std.specs.Prelude.{true, false, not, ◌&&◌, cond, ◌++◌, map, ◌≡◌, ◌+◌, ◌-◌, ◌*◌, ◌≤◌, ◌<◌, ◌^◌, length, take, drop};
+ghost use Rattle.octets.specs.Lay.{lay};
+ghost use Rattle.octets.specs.Patch.{patch};
+ghost use Rattle.model.specs.declared.LastWriter.TheVariants.{Is};
+ghost use Rattle.model.specs.declared.WriterState.TheVariants.{Alive};
+ghost use Rattle.model.specs.Guids.{num, prefix, guid_bytes, guids_in};
+ghost use Rattle.model.specs.State.{writer_key, counts_alive, counts_not_alive, writers_in, lost_of};
+ghost use Rattle.model.specs.Tables.{pick, rising};
+ghost use Rattle.model.specs.Writers.{asserted, with_state, is_alive_state, expires, expired, guid_in, last_after};
+ghost use Rattle.model.specs.WriterRecord.{writer_bytes};
+ghost use Rattle.writer_record.specs.Records.{lapsed};
+ghost use Rattle.writer_effects.specs.Acts.{assertion_of};
+ghost use Rattle.writer_pass.specs.Passes.{writer_in, Bounded, Sound, acts, counts_of, raised, tally_of, soonest, dues_with, dues_of};
+
+use model::{Guid, LastWriter, MaybeDue, Writer, WriterState};
 use writer_effects::Assertion;
-ghost use mathlib.Core.Bool.{true, false, not, _&&_, cond};
-ghost use mathlib.Core.List.{_++_, map};
-ghost use mathlib.Core.Path.{_≡_};
-ghost use Prim.Native.Nat.{_+_, _-_, _*_, _≤_, _<_, _^_};
-ghost use lib.ListN.{length, take, drop};
-ghost use Rattle·octets.specs.Lay.{lay};
-ghost use Rattle·octets.specs.Patch.{patch};
-ghost use Rattle·model.specs.declared.LastWriter.the-variants.{Is};
-ghost use Rattle·model.specs.declared.WriterState.the-variants.{Alive};
-ghost use Rattle·model.specs.Guids.{num, prefix, guidBytes, guidsIn};
-ghost use Rattle·model.specs.State.{writerKey, countsAlive, countsNotAlive, writersIn, lostOf};
-ghost use Rattle·model.specs.Tables.{pick, rising};
-ghost use Rattle·model.specs.Writers.{asserted, withState, isAliveState, expires, expired, guidIn, lastAfter};
-ghost use Rattle·model.specs.WriterRecord.{writerBytes};
-ghost use Rattle·writer_record.specs.Records.{lapsed};
-ghost use Rattle·writer_effects.specs.Acts.{assertionOf};
-ghost use Rattle·writer_pass·specs.specs.Passes.{writerIn, Bounded, Sound, acts, countsOf, raised, tallyOf, soonest, duesWith, duesOf};
 
 // How many writers are of each class that is counted.
+#[derive(Clone, Copy)]
 pub struct Counts {
     pub alive: u32,
     pub not_alive: u32,
 }
 
 // What a pass leaves by value: the counts, how many changed class, and the last writer after them.
+#[derive(Clone, Copy)]
 pub struct Tally {
     pub counts: Counts,
     pub moved: u32,
@@ -42,6 +39,7 @@ pub struct Tally {
 }
 
 // How many writers expire, and when the next lease of the others runs out.
+#[derive(Clone, Copy)]
 pub struct Dues {
     pub gone: u32,
     pub next: MaybeDue,
@@ -49,7 +47,7 @@ pub struct Dues {
 
 // Whether an assertion covers the writer and acts on it.
 fn asserts(a: Assertion, w: Writer) -> bool
-    ensures { λ r. ⌜ r ≡ acts a w ⌝ }
+    ensures { result ≡ acts a w }
 {
     if writer_effects::covers(a, w) {
         return writer_effects::renews(a, w);
@@ -59,16 +57,16 @@ fn asserts(a: Assertion, w: Writer) -> bool
 
 // One less, where it is so.
 fn one_less(yes: bool, n: u32) -> u32
-    requires { ⌜ (yes ≡ true → 1 ≤ n) ⌝ }
-    ensures { λ r. ⌜ r ≡ cond yes (n - 1) n ⌝ }
+    requires { yes ≡ true → 1 ≤ n }
+    ensures { result ≡ cond yes (n - 1) n }
 {
     if yes { n - 1 } else { n }
 }
 
 // The tally once w, which is not among the alive ones, is: it moves to them from the class that it was of.
 fn raise(tally: Tally, w: Writer) -> Tally
-    requires { ⌜ (tally .counts .alive ≤ 128) × (tally .moved ≤ 128) × (countsNotAlive w ≡ true → 1 ≤ tally .counts .«not_alive») × (countsAlive w ≡ false) ⌝ }
-    ensures { λ r. ⌜ r ≡ raised tally w ⌝ }
+    requires { (tally.counts.alive ≤ 128) × (tally.moved ≤ 128) × (counts_not_alive w ≡ true → 1 ≤ tally.counts.not_alive) × (counts_alive w ≡ false) }
+    ensures { result ≡ raised tally w }
 {
     let l = w.liveliness;
     let s = l.state;
@@ -89,9 +87,9 @@ fn raise(tally: Tally, w: Writer) -> Tally
 // The assertion at record i, whose writer is w: a record on which it does not act is not written. Whether it moves the writer
 // to the alive ones.
 fn assert_at(t: &mut [u8], i: usize, w: Writer, a: Assertion) -> bool
-    requires { ⌜ i * 40 + 40 ≤ length (now t) ⌝ }
-    ensures { λ r. ⌜ (now (t .exit) ≡ cond (acts a w) (patch (now (t .entry)) (i * 40) 40 (writerBytes (withState Alive (a .clock) w))) (now (t .entry)))
-        × (r ≡ (acts a w && not (countsAlive w))) ⌝ }
+    requires { i * 40 + 40 ≤ length t.old }
+    ensures { (t.new ≡ cond (acts a w) (patch t.old (i * 40) 40 (writer_bytes (with_state Alive a.clock w))) t.old)
+        × (result ≡ (acts a w && not (counts_alive w))) }
 {
     if !asserts(a, w) {
         return false;
@@ -105,7 +103,7 @@ fn assert_at(t: &mut [u8], i: usize, w: Writer, a: Assertion) -> bool
 
 // The least GUID of the prefix of g.
 fn first_of(g: Guid) -> Guid
-    ensures { λ r. ⌜ num r ≡ prefix g * 2 ^ 32 ⌝ }
+    ensures { num result ≡ prefix g * 2 ^ 32 }
 {
     Guid {
         hi: g.hi,
@@ -122,9 +120,9 @@ pub fn assert_writers(
     counts: Counts,
     last: LastWriter,
 ) -> Tally
-    requires { ⌜ Sound count (now t) × (rising writerKey (writersIn count (now t)) ≡ true) × (counts ≡ countsOf (writersIn count (now t))) ⌝ }
-    ensures { λ r. ⌜ (now (t .exit) ≡ lay writerBytes 40 (length (now (t .entry))) (map (asserted (assertionOf a)) (writersIn count (now (t .entry)))))
-        × (r ≡ tallyOf (asserted (assertionOf a)) last (writersIn count (now (t .entry)))) ⌝ }
+    requires { Sound count t.old × (rising writer_key (writers_in count t.old) ≡ true) × (counts ≡ counts_of (writers_in count t.old)) }
+    ensures { (t.new ≡ lay writer_bytes 40 (length t.old) (map (asserted (assertion_of a)) (writers_in count t.old)))
+        × (result ≡ tally_of (asserted (assertion_of a)) last (writers_in count t.old)) }
 {
     let named = a.guid;
     let mut tally = Tally {
@@ -149,7 +147,7 @@ pub fn assert_writers(
 
 // The earlier of a lease that runs out at `due` and one that is due.
 fn sooner_of(due: u64, d: MaybeDue) -> MaybeDue
-    ensures { λ r. ⌜ r ≡ soonest due d ⌝ }
+    ensures { result ≡ soonest due d }
 {
     if d.present {
         if d.at <= due {
@@ -167,8 +165,8 @@ fn sooner_of(due: u64, d: MaybeDue) -> MaybeDue
 
 // The dues with a writer more, whose lease runs out at `due`.
 fn dues_with(d: Dues, due: u64, clock: u64) -> Dues
-    requires { ⌜ d .gone < 128 ⌝ }
-    ensures { λ r. ⌜ r ≡ duesWith d due clock ⌝ }
+    requires { d.gone < 128 }
+    ensures { result ≡ dues_with d due clock }
 {
     let next = d.next;
     let sooner = sooner_of(due, next);
@@ -186,8 +184,8 @@ fn dues_with(d: Dues, due: u64, clock: u64) -> Dues
 
 // How many of the first count writers expire at the clock, and when the next lease of the others runs out.
 pub fn find_dues(t: &[u8], count: usize, clock: u64) -> Dues
-    requires { ⌜ Sound count (now t) ⌝ }
-    ensures { λ r. ⌜ r ≡ duesOf clock (writersIn count (now (t .entry))) ⌝ }
+    requires { Sound count t.now }
+    ensures { result ≡ dues_of clock (writers_in count t.now) }
 {
     let none = MaybeDue {
         present: false,
@@ -210,8 +208,8 @@ pub fn find_dues(t: &[u8], count: usize, clock: u64) -> Dues
 
 // Whether the lease of the writer of record i has run out at the clock.
 fn expires_at(t: &[u8], i: usize, clock: u64) -> bool
-    requires { ⌜ (i * 40 + 40 ≤ length (now t)) × Bounded (writerIn (now t) i) ⌝ }
-    ensures { λ r. ⌜ r ≡ expires clock (writerIn (now (t .entry)) i) ⌝ }
+    requires { (i * 40 + 40 ≤ length t.now) × Bounded (writer_in t.now i) }
+    ensures { result ≡ expires clock (writer_in t.now i) }
 {
     if writer_record::leased_at(t, i) {
         return writer_record::due_at(t, i) <= clock;
@@ -221,11 +219,11 @@ fn expires_at(t: &[u8], i: usize, clock: u64) -> bool
 
 // The writer of record i becomes not alive, and its GUID goes to Lost at place `at`; it is the last writer then.
 fn declare_at(t: &mut [u8], i: usize, lost: &mut [u8], at: usize) -> LastWriter
-    requires { ⌜ (i * 40 + 40 ≤ length (now t)) × (at * 16 + 16 ≤ length (now lost))
-        × (writerBytes (writerIn (now t) i) ≡ take 40 (drop (i * 40) (now t))) × (isAliveState (writerIn (now t) i .liveliness .state) ≡ true) ⌝ }
-    ensures { λ r. ⌜ (now (t .exit) ≡ patch (now (t .entry)) (i * 40) 40 (writerBytes (lapsed (writerIn (now (t .entry)) i))))
-        × (now (lost .exit) ≡ patch (now (lost .entry)) (at * 16) 16 (guidBytes (writerIn (now (t .entry)) i .guid)))
-        × (r ≡ Is (writerIn (now (t .entry)) i .guid)) ⌝ }
+    requires { (i * 40 + 40 ≤ length t.old) × (at * 16 + 16 ≤ length lost.old)
+        × (writer_bytes (writer_in t.old i) ≡ take 40 (drop (i * 40) t.old)) × (is_alive_state (writer_in t.old i).liveliness.state ≡ true) }
+    ensures { (t.new ≡ patch t.old (i * 40) 40 (writer_bytes (lapsed (writer_in t.old i))))
+        × (lost.new ≡ patch lost.old (at * 16) 16 (guid_bytes (writer_in t.old i).guid))
+        × (result ≡ Is (writer_in t.old i).guid) }
 {
     let g = guid::guid_at(t, i * 40);
     writer_record::expire_at(t, i);
@@ -244,11 +242,11 @@ pub fn declare(
     gone: u32,
     last: LastWriter,
 ) -> LastWriter
-    requires { ⌜ Sound count (now t) × (length (now lost) ≡ 4096) × (lostOf (guidsIn n (now lost)) ≡ now lost)
-        × (gone ≡ length (pick (expires clock) (writersIn count (now t)))) × (n + gone ≤ 256) ⌝ }
-    ensures { λ r. ⌜ (now (t .exit) ≡ lay writerBytes 40 (length (now (t .entry))) (map (expired clock) (writersIn count (now (t .entry)))))
-        × (now (lost .exit) ≡ lostOf (guidsIn n (now (lost .entry)) ++ map guidIn (pick (expires clock) (writersIn count (now (t .entry))))))
-        × (r ≡ lastAfter (map guidIn (pick (expires clock) (writersIn count (now (t .entry))))) last) ⌝ }
+    requires { Sound count t.old × (length lost.old ≡ 4096) × (lost_of (guids_in n lost.old) ≡ lost.old)
+        × (gone ≡ length (pick (expires clock) (writers_in count t.old))) × (n + gone ≤ 256) }
+    ensures { (t.new ≡ lay writer_bytes 40 (length t.old) (map (expired clock) (writers_in count t.old)))
+        × (lost.new ≡ lost_of (guids_in n lost.old ++ map guid_in (pick (expires clock) (writers_in count t.old))))
+        × (result ≡ last_after (map guid_in (pick (expires clock) (writers_in count t.old))) last) }
 {
     if gone == 0 {
         return last;

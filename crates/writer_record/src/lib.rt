@@ -4,25 +4,20 @@
 // Derives from liveliness_tracker.rs of ZeroDDS.
 // Copyright 2026 ZeroDDS Contributors. SPDX-License-Identifier: Apache-2.0. Changed: written anew in Rattle, the map of
 // tracked writers as ordered records in lent bytes.
-use model::Guid;
-use model::Liveliness;
-use model::LivelinessKind;
-use model::MaybeLease;
-use model::Writer;
-use model::WriterState;
-ghost use mathlib.Core.Bool.{true};
-ghost use mathlib.Core.Path.{_≡_};
-ghost use Prim.Native.Nat.{_+_, _*_, _/_, _%_, _≤_, _<_, _^_};
-ghost use lib.ListN.{length, take, drop};
-ghost use Rattle·octets.specs.Patch.{patch};
-ghost use Rattle·model.specs.InstanceRecord.{bit};
-ghost use Rattle·model.specs.WriterRecord.{livelinessNumber, livelinessNumbered, stateNumber, stateNumbered, writerOf, writerFlags, writerBytes};
-ghost use Rattle·model.specs.Writers.{isAliveState, leased, dueAt};
-ghost use Rattle·writer_record·specs.specs.Records.{writerFrom, lapsed};
+#![tactic(auto)]
+
+ghost use Rattle.std.specs.Prelude.{true, ◌≡◌, ◌+◌, ◌*◌, ◌/◌, ◌%◌, ◌≤◌, ◌<◌, ◌^◌, length, take, drop};
+ghost use Rattle.octets.specs.Patch.{patch};
+ghost use Rattle.model.specs.InstanceRecord.{bit};
+ghost use Rattle.model.specs.WriterRecord.{liveliness_number, liveliness_numbered, state_number, state_numbered, writer_of, writer_flags, writer_bytes};
+ghost use Rattle.model.specs.Writers.{is_alive_state, leased, due_at};
+ghost use Rattle.writer_record.specs.Records.{writer_from, lapsed};
+
+use model::{Guid, Liveliness, LivelinessKind, MaybeLease, Writer, WriterState};
 
 // The kind that a number stands for.
 pub fn kind_numbered(n: u8) -> LivelinessKind
-    ensures { λ r. ⌜ r ≡ livelinessNumbered n ⌝ }
+    ensures { result ≡ liveliness_numbered n }
 {
     match n {
         0 => LivelinessKind::Automatic,
@@ -33,7 +28,7 @@ pub fn kind_numbered(n: u8) -> LivelinessKind
 
 // The state that a number stands for.
 fn state_numbered(n: u8) -> WriterState
-    ensures { λ r. ⌜ r ≡ stateNumbered n ⌝ }
+    ensures { result ≡ state_numbered n }
 {
     match n {
         0 => WriterState::Unasserted,
@@ -45,7 +40,7 @@ fn state_numbered(n: u8) -> WriterState
 
 // The number of a kind.
 fn kind_number(k: LivelinessKind) -> u8
-    ensures { λ r. ⌜ (r ≡ livelinessNumber k) × (r < 3) ⌝ }
+    ensures { (result ≡ liveliness_number k) × (result < 3) }
 {
     match k {
         LivelinessKind::Automatic => 0,
@@ -56,7 +51,7 @@ fn kind_number(k: LivelinessKind) -> u8
 
 // The number of a state.
 pub fn state_number(s: WriterState) -> u8
-    ensures { λ r. ⌜ (r ≡ stateNumber s) × (r < 4) ⌝ }
+    ensures { (result ≡ state_number s) × (result < 4) }
 {
     match s {
         WriterState::Unasserted => 0,
@@ -68,14 +63,14 @@ pub fn state_number(s: WriterState) -> u8
 
 // A flag as a bit.
 fn bit_of(b: bool) -> u8
-    ensures { λ r. ⌜ (r ≡ bit b) × (r < 2) ⌝ }
+    ensures { (result ≡ bit b) × (result < 2) }
 {
     if b { 1 } else { 0 }
 }
 
 // The byte of kind, state and lease present.
 fn flags_of(w: Writer) -> u8
-    ensures { λ r. ⌜ r ≡ writerFlags w ⌝ }
+    ensures { result ≡ writer_flags w }
 {
     let l = w.liveliness;
     let k = l.kind;
@@ -89,7 +84,7 @@ fn flags_of(w: Writer) -> u8
 
 // The writer of a GUID, the flags, a lease and a last assertion.
 fn writer_from(guid: Guid, flags: u8, nanos: u64, last: u64) -> Writer
-    ensures { λ r. ⌜ r ≡ writerFrom guid flags nanos last ⌝ }
+    ensures { result ≡ writer_from guid flags nanos last }
 {
     let k = kind_numbered(flags / 64);
     let s = state_numbered(flags / 16 % 4);
@@ -111,8 +106,8 @@ fn writer_from(guid: Guid, flags: u8, nanos: u64, last: u64) -> Writer
 
 // The writer of a record's bytes.
 pub fn read_writer(r: &[u8]) -> Writer
-    requires { ⌜ length (now r) ≡ 40 ⌝ }
-    ensures { λ w. ⌜ w ≡ writerOf (now (r .entry)) ⌝ }
+    requires { length r.now ≡ 40 }
+    ensures { result ≡ writer_of r.now }
 {
     let hi = octets::get_u64(r, 0);
     let lo = octets::get_u64(r, 8);
@@ -125,8 +120,8 @@ pub fn read_writer(r: &[u8]) -> Writer
 
 // The writer of record i of a table.
 pub fn writer_at(t: &[u8], i: usize) -> Writer
-    requires { ⌜ i * 40 + 40 ≤ length (now t) ⌝ }
-    ensures { λ w. ⌜ w ≡ writerOf (take 40 (drop (i * 40) (now (t .entry)))) ⌝ }
+    requires { i * 40 + 40 ≤ length t.now }
+    ensures { result ≡ writer_of (take 40 (drop (i * 40) t.now)) }
 {
     let from = i * 40;
     let end = from + 40;
@@ -135,8 +130,8 @@ pub fn writer_at(t: &[u8], i: usize) -> Writer
 
 // Whether the writer of record i is alive and has a lease, which its byte of flags tells.
 pub fn leased_at(t: &[u8], i: usize) -> bool
-    requires { ⌜ i * 40 + 40 ≤ length (now t) ⌝ }
-    ensures { λ r. ⌜ r ≡ leased (writerOf (take 40 (drop (i * 40) (now (t .entry))))) ⌝ }
+    requires { i * 40 + 40 ≤ length t.now }
+    ensures { result ≡ leased (writer_of (take 40 (drop (i * 40) t.now))) }
 {
     let flags = octets::get_u8(t, i * 40 + 16);
     flags / 8 % 8 == 3
@@ -144,9 +139,9 @@ pub fn leased_at(t: &[u8], i: usize) -> bool
 
 // When the lease of the writer of record i runs out.
 pub fn due_at(t: &[u8], i: usize) -> u64
-    requires { ⌜ (i * 40 + 40 ≤ length (now t)) × (writerOf (take 40 (drop (i * 40) (now t))) .liveliness .«last_assertion» < 2 ^ 62)
-        × (writerOf (take 40 (drop (i * 40) (now t))) .liveliness .lease .nanos < 2 ^ 62) ⌝ }
-    ensures { λ r. ⌜ r ≡ dueAt (writerOf (take 40 (drop (i * 40) (now (t .entry))))) ⌝ }
+    requires { (i * 40 + 40 ≤ length t.now) × ((writer_of (take 40 (drop (i * 40) t.now))).liveliness.last_assertion < 2 ^ 62)
+        × ((writer_of (take 40 (drop (i * 40) t.now))).liveliness.lease.nanos < 2 ^ 62) }
+    ensures { result ≡ due_at (writer_of (take 40 (drop (i * 40) t.now))) }
 {
     let nanos = octets::get_u64(t, i * 40 + 24);
     let last = octets::get_u64(t, i * 40 + 32);
@@ -155,9 +150,9 @@ pub fn due_at(t: &[u8], i: usize) -> u64
 
 // The writer of record i, alive until now, becomes not alive: its byte of flags alone is written.
 pub fn expire_at(t: &mut [u8], i: usize)
-    requires { ⌜ (i * 40 + 40 ≤ length (now t)) × (writerBytes (writerOf (take 40 (drop (i * 40) (now t)))) ≡ take 40 (drop (i * 40) (now t)))
-        × (isAliveState (writerOf (take 40 (drop (i * 40) (now t))) .liveliness .state) ≡ true) ⌝ }
-    ensures { λ _. ⌜ now (t .exit) ≡ patch (now (t .entry)) (i * 40) 40 (writerBytes (lapsed (writerOf (take 40 (drop (i * 40) (now (t .entry))))))) ⌝ }
+    requires { (i * 40 + 40 ≤ length t.old) × (writer_bytes (writer_of (take 40 (drop (i * 40) t.old))) ≡ take 40 (drop (i * 40) t.old))
+        × (is_alive_state (writer_of (take 40 (drop (i * 40) t.old))).liveliness.state ≡ true) }
+    ensures { t.new ≡ patch t.old (i * 40) 40 (writer_bytes (lapsed (writer_of (take 40 (drop (i * 40) t.old))))) }
 {
     let at = i * 40 + 16;
     let flags = octets::get_u8(t, at);
@@ -166,8 +161,8 @@ pub fn expire_at(t: &mut [u8], i: usize)
 
 // The record of w is written from index at.
 pub fn put_record(t: &mut [u8], at: usize, w: Writer)
-    requires { ⌜ at + 40 ≤ length (now t) ⌝ }
-    ensures { λ _. ⌜ now (t .exit) ≡ patch (now (t .entry)) at 40 (writerBytes w) ⌝ }
+    requires { at + 40 ≤ length t.old }
+    ensures { t.new ≡ patch t.old at 40 (writer_bytes w) }
 {
     let flags = flags_of(w);
     octets::put_u64(t, at, w.guid.hi);
@@ -180,8 +175,8 @@ pub fn put_record(t: &mut [u8], at: usize, w: Writer)
 
 // Record i of a table becomes that of w.
 pub fn put_writer(t: &mut [u8], i: usize, w: Writer)
-    requires { ⌜ i * 40 + 40 ≤ length (now t) ⌝ }
-    ensures { λ _. ⌜ now (t .exit) ≡ patch (now (t .entry)) (i * 40) 40 (writerBytes w) ⌝ }
+    requires { i * 40 + 40 ≤ length t.old }
+    ensures { t.new ≡ patch t.old (i * 40) 40 (writer_bytes w) }
 {
     put_record(t, i * 40, w);
 }

@@ -1,15 +1,15 @@
 // The writer set of an instance, by value: up to 16 GUIDs, strictly rising. What its functions give stands in model's Sets.
-use model::Guid;
-use model::WriterSet;
-ghost use mathlib.Core.Path.{_≡_};
-ghost use Prim.Native.Nat.{_≤_, _<_};
-ghost use lib.ListN.{length, take};
-ghost use Rattle·model.specs.Sets.{members, setOf, has, insert, remove, isEmpty};
-ghost use Rattle·writer_set·specs.specs.Places.{Sound, stopsAt, passed, insertedAt, removedAt};
+#![tactic(auto)]
+
+ghost use Rattle.std.specs.Prelude.{◌≡◌, ◌≤◌, ◌<◌, length, take};
+ghost use Rattle.model.specs.Sets.{members, set_of, has, insert, remove, is_empty};
+ghost use Rattle.writer_set.specs.Places.{Sound, stops_at, passed, inserted_at, removed_at};
+
+use model::{Guid, WriterSet};
 
 // Whether a scan for g stops at x: in order, at the first that is not less than g; else at g itself.
 fn stops(ordered: bool, g: Guid, x: Guid) -> bool
-    ensures { λ r. ⌜ r ≡ stopsAt ordered g x ⌝ }
+    ensures { result ≡ stops_at ordered g x }
 {
     if ordered {
         return !guid::is_less(x, g);
@@ -19,8 +19,8 @@ fn stops(ordered: bool, g: Guid, x: Guid) -> bool
 
 // How many of the first len a scan for g passes.
 fn place(items: [Guid; 16], len: usize, ordered: bool, g: Guid) -> usize
-    requires { ⌜ len ≤ 16 ⌝ }
-    ensures { λ r. ⌜ r ≡ passed (stopsAt ordered g) (take len items) ⌝ }
+    requires { len ≤ 16 }
+    ensures { result ≡ passed (stops_at ordered g) (take len items) }
 {
     let mut k: usize = 0;
     while k < len {
@@ -35,8 +35,8 @@ fn place(items: [Guid; 16], len: usize, ordered: bool, g: Guid) -> usize
 
 // g at place p; the last is pushed out.
 fn inserted_at(items: [Guid; 16], p: usize, g: Guid) -> [Guid; 16]
-    requires { ⌜ p < 16 ⌝ }
-    ensures { λ r. ⌜ r ≡ insertedAt items p g ⌝ }
+    requires { p < 16 }
+    ensures { result ≡ inserted_at items p g }
 {
     let mut r = items;
     let mut k: usize = 15;
@@ -51,8 +51,8 @@ fn inserted_at(items: [Guid; 16], p: usize, g: Guid) -> [Guid; 16]
 
 // The GUID at place p taken out, nil behind the others.
 fn removed_at(items: [Guid; 16], p: usize) -> [Guid; 16]
-    requires { ⌜ p < 16 ⌝ }
-    ensures { λ r. ⌜ r ≡ removedAt items p ⌝ }
+    requires { p < 16 }
+    ensures { result ≡ removed_at items p }
 {
     let mut r = items;
     let mut k = p;
@@ -68,8 +68,8 @@ fn removed_at(items: [Guid; 16], p: usize) -> [Guid; 16]
 
 // Whether g is a member.
 pub fn holds(w: WriterSet, g: Guid) -> bool
-    requires { ⌜ w .len ≤ 16 ⌝ }
-    ensures { λ r. ⌜ r ≡ has g (members w) ⌝ }
+    requires { w.len ≤ 16 }
+    ensures { result ≡ has g (members w) }
 {
     let items = w.items;
     let n = w.len;
@@ -78,16 +78,16 @@ pub fn holds(w: WriterSet, g: Guid) -> bool
 
 // Whether there are no members.
 pub fn is_empty(w: WriterSet) -> bool
-    requires { ⌜ Sound w ⌝ }
-    ensures { λ r. ⌜ r ≡ isEmpty (members w) ⌝ }
+    requires { Sound w }
+    ensures { result ≡ is_empty (members w) }
 {
     w.len == 0
 }
 
 // The set with g in its place; the same where g is a member.
 pub fn with_writer(w: WriterSet, g: Guid) -> WriterSet
-    requires { ⌜ Sound w × (length (insert g (members w)) ≤ 16) ⌝ }
-    ensures { λ r. ⌜ r ≡ setOf (insert g (members w)) ⌝ }
+    requires { Sound w × (length (insert g (members w)) ≤ 16) }
+    ensures { result ≡ set_of (insert g (members w)) }
 {
     let items = w.items;
     let n = w.len;
@@ -107,8 +107,8 @@ pub fn with_writer(w: WriterSet, g: Guid) -> WriterSet
 
 // The set without g.
 pub fn without_writer(w: WriterSet, g: Guid) -> WriterSet
-    requires { ⌜ Sound w ⌝ }
-    ensures { λ r. ⌜ r ≡ setOf (remove g (members w)) ⌝ }
+    requires { Sound w }
+    ensures { result ≡ set_of (remove g (members w)) }
 {
     let items = w.items;
     let n = w.len;

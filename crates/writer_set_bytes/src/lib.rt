@@ -3,23 +3,24 @@
 // Derives from instance_tracker.rs of ZeroDDS.
 // Copyright 2026 ZeroDDS Contributors. SPDX-License-Identifier: Apache-2.0. Changed: written anew in Rattle, over records in
 // lent bytes.
+#![tactic(auto)]
+
+ghost use Rattle.std.specs.Prelude.{[], ◌∷◌, ◌≡◌, ◌+◌, ◌*◌, ◌/◌, ◌≤◌, ◌<◌, length, drop};
+ghost use Rattle.octets.specs.Patch.{patch};
+ghost use Rattle.model.specs.Guids.{num, same, guid_at, guids_in, guid_bytes, guids_bytes};
+ghost use Rattle.tables.specs.Found.{lower_bound, found_in};
+ghost use Rattle.tables.specs.Keys.{keys};
+ghost use Rattle.tables.specs.Places.{place_of};
+ghost use Rattle.writer_set.specs.Places.{padded};
+ghost use Rattle.writer_set_bytes.specs.Others.{others};
+ghost use Rattle.writer_set_bytes.specs.Lists.{gones_in, Listed};
+ghost use Rattle.writer_set_bytes.specs.Walks.{Filled, beside_at, walked, stayed};
+
 use model::Guid;
 use tables::Found;
-ghost use mathlib.Core.List.{[], _∷_};
-ghost use mathlib.Core.Path.{_≡_};
-ghost use Prim.Native.Nat.{_+_, _*_, _/_, _≤_, _<_};
-ghost use lib.ListN.{length, drop};
-ghost use Rattle·octets.specs.Patch.{patch};
-ghost use Rattle·model.specs.Guids.{num, same, guidAt, guidsIn, guidBytes, guidsBytes};
-ghost use Rattle·tables.specs.Found.{lowerBound, foundIn};
-ghost use Rattle·tables.specs.Keys.{keys};
-ghost use Rattle·tables.specs.Places.{placeOf};
-ghost use Rattle·writer_set.specs.Places.{padded};
-ghost use Rattle·writer_set_bytes·specs.specs.Others.{others};
-ghost use Rattle·writer_set_bytes·specs.specs.Lists.{gonesIn, Listed};
-ghost use Rattle·writer_set_bytes·specs.specs.Walks.{Filled, besideAt, walked, stayed};
 
 // Where a GUID of a list stands beside one of a set.
+#[derive(Clone, Copy)]
 pub enum Beside {
     Before,
     Same,
@@ -27,6 +28,7 @@ pub enum Beside {
 }
 
 // A walk over a set and a list: the places in both, and how many of the set stay.
+#[derive(Clone, Copy)]
 pub struct Walk {
     pub i: usize,
     pub j: usize,
@@ -37,8 +39,8 @@ pub struct Walk {
 
 // Where the GUID of place j of the list stands beside g; behind it where the list has ended.
 fn stands(gone: &[u8], j: usize, g: Guid) -> Beside
-    requires { ⌜ j ≤ 128 ⌝ }
-    ensures { λ r. ⌜ r ≡ besideAt (now (gone .entry)) j g ⌝ }
+    requires { j ≤ 128 }
+    ensures { result ≡ beside_at gone.now j g }
 {
     if gone.len() / 16 <= j {
         return Beside::Behind;
@@ -55,8 +57,8 @@ fn stands(gone: &[u8], j: usize, g: Guid) -> Beside
 
 // The GUID g of place i goes to place k, where it may stand already.
 fn stay(set: &mut [u8], i: usize, k: usize, g: Guid)
-    requires { ⌜ (k ≤ i) × (i * 16 + 16 ≤ length (now set)) × (g ≡ guidAt (now set) (i * 16)) ⌝ }
-    ensures { λ _. ⌜ now (set .exit) ≡ patch (now (set .entry)) (k * 16) 16 (guidBytes g) ⌝ }
+    requires { (k ≤ i) × (i * 16 + 16 ≤ length set.old) × (g ≡ guid_at set.old (i * 16)) }
+    ensures { set.new ≡ patch set.old (k * 16) 16 (guid_bytes g) }
 {
     if k != i {
         guid::put_guid(set, k * 16, g);
@@ -65,9 +67,9 @@ fn stay(set: &mut [u8], i: usize, k: usize, g: Guid)
 
 // One turn of the walk.
 fn walk_on(set: &mut [u8], gone: &[u8], w: Walk) -> Walk
-    requires { ⌜ (w .k ≤ w .i) × (w .i * 16 + 16 ≤ length (now set)) × (length (now set) ≤ 256) × (w .j ≤ 128) ⌝ }
-    ensures { λ r. ⌜ (r ≡ walked (besideAt (now (gone .entry)) (w .j) (guidAt (now (set .entry)) (w .i * 16))) w)
-        × (now (set .exit) ≡ stayed (besideAt (now (gone .entry)) (w .j) (guidAt (now (set .entry)) (w .i * 16))) w (now (set .entry))) ⌝ }
+    requires { (w.k ≤ w.i) × (w.i * 16 + 16 ≤ length set.old) × (length set.old ≤ 256) × (w.j ≤ 128) }
+    ensures { (result ≡ walked (beside_at gone.now w.j (guid_at set.old (w.i * 16))) w)
+        × (set.new ≡ stayed (beside_at gone.now w.j (guid_at set.old (w.i * 16))) w set.old) }
 {
     let i = w.i;
     let j = w.j;
@@ -98,10 +100,10 @@ fn walk_on(set: &mut [u8], gone: &[u8], w: Walk) -> Walk
 // Of the first n GUIDs of the set those of the list from place `from` on are taken out, and nil is put behind the others.
 // Both rise, so one walk over them tells.
 fn walk_through(set: &mut [u8], n: usize, gone: &[u8], from: usize) -> usize
-    requires { ⌜ Filled n (now set) × Listed (now gone) × (from ≤ length (now gone) / 16)
-        × (others (drop from (gonesIn (now gone))) (guidsIn n (now set)) ≡ others (gonesIn (now gone)) (guidsIn n (now set))) ⌝ }
-    ensures { λ r. ⌜ (r ≡ length (others (gonesIn (now (gone .entry))) (guidsIn n (now (set .entry)))))
-        × (now (set .exit) ≡ guidsBytes (padded (others (gonesIn (now (gone .entry))) (guidsIn n (now (set .entry)))))) ⌝ }
+    requires { Filled n set.old × Listed gone.now × (from ≤ length gone.now / 16)
+        × (others (drop from (gones_in gone.now)) (guids_in n set.old) ≡ others (gones_in gone.now) (guids_in n set.old)) }
+    ensures { (result ≡ length (others (gones_in gone.now) (guids_in n set.old)))
+        × (set.new ≡ guids_bytes (padded (others (gones_in gone.now) (guids_in n set.old)))) }
 {
     let mut w = Walk {
         i: 0,
@@ -120,8 +122,8 @@ fn walk_through(set: &mut [u8], n: usize, gone: &[u8], from: usize) -> usize
 
 // Whether the GUID of place i is g. The lower halves differ more often, so they are compared first.
 fn is_at(set: &[u8], i: usize, g: Guid) -> bool
-    requires { ⌜ (i < 128) × (i * 16 + 16 ≤ length (now set)) ⌝ }
-    ensures { λ r. ⌜ r ≡ same (guidAt (now (set .entry)) (i * 16)) g ⌝ }
+    requires { (i < 128) × (i * 16 + 16 ≤ length set.now) }
+    ensures { result ≡ same (guid_at set.now (i * 16)) g }
 {
     if octets::get_u64(set, i * 16 + 8) != g.lo {
         return false;
@@ -131,8 +133,8 @@ fn is_at(set: &[u8], i: usize, g: Guid) -> bool
 
 // The place of g among the first n GUIDs of the set, n where it is none of them.
 fn place_of(set: &[u8], n: usize, g: Guid) -> usize
-    requires { ⌜ (n ≤ 128) × (n * 16 ≤ length (now set)) ⌝ }
-    ensures { λ r. ⌜ r ≡ placeOf (λ (x : Guid). same x g) (guidsIn n (now (set .entry))) ⌝ }
+    requires { (n ≤ 128) × (n * 16 ≤ length set.now) }
+    ensures { result ≡ place_of (λ (x : Guid). same x g) (guids_in n set.now) }
 {
     let mut i = 0;
     while i < n {
@@ -146,9 +148,9 @@ fn place_of(set: &[u8], n: usize, g: Guid) -> usize
 
 // Of the first n GUIDs of the set g is taken out, if it is there.
 fn keep_all_but(set: &mut [u8], n: usize, g: Guid) -> usize
-    requires { ⌜ Filled n (now set) ⌝ }
-    ensures { λ r. ⌜ (r ≡ length (others (g ∷ []) (guidsIn n (now (set .entry)))))
-        × (now (set .exit) ≡ guidsBytes (padded (others (g ∷ []) (guidsIn n (now (set .entry)))))) ⌝ }
+    requires { Filled n set.old }
+    ensures { (result ≡ length (others (g ∷ []) (guids_in n set.old)))
+        × (set.new ≡ guids_bytes (padded (others (g ∷ []) (guids_in n set.old)))) }
 {
     let p = place_of(set, n, g);
     if p == n {
@@ -168,7 +170,7 @@ fn wide(x: u8) -> usize {
 // Which of the guesses is that of g. By both halves and by a prime, so that GUIDs that differ in few bytes, or by equal
 // steps, seldom share one.
 fn guess_at(g: Guid) -> usize
-    ensures { λ r. ⌜ r < 1024 ⌝ }
+    ensures { result < 1024 }
 {
     ((g.hi % 1021 + g.lo % 1021) % 1024) as usize
 }
@@ -176,7 +178,7 @@ fn guess_at(g: Guid) -> usize
 // The place of each GUID of the list is noted as its guess; where several share one, the place of the last. Nothing is
 // promised of the guesses: find_listed looks before it believes.
 pub fn note_guesses(gone: &[u8], guesses: &mut [u8; 1024])
-    requires { ⌜ Listed (now gone) ⌝ }
+    requires { Listed gone.now }
 {
     let m = gone.len() / 16;
     let mut j = 0;
@@ -190,8 +192,8 @@ pub fn note_guesses(gone: &[u8], guesses: &mut [u8; 1024])
 // The place of g in the list, or where it would stand: its guess where g stands there, else by a search. So any guesses will
 // do.
 pub fn find_listed(gone: &[u8], guesses: &[u8; 1024], g: Guid) -> Found
-    requires { ⌜ Listed (now gone) ⌝ }
-    ensures { λ r. ⌜ r ≡ foundIn (keys 16 (length (now (gone .entry)) / 16) (now (gone .entry))) (num g) ⌝ }
+    requires { Listed gone.now }
+    ensures { result ≡ found_in (keys 16 (length gone.now / 16) gone.now) (num g) }
 {
     let m = gone.len() / 16;
     let p = guess_at(g);
@@ -207,8 +209,8 @@ pub fn find_listed(gone: &[u8], guesses: &[u8; 1024], g: Guid) -> Found
 
 // How many of the list stand before g.
 fn lower_listed(gone: &[u8], guesses: &[u8; 1024], g: Guid) -> usize
-    requires { ⌜ Listed (now gone) ⌝ }
-    ensures { λ r. ⌜ r ≡ lowerBound (keys 16 (length (now (gone .entry)) / 16) (now (gone .entry))) (num g) ⌝ }
+    requires { Listed gone.now }
+    ensures { result ≡ lower_bound (keys 16 (length gone.now / 16) gone.now) (num g) }
 {
     match find_listed(gone, guesses, g) {
         Found::At(j) => j,
@@ -220,9 +222,9 @@ fn lower_listed(gone: &[u8], guesses: &[u8; 1024], g: Guid) -> usize
 
 // Of the first n GUIDs of the set those of the list are taken out, and nil is put behind the others. Most lists have one.
 pub fn keep_others(set: &mut [u8], n: usize, gone: &[u8], guesses: &[u8; 1024]) -> usize
-    requires { ⌜ Filled n (now set) × Listed (now gone) ⌝ }
-    ensures { λ r. ⌜ (r ≡ length (others (gonesIn (now (gone .entry))) (guidsIn n (now (set .entry)))))
-        × (now (set .exit) ≡ guidsBytes (padded (others (gonesIn (now (gone .entry))) (guidsIn n (now (set .entry)))))) ⌝ }
+    requires { Filled n set.old × Listed gone.now }
+    ensures { (result ≡ length (others (gones_in gone.now) (guids_in n set.old)))
+        × (set.new ≡ guids_bytes (padded (others (gones_in gone.now) (guids_in n set.old)))) }
 {
     let m = gone.len() / 16;
     if m == 1 {

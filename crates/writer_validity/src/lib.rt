@@ -1,25 +1,22 @@
 // The writers' side of the lent state: whether writers, Lost and head are well formed. What that means stands in model's
 // WellFormed.
-use model::Guid;
-use model::Head;
-ghost use mathlib.Core.Bool.{_&&_, _||_, cond};
-ghost use mathlib.Core.Path.{_≡_};
-ghost use Prim.Native.Nat.{_+_, _*_, _≤_, _<_};
-ghost use lib.Dec.{eqb};
-ghost use lib.IntN.{pos, _-ℤ_};
-ghost use lib.ListN.{length, take, drop};
-ghost use Rattle·model.specs.Guids.{less};
-ghost use Rattle·model.specs.State.{writersIn};
-ghost use Rattle·model.specs.WellFormed.{leaseOk, writerOk, writerTableOk, lostOk, within, headOk, countsOk};
-ghost use Rattle·model.specs.WriterRecord.{writerOf};
-ghost use Rattle·writer_record.specs.Records.{sparesIn, writerFrom};
-ghost use Rattle·writer_validity·specs.specs.Agreed.{recordsAgree};
+#![tactic(auto)]
+
+ghost use Rattle.std.specs.Prelude.{◌&&◌, ◌||◌, cond, ◌≡◌, ◌+◌, ◌*◌, ◌≤◌, ◌<◌, eqb, pos, ◌-ℤ◌, length, take, drop};
+ghost use Rattle.model.specs.Guids.{less};
+ghost use Rattle.model.specs.State.{writers_in};
+ghost use Rattle.model.specs.WellFormed.{lease_ok, writer_ok, writer_table_ok, lost_ok, within, head_ok, counts_ok};
+ghost use Rattle.model.specs.WriterRecord.{writer_of};
+ghost use Rattle.writer_record.specs.Records.{spares_in, writer_from};
+ghost use Rattle.writer_validity.specs.Agreed.{records_agree};
+
+use model::{Guid, Head};
 
 // ---- the tables
 
 // Whether a lease is below 2^62, and zero where it is absent.
 fn lease_ok(present: bool, nanos: u64) -> bool
-    ensures { λ r. ⌜ r ≡ leaseOk (record { present = present; nanos = nanos }) ⌝ }
+    ensures { result ≡ lease_ok (record { present = present; nanos = nanos }) }
 {
     if present {
         nanos < 0x4000_0000_0000_0000
@@ -30,7 +27,7 @@ fn lease_ok(present: bool, nanos: u64) -> bool
 
 // Whether lease and last assertion are within their bounds, and a departed writer has only GUID and state.
 fn values_ok(flags: u8, nanos: u64, last: u64) -> bool
-    ensures { λ r. ⌜ ((g : Guid) → r ≡ writerOk (writerFrom g flags nanos last)) ⌝ }
+    ensures { (g : Guid) → result ≡ writer_ok (writer_from g flags nanos last) }
 {
     if !lease_ok(flags / 8 % 2 == 1, nanos) {
         return false;
@@ -46,8 +43,8 @@ fn values_ok(flags: u8, nanos: u64, last: u64) -> bool
 
 // Whether the bytes from at are a writer's record. Flags and spare bytes are read as one word.
 fn record_ok(t: &[u8], at: usize) -> bool
-    requires { ⌜ at + 40 ≤ length (now t) ⌝ }
-    ensures { λ r. ⌜ r ≡ (sparesIn (take 40 (drop at (now (t .entry)))) && writerOk (writerOf (take 40 (drop at (now (t .entry)))))) ⌝ }
+    requires { at + 40 ≤ length t.now }
+    ensures { result ≡ (spares_in (take 40 (drop at t.now)) && writer_ok (writer_of (take 40 (drop at t.now)))) }
 {
     let word = octets::get_u64(t, at + 16);
     let flags = (word / 0x100_0000_0000_0000) as u8;
@@ -67,7 +64,7 @@ fn record_ok(t: &[u8], at: usize) -> bool
 
 // Whether the key g of record i is above that of the record before it.
 fn follows(i: usize, before: Guid, g: Guid) -> bool
-    ensures { λ r. ⌜ r ≡ (eqb i 0 || less before g) ⌝ }
+    ensures { result ≡ (eqb i 0 || less before g) }
 {
     if i == 0 {
         return true;
@@ -77,8 +74,8 @@ fn follows(i: usize, before: Guid, g: Guid) -> bool
 
 // One more, where it is so.
 fn one_more(yes: bool, n: u32) -> u32
-    requires { ⌜ n < 128 ⌝ }
-    ensures { λ r. ⌜ r ≡ cond yes (n + 1) n ⌝ }
+    requires { n < 128 }
+    ensures { result ≡ cond yes (n + 1) n }
 {
     if yes { n + 1 } else { n }
 }
@@ -86,8 +83,8 @@ fn one_more(yes: bool, n: u32) -> u32
 // Whether each of the first count records is well formed by itself, their keys rise, and so many are alive and not alive:
 // in one pass.
 fn records_ok(t: &[u8], count: usize, alive: u32, not_alive: u32) -> bool
-    requires { ⌜ (count ≤ 128) × (count * 40 ≤ length (now t)) ⌝ }
-    ensures { λ r. ⌜ r ≡ recordsAgree count (now (t .entry)) alive «not_alive» ⌝ }
+    requires { (count ≤ 128) × (count * 40 ≤ length t.now) }
+    ensures { result ≡ records_agree count t.now alive not_alive }
 {
     let mut last = guid::nil();
     let mut a: u32 = 0;
@@ -112,8 +109,8 @@ fn records_ok(t: &[u8], count: usize, alive: u32, not_alive: u32) -> bool
 
 // Whether the writer table is well formed with so many writers, and both counts of the head agree with it.
 pub fn writers_ok(h: Head, writers: &[u8], count: usize) -> bool
-    requires { ⌜ length (now writers) ≡ 5120 ⌝ }
-    ensures { λ r. ⌜ r ≡ (writerTableOk count (now (writers .entry)) && countsOk h (writersIn count (now (writers .entry)))) ⌝ }
+    requires { length writers.now ≡ 5120 }
+    ensures { result ≡ (writer_table_ok count writers.now && counts_ok h (writers_in count writers.now)) }
 {
     if 128 < count {
         return false;
@@ -126,8 +123,8 @@ pub fn writers_ok(h: Head, writers: &[u8], count: usize) -> bool
 
 // Whether Lost is well formed with so many GUIDs.
 pub fn lost_ok(lost: &[u8], count: usize) -> bool
-    requires { ⌜ length (now lost) ≡ 4096 ⌝ }
-    ensures { λ r. ⌜ r ≡ lostOk count (now (lost .entry)) ⌝ }
+    requires { length lost.now ≡ 4096 }
+    ensures { result ≡ lost_ok count lost.now }
 {
     if 256 < count {
         return false;
@@ -139,14 +136,14 @@ pub fn lost_ok(lost: &[u8], count: usize) -> bool
 
 // Whether what was acknowledged of a count is within its bound.
 fn acknowledged_ok(count: u32, change: i32) -> bool
-    ensures { λ r. ⌜ r ≡ within (pos count -ℤ change) ⌝ }
+    ensures { result ≡ within (pos count -ℤ change) }
 {
     numbers::within_bound(numbers::acknowledged(count, change))
 }
 
 // Whether the next handle is from 1 to 2^63, and of both counts what was acknowledged is within its bound.
 pub fn head_ok(h: Head) -> bool
-    ensures { λ r. ⌜ r ≡ headOk h ⌝ }
+    ensures { result ≡ head_ok h }
 {
     let next = h.next_handle.0;
     if next == 0 {

@@ -3,51 +3,51 @@
 --     be-zero                               a number is 0 where its bytes are
 --     zeros-add                             a part in two
 --     zeros-words                           32 bytes are zero where four words are
---     tail-turn, tail-stop                  k bytes more
---     tail-end, tail-short                  the last k bytes, which are seen first
-use Prim.Native.Nat.{ℕ, zero, suc, _+_, _-_, _*_, _≤_, _<_}
-use mathlib.Core.Bool.{Bool, true, false, _&&_, and-true, and-false}
-use mathlib.Core.Path.{_≡_, refl, sym, ap, _∙_}
-use mathlib.Core.List.{List, [], _∷_}
+--     tail_turn, tail_stop                  k bytes more
+--     tail_end, tail_short                  the last k bytes, which are seen first
+use Prim.Native.Nat.{ℕ, zero, suc, ◌+◌, ◌-◌, ◌*◌, ◌≤◌, ◌<◌}
+use mathlib.Core.Bool.{Bool, true, false, ◌&&◌, and-true, and-false}
+use mathlib.Core.Path.{◌≡◌, refl, sym, ap, ◌∙◌}
+use mathlib.Core.List.{List, [], ◌∷◌}
 use native.Mathlib.Nat.{suc-mul}
 use native.Mathlib.Omega.{arith}
-use lib.Dec.{eqb, eqb·suc-zero}
-use lib.ListN.{length, take, drop, getD, length-drop}
-use lib.Seq.{take-suc, take-add, getD-drop, drop-drop}
-use borrow.Author.Tests.{ne-eqb}
-use Rattle·octets.specs.Octets.{be}
-use Rattle·octets.specs.Zeros.{allZero}
-use Rattle·octets.proofs.ZeroLaws.{allZero-append}
+use lib.Dec.{eqb, eqb-suc-zero}
+use lib.ListN.{length, take, drop, get_or, length-drop}
+use lib.Seq.{take-suc, take-add, get_or-drop, drop-drop}
+use borrow.Author.Tests.{ne_eqb}
+use Rattle.octets.specs.Octets.{be}
+use Rattle.octets.specs.Zeros.{all_zero}
+use Rattle.octets.proofs.ZeroLaws.{all_zero-append}
 
 pub zero-sum : (m a b : ℕ) → 0 < m → eqb (a * m + b) 0 ≡ (eqb a 0 && eqb b 0)
 zero-sum m zero b h = let e : zero * m + b ≡ b = omega arith in ap (λ (n : ℕ). eqb n 0) e
-zero-sum m (suc a) b h = ne-eqb (suc a * m + b) 0 (λ e. omega (arith, suc-mul a m)) ∙ rw (eqb·suc-zero a)
+zero-sum m (suc a) b h = ne_eqb (suc a * m + b) 0 (λ e. omega (arith, suc-mul a m)) ∙ rw (eqb-suc-zero a)
 
-pub be-zero : (k : ℕ) (s : List ℕ) (at : ℕ) → at + k ≤ length s → eqb (be k s at) 0 ≡ allZero (take k (drop at s))
-unfolding be allZero
+pub be-zero : (k : ℕ) (s : List ℕ) (at : ℕ) → at + k ≤ length s → eqb (be k s at) 0 ≡ all_zero (take k (drop at s))
+unfolding be all_zero
 be-zero zero s at h = refl
 be-zero (suc k) s at h =
-    let b : ℕ = getD s (at + k) 0 in
+    let b : ℕ = get_or s (at + k) 0 in
     zero-sum 256 (be k s at) b (omega arith)
     ∙ rw (
       be-zero k s at (omega arith),
       take-suc (drop at s) k 0 (rw (length-drop at s) (omega arith)),
-      getD-drop at s k 0,
-      allZero-append (take k (drop at s)) (b ∷ []),
+      get_or-drop at s k 0,
+      all_zero-append (take k (drop at s)) (b ∷ []),
       and-true (eqb b 0),
     )
 
 second : (a b : Bool) → (a && b) ≡ true → b ≡ true
 second true b h = h
-second false b h = let z : _≡_ {A = ℕ} 0 1 = cc in absurd (omega arith)
+second false b h = let z : ◌≡◌ {A = ℕ} 0 1 = cc in absurd (omega arith)
 
 module _ (s : List ℕ) where
   -- the k bytes from at are zero
   abbrev pub zeros : ℕ → ℕ → Bool
-  zeros k at = allZero (take k (drop at s))
+  zeros k at = all_zero (take k (drop at s))
 
   pub zeros-add : (j k at : ℕ) → zeros (j + k) at ≡ (zeros j at && zeros k (at + j))
-  zeros-add j k at = rw (take-add j k (drop at s), drop-drop j at s) (allZero-append (take j (drop at s)) (take k (drop (at + j) s)))
+  zeros-add j k at = rw (take-add j k (drop at s), drop-drop j at s) (all_zero-append (take j (drop at s)) (take k (drop (at + j) s)))
 
   pub zeros-words : (at a b c d : ℕ) → at + 32 ≤ length s → a ≡ be 8 s at → b ≡ be 8 s (at + 8) → c ≡ be 8 s (at + 16) → d ≡ be 8 s (at + 24) →
       (eqb a 0 && (eqb b 0 && (eqb c 0 && eqb d 0))) ≡ zeros 32 at
@@ -59,18 +59,18 @@ module _ (s : List ℕ) where
 
   module _ (k end at : ℕ) where
     -- k bytes more
-    tail-next : at + k ≤ end → zeros (end - at) at ≡ (zeros k at && zeros (end - (at + k)) (at + k))
-    tail-next h = let e : end - at ≡ k + (end - (at + k)) = omega arith in rw e (zeros-add k (end - (at + k)) at)
+    tail_next : at + k ≤ end → zeros (end - at) at ≡ (zeros k at && zeros (end - (at + k)) (at + k))
+    tail_next h = let e : end - at ≡ k + (end - (at + k)) = omega arith in rw e (zeros-add k (end - (at + k)) at)
 
-    pub tail-turn : at + k ≤ end → zeros k at ≡ true → zeros (end - at) at ≡ zeros (end - (at + k)) (at + k)
-    tail-turn h z = tail-next h ∙ rw z
+    pub tail_turn : at + k ≤ end → zeros k at ≡ true → zeros (end - at) at ≡ zeros (end - (at + k)) (at + k)
+    tail_turn h z = tail_next h ∙ rw z
 
-    pub tail-stop : at + k ≤ end → zeros k at ≡ false → zeros (end - at) at ≡ false
-    tail-stop h z = tail-next h ∙ rw z
+    pub tail_stop : at + k ≤ end → zeros k at ≡ false → zeros (end - at) at ≡ false
+    tail_stop h z = tail_next h ∙ rw z
 
     -- the last k are zero, and the rest is among them
-    pub tail-end : k ≤ end → end - k ≤ at → at ≤ end → zeros k (end - k) ≡ true → zeros (end - at) at ≡ true
-    tail-end h l m z =
+    pub tail_end : k ≤ end → end - k ≤ at → at ≤ end → zeros k (end - k) ≡ true → zeros (end - at) at ≡ true
+    tail_end h l m z =
         let j : ℕ = at - (end - k) in
         let e : k ≡ j + (end - at) = omega arith in
         let f : end - k + j ≡ at = omega arith in
@@ -78,8 +78,8 @@ module _ (s : List ℕ) where
         ap (zeros (end - at)) (sym f) ∙ second (zeros j (end - k)) (zeros (end - at) (end - k + j)) (sym (zeros-add j (end - at) (end - k)) ∙ w)
 
     -- they are not zero
-    pub tail-short : k ≤ end → at ≤ end - k → zeros k (end - k) ≡ false → zeros (end - at) at ≡ false
-    tail-short h l z =
+    pub tail_short : k ≤ end → at ≤ end - k → zeros k (end - k) ≡ false → zeros (end - at) at ≡ false
+    tail_short h l z =
         let j : ℕ = end - k - at in
         let e : end - at ≡ j + k = omega arith in
         let f : at + j ≡ end - k = omega arith in

@@ -64,7 +64,7 @@ fn main() -> ExitCode {
         return ExitCode::FAILURE;
     };
     if !library::PRESENT {
-        return skipped("no libdcps_c.a (rt staticlib dcps_c, or set DCPS_LIB_DIR)");
+        return skipped("no libdcps_c.a (make lib, or set DCPS_LIB_DIR)");
     }
     match job {
         // Of the places the sources judge the calls where they are at hand.

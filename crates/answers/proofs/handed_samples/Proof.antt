@@ -1,7 +1,0 @@
--- A handle and samples.
-use borrow.Author.Needs.{needs}
-use Rattle·answers·proofs.proofs.handed_samples.Statement.{statement}
-use Rattle·answers·proofs.proofs.handed_samples.Tie as tie
-
-pub handed-samples-spec : {M : Type 1} → statement M
-handed-samples-spec = tie.close (tie.spec (λ c κs. search needs) (λ c. rw (c .silent .ensures)))

@@ -1,7 +1,0 @@
--- A refused call.
-use borrow.Author.Needs.{needs}
-use Rattle·answers·proofs.proofs.refused.Statement.{statement}
-use Rattle·answers·proofs.proofs.refused.Tie as tie
-
-pub refused-spec : {M : Type 1} → statement M
-refused-spec = tie.close (tie.spec (λ c κs. search needs) (λ c. rw (c .refused-with .ensures)))

@@ -1,8 +1,0 @@
--- Accepted, and nothing more to say.
-use borrow.Author.Needs.{needs}
-use Rattle·answers·proofs.proofs.silent.Statement.{statement}
-use Rattle·answers·proofs.proofs.silent.Tie as tie
-
-pub silent-spec : {M : Type 1} → statement M
-silent-spec = tie.close (tie.spec (λ c κs. search needs) (λ c κs. search needs)
-    (λ c. rw (c .no-status .ensures, c .before .no-info .ensures)))

@@ -1,8 +1,0 @@
--- `call_sheet::read_holder` meets its contract.
-use borrow.Author.Needs.{needs}
-use Rattle·call_sheet·proofs.proofs.read_holder.Statement.{statement}
-use Rattle·call_sheet·proofs.proofs.read_holder.Tie as tie
-
-pub read-holder-spec : {M : Type 1} → statement M
-read-holder-spec =
-    tie.close (tie.spec (λ c κs. search needs) (λ c κs. search needs) (λ c κs. search needs) (λ c. cc))

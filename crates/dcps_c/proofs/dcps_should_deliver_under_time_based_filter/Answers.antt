@@ -1,0 +1,23 @@
+-- `dcps_should_deliver_under_time_based_filter` meets its contract.
+use mathlib.Core.Path.{ap, ◌∙◌}
+use borrow.Author.Rules.{rules}
+use lib.IntN.{ℤ}
+use mir.Facts.{to_z-of_z}
+use mir.Syntax.{w32}
+use mir.Val.{SFits}
+use Rattle.model.specs.State.{places_in}
+use Rattle.model.specs.Reads.{filter_read}
+use Rattle.dcps_c.specs.Reads.{guid_of, time_at}
+use Rattle.dcps_c.proofs.Tellings.{decided}
+use Rattle.dcps_c.proofs.dcps_should_deliver_under_time_based_filter.Goals as goal
+
+pub should_deliver_under_time_based_filter-d-requires : goal.should_deliver_under_time_based_filter-d-requires
+should_deliver_under_time_based_filter-d-requires c = search rules
+
+pub returns : goal.returns
+returns c =
+    let a = c.args in
+    let fits : SFits w32 a.sec = search rules in
+    decided _ _ c.tell.ensures c.decision_answer.ensures
+    (c.should_deliver_under_time_based_filter-d.ensures.case
+    ∙ ap (λ (z : ℤ). filter_read (places_in a.pens.now) a.pens.now (guid_of a.high a.low) (time_at z a.nanosec) a.min_separation) (to_z-of_z fits))

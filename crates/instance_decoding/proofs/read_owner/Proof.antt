@@ -1,7 +1,0 @@
--- `read_owner` meets its contract: its callees' equations say so.
-use borrow.Author.Needs.{needs}
-use Rattle·instance_decoding·proofs.proofs.read_owner.Statement.{statement}
-use Rattle·instance_decoding·proofs.proofs.read_owner.Tie as tie
-
-pub read-owner-spec : {M : Type 1} → statement M
-read-owner-spec = tie.close (tie.spec (λ c κs. search needs) (λ c κs. search needs) (λ c. cc))

@@ -1,7 +1,0 @@
--- What a call reports, by its row.
-use borrow.Author.Needs.{needs}
-use Rattle·instance_pass·proofs.proofs.report_of.Statement.{statement}
-use Rattle·instance_pass·proofs.proofs.report_of.Tie as tie
-
-pub report-of-spec : {M : Type 1} → statement M
-report-of-spec = tie.close (tie.spec (λ c κs. search needs) (λ c. rw (c .rule-of .ensures)))

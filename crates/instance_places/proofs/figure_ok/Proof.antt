@@ -1,8 +1,0 @@
--- `figure_ok` meets its contract.
-use borrow.Author.Tests.{eq-eqb, ne-eqb}
-use Rattle·instance_places·proofs.proofs.figure_ok.Statement.{statement}
-use Rattle·instance_places·proofs.proofs.figure_ok.Tie as tie
-
-pub figure-ok-spec : {M : Type 1} → statement M
-figure-ok-spec = tie.close (tie.spec (λ c. rw (eq-eqb (c .before .args .places) 32 (c .if1 .taken)))
-    (λ c. rw (ne-eqb (c .before .args .places) 32 (c .if1 .left))))

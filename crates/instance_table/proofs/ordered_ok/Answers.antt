@@ -1,0 +1,16 @@
+-- `ordered_ok` meets its contract: the handles noted are those of the table.
+use Rattle.instance_table.proofs.Handles.{noted_outside, noted_by}
+use Rattle.instance_table.proofs.ordered_ok.Goals as goal
+
+pub returns-then-not-within : goal.returns-then-not-within
+returns-then-not-within c =
+    let a = c.args in
+    let n = c.note in
+    noted_outside a.t.now n.new.hs a.next a.count n.ensures (c.within.ensures.1 (c.if-not-within.true))
+
+pub returns : goal.returns
+returns c =
+    let a = c.args in
+    let n = c.note in
+    noted_by a.t.now n.new.hs a.next a.count n.ensures c.distinct.result
+    (c.within.ensures.0 (c.if-not-within.false)) c.distinct.ensures.0 c.distinct.ensures.1

@@ -1,0 +1,11 @@
+-- `get` meets its contract: after i turns r is the number of the first i bytes.
+use Prim.Native.Nat.{◌-◌, ◌^◌, ◌≤◌, ◌<◌}
+use mathlib.Core.Path.{◌≡◌}
+use Rattle.octets.specs.Octets.{be}
+use Rattle.octets.proofs.get.Given as goal
+
+abbrev pub invariant-loop-i : goal.invariant-loop-i
+invariant-loop-i l = (l.i ≤ l.k) × ((l.r ≡ be l.i l.s l.at) × (l.r < 256 ^ l.i))
+
+abbrev pub decreases-loop-i : goal.decreases-loop-i
+decreases-loop-i l = l.k - l.i

@@ -1,1 +1,0 @@
--- Laws over plain variables: none.

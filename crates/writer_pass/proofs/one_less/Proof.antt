@@ -1,8 +1,0 @@
--- `writer_pass::one_less` meets its contract.
-use native.Mathlib.Omega.{arith}
-use borrow.Author.Needs.{needs}
-use Rattle·writer_pass·proofs.proofs.one_less.Statement.{statement}
-use Rattle·writer_pass·proofs.proofs.one_less.Tie as tie
-
-pub one-less-spec : {M : Type 1} → statement M
-one-less-spec = tie.close (tie.spec (λ c. omega (arith, (c .before .pre) (c .if1 .taken))) (λ c. rw (c .if1 .taken)) (λ c. search needs))

@@ -1,7 +1,0 @@
--- A set is empty where its length is 0.
-use Rattle·writer_set·proofs.proofs.PlaceLaws.{empty-members}
-use Rattle·writer_set·proofs.proofs.is_empty.Statement.{statement}
-use Rattle·writer_set·proofs.proofs.is_empty.Tie as tie
-
-pub is-empty-spec : {M : Type 1} → statement M
-is-empty-spec = tie.close (tie.spec (λ c. empty-members (c .before .args .w) (c .before .pre)))
