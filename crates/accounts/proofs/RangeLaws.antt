@@ -14,8 +14,8 @@ use native.Mathlib.Omega.{arith}
 use lib.ListN.{length}
 use Rattle.octets.specs.Lay.{All}
 use Rattle.model.specs.declared.Guid.{Guid}
-use Rattle.model.specs.declared.LastWriter.{LastWriter}
-use Rattle.model.specs.declared.LastWriter.TheVariants.{Is}
+use Rattle.model.specs.State.{LastWriter}
+use Rattle.std.specs.Prelude.{Some}
 use Rattle.model.specs.Guids.{num}
 use Rattle.model.specs.InstanceRecord.{bit}
 use Rattle.model.specs.Writers.{last_after}
@@ -64,7 +64,7 @@ map-append f (x ∷ xs) ys = ap {B = List _} (λ l. f x ∷ l) (map-append f xs 
 last-append : (xs ys : List Guid) (last : LastWriter) → last_after (xs ++ ys) last ≡ last_after ys (last_after xs last)
 unfolding last_after
 last-append [] ys last = refl
-last-append (g ∷ xs) ys last = last-append xs ys (Is g)
+last-append (g ∷ xs) ys last = last-append xs ys (Some g)
 
 pub last-greatest : (n : ℕ) (p : ℕ → Bool) (last : LastWriter) →
     last_after (map guid_numbered (between 0 n p)) last ≡ last_or (greatest n p) last

@@ -16,7 +16,6 @@ use native.Mathlib.Nat.{zero-add, mod-add-mod}
 use lib.ListN.{length}
 use Rattle.octets.specs.Lay.{All}
 use Rattle.model.specs.declared.Guid.{Guid}
-use Rattle.model.specs.declared.LastWriter.{LastWriter}
 use Rattle.model.specs.declared.Sheet.{Sheet}
 use Rattle.model.specs.declared.Writer.{Writer}
 use Rattle.model.specs.declared.WriterState.{WriterState}
@@ -25,7 +24,7 @@ use Rattle.model.specs.declared.TrackerCall.{TrackerCall}
 use Rattle.model.specs.declared.TrackerCall.TheVariants.{Expire as expire, Matched as matched, Unmatched as unmatched, LostWithParticipant as lost_with_participant, WriterAsserted as writer_asserted, ParticipantAsserted as participant_asserted, TakeLost as take_lost, TakeStatus as take_status, Acknowledge as acknowledge}
 use Rattle.model.specs.Guids.{num, prefix}
 use Rattle.model.specs.InstanceRecord.{bit}
-use Rattle.model.specs.State.{State, Class, alive, not_alive, neither, class_of, is_alive_class, is_not_alive_class, writer_key, alive_count, not_alive_count}
+use Rattle.model.specs.State.{State, Class, alive, not_alive, neither, class_of, is_alive_class, is_not_alive_class, writer_key, alive_count, not_alive_count, LastWriter}
 use Rattle.model.specs.Tables.{find, pick, all, put}
 use Rattle.model.specs.Writers as M
 use Rattle.model.specs.Writers.{tracker_rule, has_guid, matched_writer, writers_begun, writer_step, same_class, class_after, moves, guid_in, movers, last_after, tracker_state, is_tracked, lease_on, covers, covers_kind, renews, asserted, assertion, expires, expired, unmatched_from, lost_as, matched_from, match_asserts, writer_acts, lost_with, lost_after, acknowledged_with, acknowledged_after, appends}

@@ -1,12 +1,10 @@
 -- Section 6, one writer, from the section's own words: absent (none), or its record, which is unasserted, alive, not alive
 -- (these three are tracked) or departed, with kind, lease and last assertion.
-use Rattle.std.specs.Prelude.{ℕ, ◌+◌, ◌/◌, ◌^◌, Bool, true, false, not, ◌&&◌, ◌||◌, cond, List, [], ◌++◌, map, eqb, leb, ltb, ℤ, pos, ◌+ℤ◌, ◌-ℤ◌, length}
+use Rattle.std.specs.Prelude.{ℕ, ◌+◌, ◌/◌, ◌^◌, Bool, true, false, not, ◌&&◌, ◌||◌, cond, List, [], ◌++◌, map, eqb, leb, ltb, ℤ, pos, ◌+ℤ◌, ◌-ℤ◌, length, None, Some}
 use Rattle.std.proofs.Math.Option.{Option, none, some}
 use Rattle.std.specs.Int.{w32}
 use Rattle.std.proofs.Common.{to_z}
 use Rattle.model.specs.declared.Guid.{Guid}
-use Rattle.model.specs.declared.LastWriter.{LastWriter}
-use Rattle.model.specs.declared.LastWriter.TheVariants.{Nobody, Is}
 use Rattle.model.specs.declared.LivelinessKind.{LivelinessKind}
 use Rattle.model.specs.declared.LivelinessKind.TheVariants.{Automatic, ManualByParticipant, ManualByTopic}
 use Rattle.model.specs.declared.MaybeLease.{MaybeLease}
@@ -18,7 +16,7 @@ use Rattle.model.specs.declared.TrackerCall.{TrackerCall}
 use Rattle.model.specs.declared.TrackerCall.TheVariants.{Matched as matched, Unmatched as unmatched, LostWithParticipant as lost_with_participant, WriterAsserted as writer_asserted, ParticipantAsserted as participant_asserted, Expire as expire, TakeLost as take_lost, TakeStatus as take_status, Acknowledge as acknowledge}
 use Rattle.model.specs.Guids.{num}
 use Rattle.model.specs.InstanceRecord.{bit}
-use Rattle.model.specs.State.{Class, alive, not_alive, neither}
+use Rattle.model.specs.State.{Class, alive, not_alive, neither, LastWriter}
 use Rattle.model.specs.WriterRecord.{liveliness_numbered}
 use Rattle.accounts.specs.Ranges.{bound, guid_numbered, between, greatest}
 
@@ -297,7 +295,7 @@ no_writers =
     record {
       at = λ g. none;
       moves = λ g. 0;
-      last = Nobody;
+      last = None;
       lost = [];
       acknowledged_alive = pos 0;
       acknowledged_not_alive = pos 0;
@@ -306,7 +304,7 @@ no_writers =
 -- the last writer is the greatest GUID that changed class in the latest call where one did
 abbrev pub last_or : Option ℕ → LastWriter → LastWriter
 last_or none last = last
-last_or (some g) last = Is (guid_numbered g)
+last_or (some g) last = Some (guid_numbered g)
 
 -- the last writer after a call
 unfoldable pub last_in : Writers → Writers → LastWriter → LastWriter

@@ -25,7 +25,7 @@ use Rattle.model.specs.Joined.{sampled, admitted}
 use Rattle.model.specs.State.{State, instance_key}
 use Rattle.model.specs.Tables.{rising}
 use Rattle.model.proofs.AdmitLaws.{first_taken, tried_again, admitted-state}
-use Rattle.tables.specs.declared.Found.TheVariants.{Missing}
+use Rattle.std.specs.Prelude.{Err}
 use Rattle.tables.specs.Found.{found_in}
 use Rattle.tables.specs.Places.{Only, Nowhere}
 use Rattle.tables.proofs.Finds.{any-only, only-insert, only_set}
@@ -100,7 +100,7 @@ module _ (s : Sheet) (d : Instance) where
         rw (admitted_whole s st, e1, e2, e3, e4, same_answer s x z2, set-set xs i x1 x2, set-set xs i x2 x3, set-set xs i x3 x3)
 
     -- the key is missing, and its instance goes in at place i
-    module _ (r : rising instance_key xs ≡ true) (m : found_in (map instance_key xs) (num s.key) ≡ Missing i) where
+    module _ (r : rising instance_key xs ≡ true) (m : found_in (map instance_key xs) (num s.key) ≡ Err i) where
       pub admitted_new : (x : Instance) → x ≡ started s.key (allocated st.next_handle).handle.0 →
           admitted s st
           ≡ leaving (answers_of (with_state x (owned_from s (admitted_noted s (admitted_observed s x.state)))))

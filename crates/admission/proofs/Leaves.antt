@@ -28,7 +28,7 @@ use Rattle.model.specs.Joined.{admit_call, in_order, passes_filter}
 use Rattle.model.specs.State.{State, instance_key, instances_in}
 use Rattle.model.specs.Tables.{find}
 use Rattle.model.proofs.AdmitLaws.{tried_owned, noted_owned}
-use Rattle.tables.specs.declared.Found.TheVariants.{Missing}
+use Rattle.std.specs.Prelude.{Err}
 use Rattle.tables.specs.Found.{found_in}
 use Rattle.tables.specs.Places.{Only}
 use Rattle.tables.proofs.Finds.{find-only, find-nowhere}
@@ -112,7 +112,7 @@ module _ {places count next : ℕ} {t : List ℕ} (r : TableFormed places count 
               (sym (length-set xs i y ∙ ready_length r)) same (l places xs (ready_laid r bytes) k.only.within)
 
     -- no instance has the key, and place i is where it would go in
-    module _ (i : ℕ) (m : found_in (map instance_key xs) (num s.key) ≡ Missing i) (b : Answer) (h : InstanceHandle) where
+    module _ (i : ℕ) (m : found_in (map instance_key xs) (num s.key) ≡ Err i) (b : Answer) (h : InstanceHandle) where
       nobody : find (has_key s.key) xs ≡ none
       nobody = find-nowhere (has_key s.key) blank xs (missing-nowhere instance_key xs blank (ready_rises r) (num s.key) i m)
 
@@ -156,5 +156,5 @@ module _ {places count next : ℕ} {t : List ℕ} (r : TableFormed places count 
             start_cases places count next n e (λ (k : ℕ). b ≡ refused_with k → Admits places s xs next (record { answer = b; count = count; next_handle = h }) t)
             (λ f d. full-left f d same) (λ f p d. spent-left f p d same) z q
 
-  pub new_within : (i : ℕ) → found_in (map instance_key xs) (num s.key) ≡ Missing i → i ≤ count
+  pub new_within : (i : ℕ) → found_in (map instance_key xs) (num s.key) ≡ Err i → i ≤ count
   new_within i m = omega (arith, missing-le instance_key xs blank (ready_rises r) (num s.key) i m, ready_length r)

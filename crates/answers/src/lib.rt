@@ -7,7 +7,7 @@ ghost use Rattle.model.specs.Answers.{no_info, no_status, refused_with, silent, 
 
 use model::{
     Answer, Called, Head, InstanceHandle, InstanceState, InstanceStateKind,
-    LivelinessChangedStatus, MaybeDue, SampleInfo,
+    LivelinessChangedStatus, SampleInfo,
 };
 
 fn no_info() -> SampleInfo
@@ -37,8 +37,6 @@ fn no_status() -> LivelinessChangedStatus
 pub fn silent() -> Answer
     ensures { result ≡ silent }
 {
-    let info = no_info();
-    let status = no_status();
     Answer {
         number: 0,
         outcome: 0,
@@ -46,14 +44,11 @@ pub fn silent() -> Answer
         present: false,
         handle: InstanceHandle(0),
         samples: 0,
-        info: info,
+        info: no_info(),
         count: 0,
         listed: 0,
-        next_due: MaybeDue {
-            present: false,
-            at: 0,
-        },
-        status: status,
+        next_due: None,
+        status: no_status(),
     }
 }
 
@@ -61,19 +56,19 @@ pub fn silent() -> Answer
 pub fn refused_with(n: u8) -> Answer
     ensures { result ≡ refused_with n }
 {
-    let mut r = silent();
-    r.number = n;
-    r
+    Answer {
+        number: n,
+        ..silent()
+    }
 }
 
 // A refused call: the number, and the head as it was.
 pub fn refused(number: u8, head: Head) -> Called
     ensures { result ≡ record { answer = refused_with number; head = head } }
 {
-    let a = refused_with(number);
     Called {
-        answer: a,
-        head: head,
+        answer: refused_with(number),
+        head,
     }
 }
 
@@ -81,38 +76,39 @@ pub fn refused(number: u8, head: Head) -> Called
 pub fn saying(yes: bool) -> Answer
     ensures { result ≡ saying yes }
 {
-    let mut r = silent();
-    r.yes = yes;
-    r
+    Answer { yes, ..silent() }
 }
 
 // A number of instances.
 pub fn counting(n: u32) -> Answer
     ensures { result ≡ counting n }
 {
-    let mut r = silent();
-    r.count = n;
-    r
+    Answer {
+        count: n,
+        ..silent()
+    }
 }
 
 // A number of entries in Out.
 pub fn listing(n: u32) -> Answer
     ensures { result ≡ listing n }
 {
-    let mut r = silent();
-    r.listed = n;
-    r
+    Answer {
+        listed: n,
+        ..silent()
+    }
 }
 
 // A handle and the samples of its instance.
 pub fn handed_samples(h: InstanceHandle, samples: u32) -> Answer
     ensures { result ≡ handed_samples h samples }
 {
-    let mut r = silent();
-    r.present = true;
-    r.handle = h;
-    r.samples = samples;
-    r
+    Answer {
+        present: true,
+        handle: h,
+        samples,
+        ..silent()
+    }
 }
 
 // A handle.
@@ -126,13 +122,11 @@ pub fn handed(h: InstanceHandle) -> Answer
 pub fn info_of(x: InstanceState) -> SampleInfo
     ensures { result ≡ info_of x }
 {
-    let l = x.life;
-    let k = l.kind;
     SampleInfo {
-        view_new: l.view_new,
-        kind: k,
-        disposed_generations: l.disposed_generations,
-        no_writers_generations: l.no_writers_generations,
+        view_new: x.life.view_new,
+        kind: x.life.kind,
+        disposed_generations: x.life.disposed_generations,
+        no_writers_generations: x.life.no_writers_generations,
     }
 }
 
@@ -140,26 +134,26 @@ pub fn info_of(x: InstanceState) -> SampleInfo
 pub fn informed(info: SampleInfo) -> Answer
     ensures { result ≡ informed info }
 {
-    let mut r = silent();
-    r.present = true;
-    r.info = info;
-    r
+    Answer {
+        present: true,
+        info,
+        ..silent()
+    }
 }
 
 // Yes or no, and when the next lease is due.
-pub fn saying_due(yes: bool, due: MaybeDue) -> Answer
+pub fn saying_due(yes: bool, due: Option<u64>) -> Answer
     ensures { result ≡ saying_due yes due }
 {
-    let mut r = saying(yes);
-    r.next_due = due;
-    r
+    Answer {
+        next_due: due,
+        ..saying(yes)
+    }
 }
 
 // A status.
 pub fn reporting(status: LivelinessChangedStatus) -> Answer
     ensures { result ≡ reporting status }
 {
-    let mut r = silent();
-    r.status = status;
-    r
+    Answer { status, ..silent() }
 }

@@ -23,8 +23,8 @@ use Rattle.octets.specs.Patch.{fields}
 use Rattle.octets.proofs.PatchLaws.{length_fields}
 use Rattle.model.specs.declared.Guid.{Guid}
 use Rattle.model.specs.declared.Head.{Head}
-use Rattle.model.specs.declared.LastWriter.{LastWriter}
-use Rattle.model.specs.declared.LastWriter.TheVariants.{Nobody, Is}
+use Rattle.model.specs.State.{LastWriter}
+use Rattle.std.specs.Prelude.{None, Some}
 use Rattle.model.specs.Guids.{guid_at}
 use Rattle.model.proofs.FieldLaws.{reads_front, fields-reads}
 use Rattle.model.proofs.Fits.{FitsGuid}
@@ -51,19 +51,19 @@ length-head h = length_fields head_widths (head_values h) tt
 -- ---- laid out, then read
 
 present_fits : (l : LastWriter) → last_present l < 256 ^ 2
-present_fits Nobody = omega arith
-present_fits (Is g) = omega arith
+present_fits None = omega arith
+present_fits (Some g) = omega arith
 
 -- the last writer is read back
 last_back : (l : LastWriter) → last_writer (last_present l) (last_guid l) ≡ l
-last_back Nobody = refl
-last_back (Is g) = refl
+last_back None = refl
+last_back (Some g) = refl
 
 -- its fields are as they should be
 last-laid : (l : LastWriter) →
     (ltb (last_present l) 2 && (eqb (last_present l) 1 || (eqb (last_guid l).hi 0 && eqb (last_guid l).lo 0))) ≡ true
-last-laid Nobody = refl
-last-laid (Is g) = refl
+last-laid None = refl
+last-laid (Some g) = refl
 
 module _ (h : Head) (fits : FitsHead h) where
   values_fit : Fit head_widths (head_values h)

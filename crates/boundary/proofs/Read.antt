@@ -1,14 +1,14 @@
--- Numbers with a sign, a head that is put together from what was read, and the test of its bytes, over plain variables.
+-- A number with a sign that is put together from what was read, and the test of a head's bytes, over plain variables.
 --     bits_back               the bits of a number that was read back from its bits
---     signed_back             a number that was read back from its bits
---     nobody, somebody        the last writer by its presence
---     head_read               a head from its fields
---     laid-many, laid-present, laid_high, laid_low    the test in the order of the code
-use Prim.Native.Nat.{ℕ, zero, suc, ◌≤◌, ◌<◌}
-use mathlib.Core.Bool.{true, false, and-false}
-use mathlib.Core.Path.{◌≡◌, refl, sym, ap, ◌∙◌}
+--     present_is, guid_is     the last writer's presence and GUID
+--     last_is                 the last writer by its presence
+--     laid-present, laid_high, laid_low    the test in the order of the code
+use Prim.Native.Nat.{ℕ, zero, suc}
+use mathlib.Core.Bool.{Bool, not, ◌&&◌, ◌||◌}
+use mathlib.Core.Path.{◌≡◌, refl, ap, ◌∙◌}
 use mathlib.Core.List.{List}
-use borrow.Author.Tests.{le-ltb, lt-ltb, eq-eqb, ne_eqb}
+use native.Mathlib.Omega.{arith}
+use borrow.Author.Tests.{le-ltb, eq-eqb, ne_eqb}
 use lib.Dec.{eqb, ltb}
 use lib.IntN.{ℤ}
 use mir.Facts.{to_z-of_z}
@@ -16,64 +16,45 @@ use mir.Syntax.{w32}
 use mir.Val.{SFits, of_z, to_z}
 use Rattle.octets.specs.Octets.{be}
 use Rattle.model.specs.declared.Guid.{Guid}
-use Rattle.model.specs.declared.Head.{Head}
-use Rattle.model.specs.declared.LastWriter.{LastWriter}
-use Rattle.model.specs.declared.LastWriter.TheVariants.{Nobody, Is}
-use Rattle.model.specs.Guids.{guid_at}
-use Rattle.boundary.specs.Layouts.{last_writer, head_in, head_laid}
+use Rattle.model.specs.State.{LastWriter}
+use Rattle.std.specs.Prelude.{None, Some, is_some, unwrap_or}
+use Rattle.std.specs.Bool.{then_some}
+use Rattle.std.specs.Int.{from_bool}
+use Rattle.model.specs.Guids.{nil, guid_at}
+use Rattle.boundary.specs.Layouts.{last_present, last_guid, last_writer, head_laid}
 
 pub bits_back : {x : ℤ} {n : ℕ} → SFits w32 x → n ≡ of_z w32 (to_z w32 (of_z w32 x)) → n ≡ of_z w32 x
 bits_back f e = e ∙ ap (of_z w32) (to_z-of_z f)
 
-pub signed_back : {x y : ℤ} → SFits w32 x → x ≡ y → to_z w32 (of_z w32 x) ≡ y
-signed_back f e = to_z-of_z f ∙ e
+pub present_is : (l : LastWriter) → from_bool (is_some l) ≡ last_present l
+present_is None = refl
+present_is (Some g) = refl
 
-pub nobody : {n m : ℕ} (g : Guid) → n ≡ m → n ≡ 0 → Nobody ≡ last_writer m g
-nobody g e z = rw (← e, z)
+pub guid_is : (l : LastWriter) → unwrap_or l nil ≡ last_guid l
+guid_is None = refl
+guid_is (Some g) = refl
 
-some : (n : ℕ) (g : Guid) → (n ≡ 0 → ⊥) → Is g ≡ last_writer n g
-some zero g h = absurd (h refl)
-some (suc n) g h = refl
+by_presence : (n : ℕ) (g : Guid) → then_some (not (eqb n 0)) g ≡ last_writer n g
+by_presence zero g = refl
+by_presence (suc n) g = rw (ne_eqb (suc n) 0 (λ e. omega (arith, e)))
 
-pub somebody : {n m : ℕ} {f g : Guid} → n ≡ m → (n ≡ 0 → ⊥) → f ≡ g → Is f ≡ last_writer m g
-somebody {n} {m} {f} {g} e h q = rw (← e, q) (some n g h)
+pub last_is : {n m : ℕ} {f g : Guid} → n ≡ m → f ≡ g → then_some (not (eqb n 0)) f ≡ last_writer m g
+last_is {n} {m} {f} {g} e q = rw (← e, q) (by_presence n g)
 
-pub head_read : (b : List ℕ) {i w l a m n c p : ℕ} {x y : ℤ} {last : LastWriter} →
-    i ≡ be 4 b 0 → w ≡ be 4 b 4 → l ≡ be 4 b 8 → a ≡ be 4 b 12 → m ≡ be 4 b 16 →
-    x ≡ to_z w32 (be 4 b 20) → y ≡ to_z w32 (be 4 b 24) → last ≡ last_writer (be 2 b 28) (guid_at b 48) →
-    n ≡ be 8 b 32 → c ≡ be 8 b 40 → p ≡ be 2 b 30 →
-    ◌≡◌ {A = Head}
-    (record {
-      instance_count = i;
-      next_handle = record { 0 = n };
-      writer_count = w;
-      lost_count = l;
-      alive = a;
-      not_alive = m;
-      alive_change = x;
-      not_alive_change = y;
-      last_writer = last;
-      changes = c;
-      places = p;
-    })
-    (head_in b)
-unfolding head_in
-head_read b ei ew el ea em ex ey elast en ec ep = rw (ei, ew, el, ea, em, ex, ey, elast, en, ec, ep)
+counted : (n : ℕ) (x : Bool) → (n ≡ 0 → ⊥) → eqb n 1 ≡ (ltb n 2 && (eqb n 1 || x))
+counted zero x h = absurd (h refl)
+counted (suc zero) x h = refl
+counted (suc (suc n)) x h = rw (le-ltb (suc (suc n)) 2 (omega arith), ne_eqb (suc (suc n)) 1 (λ e. omega arith))
 
 module _ (b : List ℕ) where
-  pub laid-many : {n : ℕ} → n ≡ be 2 b 28 → 2 ≤ n → false ≡ head_laid b
+  pub laid-present : {n : ℕ} → n ≡ be 2 b 28 → (n ≡ 0 → ⊥) → eqb n 1 ≡ head_laid b
   unfolding head_laid
-  laid-many {n} e h = rw (← e, le-ltb n 2 h)
+  laid-present {n} e h = rw (← e) (counted n (eqb (be 8 b 48) 0 && eqb (be 8 b 56) 0) h)
 
-  pub laid-present : {n : ℕ} → n ≡ be 2 b 28 → n ≡ 1 → true ≡ head_laid b
+  pub laid_high : {n h : ℕ} → n ≡ be 2 b 28 → n ≡ 0 → h ≡ be 8 b 48 → (h ≡ 0 → ⊥) → eqb h 0 ≡ head_laid b
   unfolding head_laid
-  laid-present e k = rw (← e, k)
+  laid_high {n} {h} e k f l = rw (← e, k, ← f, ne_eqb h 0 l)
 
-  pub laid_high : {n h : ℕ} → n ≡ be 2 b 28 → h ≡ be 8 b 48 → (n ≡ 1 → ⊥) → (h ≡ 0 → ⊥) → false ≡ head_laid b
+  pub laid_low : {n h l : ℕ} → n ≡ be 2 b 28 → n ≡ 0 → h ≡ be 8 b 48 → h ≡ 0 → l ≡ be 8 b 56 → eqb l 0 ≡ head_laid b
   unfolding head_laid
-  laid_high {n} {h} e f k l =
-      rw (← e, ← f, ne_eqb n 1 k, ne_eqb h 0 l) (sym (and-false (ltb n 2)))
-
-  pub laid_low : {n h l : ℕ} → n ≡ be 2 b 28 → h ≡ be 8 b 48 → l ≡ be 8 b 56 → n < 2 → (n ≡ 1 → ⊥) → h ≡ 0 → eqb l 0 ≡ head_laid b
-  unfolding head_laid
-  laid_low {n} {h} {l} e g i small k high = rw (← e, ← g, ← i, lt-ltb n 2 small, ne_eqb n 1 k, eq-eqb h 0 high)
+  laid_low {n} {h} {l} e k f g i = rw (← e, k, ← f, ← i, eq-eqb h 0 g)

@@ -1,6 +1,6 @@
 -- The head's 64 bytes and the answer's 72 bytes, as a recorded list holds them and as they cross the C boundary: fields one
 -- after the other, each number most significant byte first, one with a sign by its 32 bits in two's complement.
-use Rattle.std.specs.Prelude.{ℕ, zero, suc, Bool, ◌&&◌, ◌||◌, List, [], ◌∷◌, eqb, ltb}
+use Rattle.std.specs.Prelude.{ℕ, zero, suc, Bool, ◌&&◌, ◌||◌, List, [], ◌∷◌, eqb, ltb, None, Some, is_some, unwrap_or}
 use Rattle.std.specs.Int.{w32}
 use Rattle.std.proofs.Common.{of_z, to_z}
 use Rattle.octets.specs.Octets.{be}
@@ -8,25 +8,24 @@ use Rattle.octets.specs.Patch.{fields}
 use Rattle.model.specs.declared.Answer.{Answer}
 use Rattle.model.specs.declared.Guid.{Guid}
 use Rattle.model.specs.declared.Head.{Head}
-use Rattle.model.specs.declared.LastWriter.{LastWriter}
-use Rattle.model.specs.declared.LastWriter.TheVariants.{Nobody, Is}
+use Rattle.model.specs.State.{LastWriter}
 use Rattle.model.specs.Guids.{nil, guid_at}
 use Rattle.model.specs.InstanceRecord.{bit, kind_number}
 
 -- ---- the last writer: 0 and a zero GUID, or 1 and its GUID
 
 abbrev pub last_present : LastWriter → ℕ
-last_present Nobody = 0
-last_present (Is g) = 1
+last_present None = 0
+last_present (Some g) = 1
 
 abbrev pub last_guid : LastWriter → Guid
-last_guid Nobody = nil
-last_guid (Is g) = g
+last_guid None = nil
+last_guid (Some g) = g
 
 -- a presence of more than 1 reads as 1; such a head is not laid out, `head_laid`
 abbrev pub last_writer : ℕ → Guid → LastWriter
-last_writer zero g = Nobody
-last_writer (suc n) g = Is g
+last_writer zero g = None
+last_writer (suc n) g = Some g
 
 -- ---- the head (widths and values line by line)
 
@@ -90,12 +89,12 @@ answer_widths =
 abbrev pub answer_values : Answer → List ℕ
 answer_values a =
     a.number ∷ a.outcome ∷ bit a.yes ∷ bit a.present
-    ∷ bit a.info.view_new ∷ kind_number a.info.kind ∷ bit a.next_due.present ∷ 0
+    ∷ bit a.info.view_new ∷ kind_number a.info.kind ∷ bit (is_some a.next_due) ∷ 0
     ∷ a.handle.0 ∷ a.samples
     ∷ a.info.disposed_generations ∷ a.info.no_writers_generations ∷ a.count ∷ a.listed
     ∷ a.status.alive_count ∷ a.status.not_alive_count
     ∷ of_z w32 a.status.alive_count_change ∷ of_z w32 a.status.not_alive_count_change ∷ 0
-    ∷ a.next_due.at ∷ a.status.last_publication_handle.0 ∷ []
+    ∷ unwrap_or a.next_due 0 ∷ a.status.last_publication_handle.0 ∷ []
 
 -- the 72 bytes of an answer
 unfoldable pub answer_bytes : Answer → List ℕ

@@ -7,10 +7,9 @@ use mathlib.Core.Option.{Option, none, some}
 use native.Mathlib.Nat.{div-lt_iff_lt-mul}
 use native.Mathlib.Omega.{arith}
 use lib.ListN.{length}
-use Rattle.model.specs.declared.LastWriter.{LastWriter}
 use Rattle.model.specs.declared.Sheet.{Sheet}
 use Rattle.model.specs.declared.TrackerCall.{TrackerCall}
-use Rattle.model.specs.State.{State, head_of, counts_alive, counts_not_alive, alive_count, not_alive_count}
+use Rattle.model.specs.State.{State, head_of, counts_alive, counts_not_alive, alive_count, not_alive_count, LastWriter}
 use Rattle.model.specs.Tables.{pick}
 use Rattle.model.proofs.Fits.{FitsGuid}
 use Rattle.numbers.proofs.Signs.{change_fits}

@@ -5,7 +5,7 @@
 ghost use Rattle.std.specs.Prelude.{◌≡◌, length};
 ghost use Rattle.octets.specs.Fields.{puts};
 ghost use Rattle.read_answers.specs.Cases.{read_of, refused_answer, decision_answer, handle_answer, time_answer, listing_answer, holder_answer, changes_answer};
-ghost use Rattle.boundary_reads.specs.ReadAnswers.{bit_widths, bit_values, value_widths, value_values, told_of, told};
+ghost use Rattle.boundary_reads.specs.ReadAnswers.{bit_widths, bit_values, value_widths, value_values, told_of, told_bytes, told};
 ghost use Rattle.boundary_reads.specs.KeyHashes.{key_hash_bytes, told_key_hash};
 ghost use Rattle.boundary_reads.specs.WireAnswers.{fraction_answer, nanos_answer};
 
@@ -21,12 +21,12 @@ pub fn read_of(number: u8, said: u8, present: bool, size: u32, value: u64) -> Re
     ensures { result ≡ read_of number said present size value }
 {
     ReadAnswer {
-        number: number,
-        said: said,
-        present: present,
+        number,
+        said,
+        present,
         stored: false,
-        size: size,
-        value: value,
+        size,
+        value,
         sec: 0,
         nanosec: 0,
     }
@@ -95,14 +95,8 @@ pub fn holder_answer(stored: bool, offset: u64, len: u16) -> ReadAnswer
     ensures { result ≡ holder_answer stored offset len }
 {
     ReadAnswer {
-        number: 0,
-        said: 0,
-        present: false,
-        stored: stored,
-        size: len as u32,
-        value: offset,
-        sec: 0,
-        nanosec: 0,
+        stored,
+        ..read_of(0, 0, false, u32::from(len), offset)
     }
 }
 
@@ -133,19 +127,17 @@ pub fn nanos_answer(n: u32) -> ReadAnswer
 // ---- the bytes
 
 // Number, yes, present and stored, from 0.
-fn write_bits(b: &mut [u8], a: ReadAnswer)
-    requires { length b.old ≡ 24 }
+fn write_bits(b: &mut [u8; 24], a: ReadAnswer)
     ensures { b.new ≡ puts bit_widths (bit_values a) b.old 0 0 }
 {
     octets::put_u8(b, 0, a.number);
     octets::put_u8(b, 1, a.said);
-    octets::put_u8(b, 2, boundary::bit_of(a.present));
-    octets::put_u8(b, 3, boundary::bit_of(a.stored));
+    octets::put_u8(b, 2, u8::from(a.present));
+    octets::put_u8(b, 3, u8::from(a.stored));
 }
 
 // The numbers, from 4.
-fn write_values(b: &mut [u8], a: ReadAnswer)
-    requires { length b.old ≡ 24 }
+fn write_values(b: &mut [u8; 24], a: ReadAnswer)
     ensures { b.new ≡ puts value_widths (value_values a) b.old 0 4 }
 {
     octets::put_u32(b, 4, a.size);
@@ -154,16 +146,26 @@ fn write_values(b: &mut [u8], a: ReadAnswer)
     octets::put_u32(b, 20, a.nanosec);
 }
 
-// The answer where it has its length; else nothing is written, and the number is 1.
-pub fn tell(answer: &mut [u8], a: ReadAnswer) -> u32
-    ensures { told_of result answer.new ≡ told a answer.old }
+// The bytes of an answer, where the caller's has their length; else nothing is written, and the number is 1.
+#[tactic(auto, unfolding(crate::specs::ReadAnswers::told_bytes))]
+fn tell_bytes(answer: &mut [u8], number: u8, bytes: &[u8; 24]) -> u32
+    ensures { told_of result answer.new ≡ told_bytes number bytes.now answer.old }
 {
     if answer.len() != 24 {
         return 1;
     }
-    write_bits(answer, a);
-    write_values(answer, a);
-    a.number as u32
+    answer.copy_from_slice(bytes);
+    u32::from(number)
+}
+
+// The answer where it has its length; else nothing is written, and the number is 1.
+pub fn tell(answer: &mut [u8], a: ReadAnswer) -> u32
+    ensures { told_of result answer.new ≡ told a answer.old }
+{
+    let mut bytes = [0; 24];
+    write_bits(&mut bytes, a);
+    write_values(&mut bytes, a);
+    tell_bytes(answer, a.number, &bytes)
 }
 
 // The number, zeros, and the KeyHash.
@@ -181,9 +183,7 @@ fn write_key_hash(answer: &mut [u8], k: KeyHashed)
 pub fn tell_key_hash(answer: &mut [u8], k: KeyHashed) -> u32
     ensures { told_of result answer.new ≡ told_key_hash k answer.old }
 {
-    if answer.len() != 24 {
-        return 1;
-    }
-    write_key_hash(answer, k);
-    k.number as u32
+    let mut bytes = [0; 24];
+    write_key_hash(&mut bytes, k);
+    tell_bytes(answer, k.number, &bytes)
 }

@@ -23,6 +23,7 @@ use model::{
 };
 
 // The call on writers of a code from 32 to 40.
+#[tactic(auto, unfolding(model::specs::Calls::call_of_code, model::specs::Calls::amongst, model::specs::Calls::calls))]
 pub fn tracker_call(code: u8) -> TrackerCall
     requires { (32 ≤ code) × (code ≤ last_tracker) }
     ensures { call_of_code code ≡ some (tracker result) }
@@ -45,8 +46,8 @@ fn on_writers(clocks: ClockUse, matches: bool) -> TrackerRule
     ensures { result ≡ record { clocks = clocks; matches = matches; lost = Leaves; acknowledges = Nothing; report = Moved } }
 {
     TrackerRule {
-        clocks: clocks,
-        matches: matches,
+        clocks,
+        matches,
         lost: LostUse::Leaves,
         acknowledges: AcknowledgeUse::Nothing,
         report: TrackerReport::Moved,
@@ -58,11 +59,11 @@ fn on_lost(clocks: ClockUse, lost: LostUse, report: TrackerReport) -> TrackerRul
     ensures { result ≡ record { clocks = clocks; matches = false; lost = lost; acknowledges = Nothing; report = report } }
 {
     TrackerRule {
-        clocks: clocks,
+        clocks,
         matches: false,
-        lost: lost,
+        lost,
         acknowledges: AcknowledgeUse::Nothing,
-        report: report,
+        report,
     }
 }
 
@@ -74,8 +75,8 @@ fn on_status(acknowledges: AcknowledgeUse, report: TrackerReport) -> TrackerRule
         clocks: ClockUse::NoClock,
         matches: false,
         lost: LostUse::Leaves,
-        acknowledges: acknowledges,
-        report: report,
+        acknowledges,
+        report,
     }
 }
 
@@ -101,6 +102,7 @@ pub fn tracker_rule(c: TrackerCall) -> TrackerRule
 }
 
 // The joined call of a code from 48 to 51.
+#[tactic(auto, unfolding(model::specs::Calls::call_of_code, model::specs::Calls::amongst, model::specs::Calls::calls))]
 pub fn joined_call(code: u8) -> JoinedCall
     requires { (48 ≤ code) × (code ≤ last_joined) }
     ensures { call_of_code code ≡ some (joined result) }

@@ -6,9 +6,10 @@
 // lent as head and buffers.
 #![tactic(auto)]
 
-ghost use Rattle.std.specs.Prelude.{◌≡◌, ◌*◌, ◌≤◌, length};
+ghost use Rattle.std.specs.Prelude.{◌≡◌, ◌≤◌};
 ghost use Rattle.model.specs.Call.{coded, lent_of, left_of};
 ghost use Rattle.model.specs.Calls.{last_instance, last_tracker, last_joined, call_of_code};
+ghost use Rattle.call_ranges.specs.Lengths.{Lengths};
 
 use model::{Called, Head, Sheet};
 
@@ -20,18 +21,16 @@ pub fn instances(
     writers: &[u8],
     lost: &[u8],
     out: &mut [u8],
-    places: usize,
 ) -> Called
-    requires { (length pens.old ≡ places * 512) × (length writers.now ≡ 5120) × (length lost.now ≡ 4096) × (length out.old ≡ 4096)
-        × (1 ≤ s.code) × (s.code ≤ last_instance) × (head.places ≡ places) × (places ≤ 128) }
+    requires { Lengths (lent_of head pens.old writers.now lost.now out.old) × (1 ≤ s.code) × (s.code ≤ last_instance) }
     ensures { left_of result pens.new writers.now lost.now out.new
-        ≡ coded places (call_of_code s.code) s (lent_of head pens.old writers.now lost.now out.old) }
+        ≡ coded head.places (call_of_code s.code) s (lent_of head pens.old writers.now lost.now out.old) }
 {
     let c = instance_rules::instance_call(s.code);
-    if !lent_state::state_ok(head, pens, writers, lost, places) {
+    if !lent_state::state_ok(head, pens, writers, lost) {
         return answers::refused(3, head);
     }
-    instance_calls::instance_turn(c, s, head, pens, out, places)
+    instance_calls::instance_turn(c, s, head, pens, out, head.places as usize)
 }
 
 // The codes of the calls on writers.
@@ -42,15 +41,13 @@ pub fn tracker(
     writers: &mut [u8],
     lost: &mut [u8],
     out: &mut [u8],
-    places: usize,
 ) -> Called
-    requires { (length pens.now ≡ places * 512) × (length writers.old ≡ 5120) × (length lost.old ≡ 4096) × (length out.old ≡ 4096)
-        × (32 ≤ s.code) × (s.code ≤ last_tracker) × (head.places ≡ places) × (places ≤ 128) }
+    requires { Lengths (lent_of head pens.now writers.old lost.old out.old) × (32 ≤ s.code) × (s.code ≤ last_tracker) }
     ensures { left_of result pens.now writers.new lost.new out.new
-        ≡ coded places (call_of_code s.code) s (lent_of head pens.now writers.old lost.old out.old) }
+        ≡ coded head.places (call_of_code s.code) s (lent_of head pens.now writers.old lost.old out.old) }
 {
     let c = call_codes::tracker_call(s.code);
-    if !lent_state::state_ok(head, pens, writers, lost, places) {
+    if !lent_state::state_ok(head, pens, writers, lost) {
         return answers::refused(3, head);
     }
     writer_calls::tracker_turn(c, s, head, writers, lost, out)
@@ -64,16 +61,14 @@ pub fn joined(
     writers: &mut [u8],
     lost: &mut [u8],
     out: &mut [u8],
-    places: usize,
 ) -> Called
-    requires { (length pens.old ≡ places * 512) × (length writers.old ≡ 5120) × (length lost.old ≡ 4096) × (length out.old ≡ 4096)
-        × (48 ≤ s.code) × (s.code ≤ last_joined) × (head.places ≡ places) × (places ≤ 128) }
+    requires { Lengths (lent_of head pens.old writers.old lost.old out.old) × (48 ≤ s.code) × (s.code ≤ last_joined) }
     ensures { left_of result pens.new writers.new lost.new out.new
-        ≡ coded places (call_of_code s.code) s (lent_of head pens.old writers.old lost.old out.old) }
+        ≡ coded head.places (call_of_code s.code) s (lent_of head pens.old writers.old lost.old out.old) }
 {
     let c = call_codes::joined_call(s.code);
-    if !lent_state::state_ok(head, pens, writers, lost, places) {
+    if !lent_state::state_ok(head, pens, writers, lost) {
         return answers::refused(3, head);
     }
-    joined_calls::joined_turn(c, s, head, pens, writers, lost, out, places)
+    joined_calls::joined_turn(c, s, head, pens, writers, lost, out)
 }

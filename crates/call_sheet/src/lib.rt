@@ -1,7 +1,7 @@
 // A call's sheet: its 256 bytes as fields, and the refusals that the sheet alone decides.
 #![tactic(auto)]
 
-ghost use Rattle.std.specs.Prelude.{◌≡◌, true, [], ◌∷◌, ◌+◌, ◌≤◌, ◌<◌, min, length, take, drop};
+ghost use Rattle.std.specs.Prelude.{◌≡◌, true, [], ◌∷◌, ◌≤◌, ◌<◌, length};
 ghost use Rattle.model.specs.InstanceRecord.{flag};
 ghost use Rattle.model.specs.Calls.{instances};
 ghost use Rattle.model.specs.Refusals.{used, with_time, optional, times_used_by, nanoseconds_ok, holder_used_by, holder_fits, sheet_refusal, clocks_with, kind_with};
@@ -13,21 +13,14 @@ ghost use Rattle.model.specs.WellFormed.{clock_ok};
 
 use model::{ClockUse, FieldUse, Holder, InstanceCall, InstanceHandle, MaybeTime, Sheet};
 
-// The first n bytes from index 84, zeros behind them.
-fn holder_bytes(s: &[u8], n: usize) -> [u8; 144]
-    requires { (n ≤ 144) × (length s.now ≡ 256) }
-    ensures { result ≡ padded (take n (drop 84 s.now)) }
+// The bytes, zeros behind them.
+fn padded(bytes: &[u8]) -> [u8; 144]
+    requires { length bytes.now ≤ 144 }
+    ensures { result ≡ padded bytes.now }
 {
-    let mut bytes = [0u8; 144];
-    octets::copy(s, 84, &mut bytes, 0, n);
-    bytes
-}
-
-// The smaller of the holder's length and its places.
-fn held(len: u16) -> usize
-    ensures { result ≡ min len 144 }
-{
-    if len < 144 { len as usize } else { 144 }
+    let mut all = [0u8; 144];
+    all[..bytes.len()].copy_from_slice(bytes);
+    all
 }
 
 // The holder on the sheet.
@@ -36,12 +29,11 @@ fn read_holder(s: &[u8], present: bool) -> Holder
     ensures { result ≡ holder_on s.now present }
 {
     let len = octets::get_u16(s, 82);
-    let n = held(len);
-    let bytes = holder_bytes(s, n);
+    let end = 84 + usize::from(len.min(144));
     Holder {
-        present: present,
-        len: len,
-        bytes: bytes,
+        present,
+        len,
+        bytes: padded(&s[84..end]),
     }
 }
 
@@ -54,23 +46,18 @@ fn has_bit(bits: u8, w: u8) -> bool
 }
 
 // The fields of a sheet.
+#[tactic(auto, unfolding(model::specs::Sheets::sheet_of))]
 pub fn read_sheet(s: &[u8]) -> Sheet
     requires { length s.now ≡ 256 }
     ensures { result ≡ sheet_of s.now }
 {
     let bits = octets::get_u8(s, 80);
-    let key = guid::guid_at(s, 0);
-    let guid = guid::guid_at(s, 16);
-    let handle = InstanceHandle(octets::get_u64(s, 32));
-    let time_1 = instance_decoding::read_time(s, 40, has_bit(bits, 128));
-    let time_2 = instance_decoding::read_time(s, 48, true);
-    let holder = read_holder(s, has_bit(bits, 16));
     Sheet {
-        key: key,
-        guid: guid,
-        handle: handle,
-        time_1: time_1,
-        time_2: time_2,
+        key: guid::guid_at(s, 0),
+        guid: guid::guid_at(s, 16),
+        handle: InstanceHandle(octets::get_u64(s, 32)),
+        time_1: instance_decoding::read_time(s, 40, has_bit(bits, 128)),
+        time_2: instance_decoding::read_time(s, 48, true),
         a: octets::get_u64(s, 56),
         b: octets::get_u64(s, 64),
         first: octets::get_u32(s, 72),
@@ -81,13 +68,14 @@ pub fn read_sheet(s: &[u8]) -> Sheet
         by_source: has_bit(bits, 4),
         kind: bits % 4,
         code: octets::get_u8(s, 81),
-        holder: holder,
+        holder: read_holder(s, has_bit(bits, 16)),
     }
 }
 
 // ---- what the sheet alone decides
 
 // Nanoseconds below 10^9.
+#[tactic(auto, unfolding(model::specs::Tables::all))]
 pub fn nanoseconds_ok(t: MaybeTime) -> bool
     ensures { result ≡ all nanoseconds_ok (t ∷ []) }
 {
@@ -95,23 +83,19 @@ pub fn nanoseconds_ok(t: MaybeTime) -> bool
 }
 
 // The same of a time that is used where its presence bit is set.
+#[tactic(auto, unfolding(model::specs::Tables::all))]
 pub fn optional_ok(t: MaybeTime) -> bool
     ensures { result ≡ all nanoseconds_ok (optional t) }
 {
-    if t.present {
-        return nanoseconds_ok(t);
-    }
-    true
+    !t.present || nanoseconds_ok(t)
 }
 
 // The same of two times.
+#[tactic(auto, unfolding(model::specs::Tables::all))]
 pub fn both_ok(t: MaybeTime, u: MaybeTime) -> bool
     ensures { result ≡ all nanoseconds_ok (t ∷ u ∷ []) }
 {
-    if nanoseconds_ok(t) {
-        return nanoseconds_ok(u);
-    }
-    false
+    nanoseconds_ok(t) && nanoseconds_ok(u)
 }
 
 // A field is used, as the call's row says of it and its presence bit.
@@ -126,49 +110,33 @@ fn is_used(k: FieldUse, present: bool) -> bool
 }
 
 // Nanoseconds below 10^9 where the time is used.
+#[tactic(auto, unfolding(model::specs::Tables::all))]
 fn time_ok(k: FieldUse, t: MaybeTime) -> bool
     ensures { result ≡ all nanoseconds_ok (with_time k t []) }
 {
-    if is_used(k, t.present) {
-        return nanoseconds_ok(t);
-    }
-    true
+    !is_used(k, t.present) || nanoseconds_ok(t)
 }
 
 // The times that a call on instances uses.
 pub fn times_ok(c: InstanceCall, s: Sheet) -> bool
     ensures { result ≡ all nanoseconds_ok (times_used_by c s) }
 {
-    let r = instance_rules::rule_of(c);
-    let k = r.time_1;
-    let l = r.time_2;
-    let t = s.time_1;
-    let u = s.time_2;
-    if time_ok(k, t) {
-        return time_ok(l, u);
-    }
-    false
+    let rule = instance_rules::rule_of(c);
+    time_ok(rule.time_1, s.time_1) && time_ok(rule.time_2, s.time_2)
 }
 
 // A call on instances takes the holder.
 fn holder_used(c: InstanceCall, s: Sheet) -> bool
     ensures { result ≡ holder_used_by c s }
 {
-    let r = instance_rules::rule_of(c);
-    let k = r.holder;
-    let h = s.holder;
-    is_used(k, h.present)
+    is_used(instance_rules::rule_of(c).holder, s.holder.present)
 }
 
 // A holder that the call takes has at most 144 bytes.
 pub fn holder_fits(c: InstanceCall, s: Sheet) -> bool
     ensures { result ≡ holder_fits (instances c) s }
 {
-    let h = s.holder;
-    if holder_used(c, s) {
-        return h.len <= 144;
-    }
-    true
+    !holder_used(c, s) || s.holder.len <= 144
 }
 
 // The number of the refusal that the sheet of a call on instances meets, 0 for none.
@@ -185,6 +153,7 @@ pub fn instance_refusal(c: InstanceCall, s: Sheet) -> u8
 }
 
 // A clock below 2^62.
+#[tactic(auto, unfolding(model::specs::Tables::all))]
 pub fn clock_ok(clock: u64) -> bool
     ensures { result ≡ all clock_ok (clock ∷ []) }
 {
@@ -192,19 +161,15 @@ pub fn clock_ok(clock: u64) -> bool
 }
 
 // Clock A, and the lease in B where its bit is set.
+#[tactic(auto, unfolding(model::specs::Tables::all))]
 fn lease_ok(s: Sheet) -> bool
     ensures { result ≡ all clock_ok (clocks_with ClockAndLease s) }
 {
-    if !clock_ok(s.a) {
-        return false;
-    }
-    if s.lease_present {
-        return clock_ok(s.b);
-    }
-    true
+    clock_ok(s.a) && (!s.lease_present || clock_ok(s.b))
 }
 
 // The clocks and leases that a call on writers uses, by its column.
+#[tactic(auto, unfolding(model::specs::Tables::all))]
 pub fn clocks_ok(used: ClockUse, s: Sheet) -> bool
     ensures { result ≡ all clock_ok (clocks_with used s) }
 {
@@ -219,8 +184,5 @@ pub fn clocks_ok(used: ClockUse, s: Sheet) -> bool
 pub fn kind_ok(matches: bool, s: Sheet) -> bool
     ensures { result ≡ kind_with matches s }
 {
-    if matches {
-        return s.kind != 3;
-    }
-    true
+    !matches || s.kind != 3
 }

@@ -6,7 +6,7 @@
 // lent as head and buffers and every call behind one entry.
 #![tactic(auto)]
 
-ghost use Rattle.std.specs.Prelude.{cond, List, [], ◌≡◌, ℕ, ◌*◌, ◌≤◌, length};
+ghost use Rattle.std.specs.Prelude.{cond, List, [], ◌≡◌, ℕ};
 ghost use Rattle.model.specs.Call.{coded, call_of, lent_of, left_of};
 ghost use Rattle.model.specs.Calls.{call_of_code};
 ghost use Rattle.model.specs.State.{places_in};
@@ -15,13 +15,14 @@ ghost use Rattle.read_answers.specs.Cases.{decision_answer, handle_answer, time_
 ghost use Rattle.instance_reads.specs.HolderPlaces.{holder_place, bytes_at};
 ghost use Rattle.key_hash.specs.KeyHash.{key_hash_of};
 ghost use Rattle.wire_time.specs.WireTime.{wire_fraction_of, nanos_of};
+ghost use Rattle.call_ranges.specs.Lengths.{Lengths};
 ghost use Rattle.dcps.specs.Fresh.{fresh_head, fresh_of};
 
 use instance_reads::HolderPlace;
 use key_hash::KeyHashed;
 use model::{
     Called, ChangesRead, Decision, FoundHandle, FoundTime, Guid, Head, InstanceHandle,
-    LAST_INSTANCE, LAST_JOINED, LAST_TRACKER, LastWriter, Listing, Sheet, StatusRead, Time,
+    LAST_INSTANCE, LAST_JOINED, LAST_TRACKER, Listing, Sheet, StatusRead, Time,
 };
 use wire_time::WireFraction;
 
@@ -35,18 +36,15 @@ fn coded(
     writers: &mut [u8],
     lost: &mut [u8],
     out: &mut [u8],
-    places: usize,
 ) -> Called
-    requires { (length pens.old ≡ places * 512) × (length writers.old ≡ 5120) × (length lost.old ≡ 4096) × (length out.old ≡ 4096)
-        × (head.places ≡ places) × (places ≤ 128) }
+    requires { Lengths (lent_of head pens.old writers.old lost.old out.old) }
     ensures { left_of result pens.new writers.new lost.new out.new
-        ≡ coded places (call_of_code s.code) s (lent_of head pens.old writers.old lost.old out.old) }
+        ≡ coded head.places (call_of_code s.code) s (lent_of head pens.old writers.old lost.old out.old) }
 {
-    let code = s.code;
-    match code {
-        1..=LAST_INSTANCE => call_ranges::instances(s, head, pens, writers, lost, out, places),
-        32..=LAST_TRACKER => call_ranges::tracker(s, head, pens, writers, lost, out, places),
-        48..=LAST_JOINED => call_ranges::joined(s, head, pens, writers, lost, out, places),
+    match s.code {
+        1..=LAST_INSTANCE => call_ranges::instances(s, head, pens, writers, lost, out),
+        32..=LAST_TRACKER => call_ranges::tracker(s, head, pens, writers, lost, out),
+        48..=LAST_JOINED => call_ranges::joined(s, head, pens, writers, lost, out),
         _ => answers::refused(2, head),
     }
 }
@@ -63,11 +61,10 @@ pub fn call(
     ensures { left_of result pens.new writers.new lost.new out.new
         ≡ call_of sheet.now (lent_of head pens.old writers.old lost.old out.old) }
 {
-    let figure = head.places;
-    if !instance_places::figure_ok(figure) {
+    if !instance_places::figure_ok(head.places) {
         return answers::refused(3, head);
     }
-    let places = figure as usize;
+    let places = head.places as usize;
     if sheet.len() != 256 {
         return answers::refused(1, head);
     }
@@ -78,7 +75,7 @@ pub fn call(
         return answers::refused(1, head);
     }
     let s = call_sheet::read_sheet(sheet);
-    coded(s, head, pens, writers, lost, out, places)
+    coded(s, head, pens, writers, lost, out)
 }
 
 // ---- the fresh state
@@ -96,9 +93,9 @@ fn fresh_head(places: u16) -> Head
         not_alive: 0,
         alive_change: 0,
         not_alive_change: 0,
-        last_writer: LastWriter::Nobody,
+        last_writer: None,
         changes: 0,
-        places: places,
+        places,
     }
 }
 

@@ -57,10 +57,10 @@ module _ (head : List ℕ) where
   unfolding boundary_status
   status_untold answer n h e = rw (ne_eqb (length answer) 72 h, e)
 
-  pub status_told : (answer b : List ℕ) (a : Answer) → length answer ≡ 72 → a ≡ status_of head → b ≡ answer_bytes a →
-      told_of a.number b ≡ boundary_status head answer
+  pub status_told : (answer b : List ℕ) (a : Answer) {m : ℕ} → length answer ≡ 72 → m ≡ a.number → a ≡ status_of head →
+      b ≡ answer_bytes a → told_of m b ≡ boundary_status head answer
   unfolding boundary_status
-  status_told answer b a n ea eb = rw (eq-eqb (length answer) 72 n, eb, ea)
+  status_told answer b a n em ea eb = rw (eq-eqb (length answer) 72 n, em, eb, ea)
 
   pub changes_short : {a : ReadAnswer} → (length head ≡ 64 → ⊥) → a ≡ refused_answer 1 → a ≡ changes_of head
   unfolding changes_of

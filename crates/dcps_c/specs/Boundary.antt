@@ -1,9 +1,8 @@
 -- The C boundary: head, sheet, buffers and answer as bytes, one function on bytes for every input.
-use Rattle.std.specs.Prelude.{ℕ, cond, List, [], eqb, pos, length}
+use Rattle.std.specs.Prelude.{ℕ, cond, List, [], eqb, pos, length, None}
 use Rattle.std.proofs.Math.Option.{Option, none, some}
 use Rattle.model.specs.declared.Called.{Called}
 use Rattle.model.specs.declared.Head.{Head}
-use Rattle.model.specs.declared.LastWriter.TheVariants.{Nobody}
 use Rattle.model.specs.Call.{Left, refuse, call_of, lent_of}
 use Rattle.model.specs.Calls.{Call, call_of_code}
 use Rattle.model.specs.Refusals.{lengths_ok}
@@ -98,7 +97,7 @@ no_head places =
       not_alive = 0;
       alive_change = pos 0;
       not_alive_change = pos 0;
-      last_writer = Nobody;
+      last_writer = None;
       changes = 0;
       places = places;
     }

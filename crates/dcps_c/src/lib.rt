@@ -19,7 +19,7 @@ ghost use Rattle.dcps_c.specs.Boundary.{crossed_of, head_or, no_head, unanswered
 ghost use Rattle.dcps_c.specs.Reads.{guid_of, time_at, status_of, boundary_status, changes_of, boundary_changes, told_list, boundary_left, place_answer};
 ghost use Rattle.dcps_c.specs.Version.{version_number};
 
-use model::{Answer, Called, Guid, Head, InstanceHandle, LastWriter, StatusRead, Time};
+use model::{Answer, Called, Guid, Head, InstanceHandle, StatusRead, Time};
 use read_answers::ReadAnswer;
 
 // ---- the version
@@ -47,71 +47,60 @@ fn no_head(places: u16) -> Head
         not_alive: 0,
         alive_change: 0,
         not_alive_change: 0,
-        last_writer: LastWriter::Nobody,
+        last_writer: None,
         changes: 0,
-        places: places,
+        places,
     }
 }
 
 // The head of its bytes; where they are no head's, one that is refused as 3, in its turn, and has their figure.
-fn lent_head(head: &[u8]) -> Head
-    requires { length head.now ≡ 64 }
+fn lent_head(head: &[u8; 64]) -> Head
     ensures { result ≡ head_or head.now }
 {
-    if !boundary::head_laid(head) {
-        return no_head(octets::get_u16(head, 30));
+    if boundary::head_laid(head) {
+        boundary::read_head(head)
+    } else {
+        no_head(octets::get_u16(head, 30))
     }
-    boundary::read_head(head)
 }
 
 // A refusal: the number, and zeros.
-fn refuse(answer: &mut [u8], number: u8) -> u32
-    requires { length answer.old ≡ 72 }
+fn refuse(answer: &mut [u8; 72], number: u8) -> u32
     ensures number { result ≡ number }
     ensures bytes { answer.new ≡ answer_bytes (refused_with number) }
 {
-    let a = answers::refused_with(number);
-    boundary::write_answer(answer, a);
-    number as u32
+    boundary::write_answer(answer, answers::refused_with(number));
+    u32::from(number)
 }
 
 // On number 0 the new head.
-fn write_new_head(head: &mut [u8], r: Called)
-    requires { length head.old ≡ 64 }
+fn write_new_head(head: &mut [u8; 64], r: Called)
     ensures { head.new ≡ called_head r head.old }
 {
-    let a = r.answer;
-    let h = r.head;
-    if a.number != 0 {
-        return;
+    if r.answer.number == 0 {
+        boundary::write_head(head, r.head);
     }
-    boundary::write_head(head, h);
 }
 
 // The answer, and on number 0 the new head.
-fn settle(head: &mut [u8], answer: &mut [u8], r: Called) -> u32
-    requires { (length head.old ≡ 64) × (length answer.old ≡ 72) }
+fn settle(head: &mut [u8; 64], answer: &mut [u8; 72], r: Called) -> u32
     ensures number { result ≡ r.answer.number }
     ensures head { head.new ≡ called_head r head.old }
     ensures answer { answer.new ≡ answer_bytes r.answer }
 {
-    let a = r.answer;
-    boundary::write_answer(answer, a);
+    boundary::write_answer(answer, r.answer);
     write_new_head(head, r);
-    a.number as u32
+    u32::from(r.answer.number)
 }
 
 // The number where an answer has another length, so that nothing is written: 3 by the head's figure, else 1.
 fn unanswered(head: &[u8]) -> u32
     ensures { result ≡ unanswered head.now }
 {
-    if head.len() != 64 {
-        return 1;
+    match head.as_array::<64>() {
+        Some(head) if !instance_places::figure_ok(octets::get_u16(head, 30)) => 3,
+        _ => 1,
     }
-    if instance_places::figure_ok(octets::get_u16(head, 30)) {
-        return 1;
-    }
-    3
 }
 
 // ---- every call
@@ -130,14 +119,13 @@ pub extern "C" fn dcps_call(
     ensures { crossed_of result head.new pens.new writers.new lost.new out.new answer.new
         ≡ boundary_call head.old sheet.now pens.old writers.old lost.old out.old answer.old }
 {
-    if answer.len() != 72 {
+    let Some(answer) = answer.as_mut_array::<72>() else {
         return unanswered(head);
-    }
-    if head.len() != 64 {
+    };
+    let Some(head) = head.as_mut_array::<64>() else {
         return refuse(answer, 1);
-    }
-    let h = lent_head(head);
-    let r = dcps::call(h, sheet, pens, writers, lost, out);
+    };
+    let r = dcps::call(lent_head(head), sheet, pens, writers, lost, out);
     settle(head, answer, r)
 }
 
@@ -154,13 +142,12 @@ pub extern "C" fn dcps_fresh(
     ensures { crossed_of result head.new pens.new writers.new lost.new [] []
         ≡ boundary_fresh head.old pens.old writers.old lost.old }
 {
-    if head.len() != 64 {
+    let Some(head) = head.as_mut_array::<64>() else {
         return 1;
-    }
+    };
     let r = dcps::fresh(pens, writers, lost);
-    let a = r.answer;
     write_new_head(head, r);
-    a.number as u32
+    u32::from(r.answer.number)
 }
 
 // ---- reads of the head
@@ -179,11 +166,10 @@ fn status_answer(s: StatusRead) -> Answer
 fn status_of(head: &[u8]) -> Answer
     ensures { result ≡ status_of head.now }
 {
-    if head.len() != 64 {
-        return answers::refused_with(1);
+    match head.as_array::<64>() {
+        Some(head) => status_answer(dcps::status(lent_head(head))),
+        None => answers::refused_with(1),
     }
-    let h = lent_head(head);
-    status_answer(dcps::status(h))
 }
 
 // The liveliness status (DDS 1.4, 2.2.4.1) that the head holds, which it leaves as it is.
@@ -196,18 +182,17 @@ pub extern "C" fn dcps_status(head: &[u8], answer: &mut [u8]) -> u32
     }
     let a = status_of(head);
     boundary::write_answer(answer, a);
-    a.number as u32
+    u32::from(a.number)
 }
 
 // The changes of a head's bytes.
 fn changes_of(head: &[u8]) -> ReadAnswer
     ensures { result ≡ changes_of head.now }
 {
-    if head.len() != 64 {
-        return boundary_reads::refused_answer(1);
+    match head.as_array::<64>() {
+        Some(head) => boundary_reads::changes_answer(dcps::changes(lent_head(head))),
+        None => boundary_reads::refused_answer(1),
     }
-    let h = lent_head(head);
-    boundary_reads::changes_answer(dcps::changes(h))
 }
 
 // How many changes of class the head has counted.
@@ -239,10 +224,7 @@ pub extern "C" fn dcps_should_deliver_under_time_based_filter(
         ≡ told (decision_answer (filter_read (places_in pens.now) pens.now (guid_of high low) (time_at sec nanosec) min_separation)) answer.old }
 {
     let key = Guid { hi: high, lo: low };
-    let time = Time {
-        sec: sec,
-        nanosec: nanosec,
-    };
+    let time = Time { sec, nanosec };
     let d = dcps::should_deliver_under_time_based_filter(pens, key, time, min_separation);
     boundary_reads::tell(answer, boundary_reads::decision_answer(d))
 }
@@ -262,10 +244,7 @@ pub extern "C" fn dcps_should_deliver_under_destination_order(
         ≡ told (decision_answer (order_read (places_in pens.now) pens.now (guid_of high low) (time_at sec nanosec) (not (eqb by_source 0)))) answer.old }
 {
     let key = Guid { hi: high, lo: low };
-    let time = Time {
-        sec: sec,
-        nanosec: nanosec,
-    };
+    let time = Time { sec, nanosec };
     let d = dcps::should_deliver_under_destination_order(pens, key, time, by_source != 0);
     boundary_reads::tell(answer, boundary_reads::decision_answer(d))
 }

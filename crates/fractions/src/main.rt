@@ -31,10 +31,8 @@ fn line(rt: &impl Print, m: u64) -> io::Result<()>
 
 // All 1,000, a line for each.
 fn entries(rt: &impl Print) -> io::Result<()> {
-    let mut m = 0;
-    while m < 1000 {
+    for m in 0..1000 {
         line(rt, m)?;
-        m += 1;
     }
     Ok(())
 }

@@ -6,12 +6,15 @@
 --     digits-eq             equal numbers have equal digits
 --     eqb_low, eqb_high     the test of two numbers is that of the low digits where the high ones agree, else false
 --     ltb_low               the same of their order
+--     eqb-digits, ltb-digits     the derived tests of two pairs of digits are those of the numbers
 use mathlib.Core.Path.{◌≡◌, refl, sym, ap, ◌∙◌}
-use mathlib.Core.Bool.{Bool, true, false}
+use mathlib.Core.Bool.{Bool, true, false, ◌&&◌, cond}
 use Prim.Native.Nat.{ℕ, ◌+◌, ◌*◌, ◌/◌, ◌<◌}
-use native.Mathlib.Nat.{add-zero, suc-mul, mul_assoc, mul-le-mul_right, mul-add-div_right, div-eq_of_lt}
+use native.Mathlib.Nat.{le_of_lt, add-zero, suc-mul, mul_assoc, mul-le-mul_right, mul-add-div_right, div-eq_of_lt}
 use native.Mathlib.Omega.{arith}
 use lib.Dec.{eqb, ltb}
+use Rattle.std.proofs.Common.{Some, Less, Equal, Greater}
+use Rattle.std.specs.Ordering.{nat_cmp, is_lt, is_some_and, partial_ordering_then}
 use borrow.Author.Tests.{eqb-true, eqb-false, ltb-true, ltb-false, eq-eqb, ne_eqb, lt-ltb, le-ltb}
 
 module _ (m : ℕ) {h h' l : ℕ} (l' : ℕ) where
@@ -46,3 +49,24 @@ module _ (m h h' l l' : ℕ) where
       each : (t : Bool) → ltb l l' ≡ t → ltb (h * m + l) (h' * m + l') ≡ t
       each true q = lt-ltb (h * m + l) (h' * m + l') (omega (arith, ap (λ (k : ℕ). k * m) e, ltb-true l l' q))
       each false q = le-ltb (h * m + l) (h' * m + l') (omega (arith, ap (λ (k : ℕ). k * m) e, ltb-false l l' q))
+
+  low : (t u : Bool) → is_some_and is_lt (Some (cond t Less (cond u Equal Greater))) ≡ t
+  low true u = refl
+  low false true = refl
+  low false false = refl
+
+  -- the derived tests: the high digits decide, and where they agree the low ones
+  pub eqb-digits : l < m → l' < m → (eqb h h' && eqb l l') ≡ eqb (h * m + l) (h' * m + l')
+  eqb-digits p p' = each (eqb h h') refl
+    where
+      each : (t : Bool) → eqb h h' ≡ t → (t && eqb l l') ≡ eqb (h * m + l) (h' * m + l')
+      each true q = sym (eqb_low (eqb-true h h' q))
+      each false q = sym (eqb_high p p' (eqb-false h h' q))
+
+  pub ltb-digits : l < m → l' < m → is_some_and is_lt (partial_ordering_then (Some (nat_cmp h h')) (Some (nat_cmp l l'))) ≡ ltb (h * m + l) (h' * m + l')
+  ltb-digits p p' = each (ltb h h') (eqb h h') refl refl
+    where
+      each : (t u : Bool) → ltb h h' ≡ t → eqb h h' ≡ u → is_some_and is_lt (partial_ordering_then (Some (cond t Less (cond u Equal Greater))) (Some (nat_cmp l l'))) ≡ ltb (h * m + l) (h' * m + l')
+      each true u q r = sym (lt-ltb (h * m + l) (h' * m + l') (digit_lt m l' p (ltb-true h h' q)))
+      each false true q r = low (ltb l l') (eqb l l') ∙ sym (ltb_low (eqb-true h h' r))
+      each false false q r = sym (le-ltb (h * m + l) (h' * m + l') (le_of_lt (digit_lt m l p' (omega (arith, ltb-false h h' q, eqb-false h h' r)))))

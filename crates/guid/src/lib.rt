@@ -14,7 +14,7 @@ pub fn guid_at(s: &[u8], at: usize) -> Guid
 {
     let hi = octets::get_u64(s, at);
     let lo = octets::get_u64(s, at + 8);
-    Guid { hi: hi, lo: lo }
+    Guid { hi, lo }
 }
 
 // The 16 bytes of g are written from at.
@@ -30,33 +30,21 @@ pub fn put_guid(s: &mut [u8], at: usize, g: Guid)
 pub fn is_less(a: Guid, b: Guid) -> bool
     ensures { result ≡ less a b }
 {
-    if a.hi < b.hi {
-        return true;
-    }
-    if b.hi < a.hi {
-        return false;
-    }
-    a.lo < b.lo
+    a < b
 }
 
 // Whether a and b are the same 16 bytes.
 pub fn is_same(a: Guid, b: Guid) -> bool
     ensures { result ≡ same a b }
 {
-    if a.hi != b.hi {
-        return false;
-    }
-    a.lo == b.lo
+    a == b
 }
 
 // Whether a and b share their first 12 bytes, the prefix of their participant.
 pub fn same_prefix(a: Guid, b: Guid) -> bool
     ensures { result ≡ same_prefix a b }
 {
-    if a.hi != b.hi {
-        return false;
-    }
-    a.lo / 4294967296 == b.lo / 4294967296
+    a.hi == b.hi && a.lo / 4294967296 == b.lo / 4294967296
 }
 
 // The GUID of zeros, which stands where none is present.

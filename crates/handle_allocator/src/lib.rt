@@ -30,10 +30,10 @@ pub fn allocate(a: &mut InstanceHandleAllocator) -> InstanceHandle
 pub fn allocate_at(counter: u64) -> Allocated
     ensures { result ≡ allocated counter }
 {
-    let mut a = InstanceHandleAllocator { counter: counter };
+    let mut a = InstanceHandleAllocator { counter };
     let handle = allocate(&mut a);
     Allocated {
-        handle: handle,
+        handle,
         counter: a.counter,
     }
 }

@@ -1,16 +1,20 @@
 -- The test of a head by itself, from its parts in the order of the code, and the status of a head.
 --     sizes_by, alone_by     of the head
 --     status_made            the status that is put together
+--     publication_by         the last writer's handle, or another
 use Prim.Native.Nat.{◌+◌}
 use mathlib.Core.Bool.{Bool, ◌&&◌}
-use mathlib.Core.Path.{◌≡◌, sym}
+use mathlib.Core.Path.{◌≡◌, sym, ◌∙◌}
 use lib.Dec.{leb, ltb}
 use lib.IntN.{ℤ}
+use Rattle.std.specs.Prelude.{None, Some, MatchOption}
+use Rattle.model.specs.declared.Guid.{Guid}
 use Rattle.model.specs.declared.Head.{Head}
 use Rattle.model.specs.declared.InstanceHandle.{InstanceHandle}
 use Rattle.model.specs.declared.LivelinessChangedStatus.{LivelinessChangedStatus}
 use Rattle.model.specs.Reads.{head_alone, head_status}
-use Rattle.model.specs.State.{figure_ok}
+use Rattle.model.specs.Handles.{handle, from_guid}
+use Rattle.model.specs.State.{figure_ok, LastWriter}
 use Rattle.model.specs.WellFormed.{head_ok}
 use Rattle.model.specs.Writers.{publication}
 use Rattle.head_reads.specs.Sizes.{sizes_ok}
@@ -36,3 +40,8 @@ pub status_made : (h : Head) (a b : ℤ) (p : InstanceHandle) → a ≡ h.alive_
     }
     (head_status h)
 status_made h a b p d e f = rw (d, e, f)
+
+pub publication_by : (last : LastWriter) (none r : InstanceHandle) (P : Guid → Type 0) → none ≡ handle 0 → ((g : Guid) → P g → r ≡ from_guid g) →
+    MatchOption last (r ≡ none) P → r ≡ publication last
+publication_by None none r P e f m = m ∙ e
+publication_by (Some g) none r P e f m = f g m

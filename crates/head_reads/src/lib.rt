@@ -10,7 +10,7 @@ ghost use Rattle.model.specs.Reads.{head_alone, head_status, status_read, change
 ghost use Rattle.model.specs.Writers.{publication};
 ghost use Rattle.head_reads.specs.Sizes.{sizes_ok};
 
-use model::{ChangesRead, Head, InstanceHandle, LastWriter, LivelinessChangedStatus, StatusRead};
+use model::{ChangesRead, Guid, Head, InstanceHandle, LivelinessChangedStatus, StatusRead};
 
 // ---- the head
 
@@ -53,13 +53,10 @@ fn head_alone(h: Head) -> bool
 // ---- the reads
 
 // The handle of the last writer, nil where there is none.
-fn publication_handle(last: LastWriter) -> InstanceHandle
+fn publication_handle(last: Option<Guid>) -> InstanceHandle
     ensures { result ≡ publication last }
 {
-    match last {
-        LastWriter::Nobody => instance_handle::nil(),
-        LastWriter::Is(g) => instance_handle::from_guid(g),
-    }
+    last.map_or(instance_handle::nil(), instance_handle::from_guid)
 }
 
 // The liveliness status (DDS 1.4, 2.2.4.1) that the head holds, which it leaves as it is.

@@ -1,5 +1,5 @@
-// The 512 bytes of an instance, read into a struct by value. Each function works on one record, lent as a slice of its own,
-// so that the offsets are the document's; the last two take a whole table.
+// The 512 bytes of an instance, read into a struct by value. Each function works on one record, so that the offsets
+// are the document's; the last ones take a whole table.
 //
 // Derives from instance_tracker.rs of ZeroDDS.
 // Copyright 2026 ZeroDDS Contributors. SPDX-License-Identifier: Apache-2.0. Changed: written anew in Rattle, with the
@@ -34,174 +34,140 @@ pub fn read_time(s: &[u8], at: usize, present: bool) -> MaybeTime
     requires { at + 8 ≤ length s.now }
     ensures { result ≡ time_at s.now at present }
 {
-    let sec = octets::get_u32(s, at);
-    let nanosec = octets::get_u32(s, at + 4);
     MaybeTime {
-        present: present,
-        sec: sec,
-        nanosec: nanosec,
+        present,
+        sec: octets::get_u32(s, at),
+        nanosec: octets::get_u32(s, at + 4),
     }
 }
 
 // The lifecycle and the counts.
-fn read_life(s: &[u8], f: u16) -> Life
-    requires { length s.now ≡ 512 }
+fn read_life(s: &[u8; 512], f: u16) -> Life
     ensures { result ≡ life_of s.now f }
 {
-    let k = kind_of(f / 16384);
-    let d = octets::get_u32(s, 28);
-    let n = octets::get_u32(s, 32);
-    let w = octets::get_u32(s, 36);
-    let m = octets::get_u32(s, 40);
     Life {
-        kind: k,
+        kind: kind_of(f / 16384),
         view_new: f / 8192 % 2 == 1,
-        disposed_generations: d,
-        no_writers_generations: n,
-        writer_count: w,
-        samples: m,
+        disposed_generations: octets::get_u32(s, 28),
+        no_writers_generations: octets::get_u32(s, 32),
+        writer_count: octets::get_u32(s, 36),
+        samples: octets::get_u32(s, 40),
     }
 }
 
 // The six times.
-fn read_times(s: &[u8], f: u16) -> Times
-    requires { length s.now ≡ 512 }
+fn read_times(s: &[u8; 512], f: u16) -> Times
     ensures { result ≡ times_of s.now f }
 {
-    let a = read_time(s, 44, f / 4096 % 2 == 1);
-    let b = read_time(s, 52, f / 2048 % 2 == 1);
-    let c = read_time(s, 60, f / 1024 % 2 == 1);
-    let d = read_time(s, 68, f / 512 % 2 == 1);
-    let e = read_time(s, 76, f / 256 % 2 == 1);
-    let g = read_time(s, 84, f / 64 % 2 == 1);
     Times {
-        last_sample: a,
-        last_delivered: b,
-        last_filter: c,
-        disposed_at: d,
-        no_writers_at: e,
-        owner_at: g,
+        last_sample: read_time(s, 44, f / 4096 % 2 == 1),
+        last_delivered: read_time(s, 52, f / 2048 % 2 == 1),
+        last_filter: read_time(s, 60, f / 1024 % 2 == 1),
+        disposed_at: read_time(s, 68, f / 512 % 2 == 1),
+        no_writers_at: read_time(s, 76, f / 256 % 2 == 1),
+        owner_at: read_time(s, 84, f / 64 % 2 == 1),
     }
 }
 
 // The owner.
-fn read_owner(s: &[u8], f: u16) -> MaybeOwner
-    requires { length s.now ≡ 512 }
+fn read_owner(s: &[u8; 512], f: u16) -> MaybeOwner
     ensures { result ≡ owner_of s.now f }
 {
-    let g = guid::guid_at(s, 92);
-    let n = octets::get_u32(s, 108);
     MaybeOwner {
         present: f / 128 % 2 == 1,
-        guid: g,
-        strength: n,
+        guid: guid::guid_at(s, 92),
+        strength: octets::get_u32(s, 108),
     }
 }
 
 // The holder.
-fn read_holder(s: &[u8], f: u16) -> Holder
-    requires { length s.now ≡ 512 }
+fn read_holder(s: &[u8; 512], f: u16) -> Holder
     ensures { result ≡ holder_of s.now f }
 {
-    let n = octets::get_u16(s, 26);
-    let mut b = [0u8; 144];
-    octets::copy(s, 112, &mut b, 0, 144);
+    let mut bytes = [0; 144];
+    bytes.copy_from_slice(&s[112..256]);
     Holder {
         present: f / 32 % 2 == 1,
-        len: n,
-        bytes: b,
+        len: octets::get_u16(s, 26),
+        bytes,
     }
 }
 
 // The 16 GUIDs of the writer set.
-fn read_guids(s: &[u8]) -> [Guid; 16]
-    requires { length s.now ≡ 512 }
+fn read_guids(s: &[u8; 512]) -> [Guid; 16]
     ensures { result ≡ guids_in 16 (drop 256 s.now) }
 {
-    let z = Guid { hi: 0, lo: 0 };
-    let mut r = [z; 16];
-    let mut i: usize = 0;
-    while i < 16 {
-        let g = guid::guid_at(s, 256 + i * 16);
-        r[i] = g;
-        i += 1;
+    let mut guids = [guid::nil(); 16];
+    for i in 0..16 {
+        guids[i] = guid::guid_at(s, 256 + i * 16);
     }
-    r
+    guids
 }
 
 // The writer set.
-fn read_writers(s: &[u8], f: u16) -> WriterSet
-    requires { length s.now ≡ 512 }
+fn read_writers(s: &[u8; 512], f: u16) -> WriterSet
     ensures { result ≡ writer_set_of s.now f }
 {
-    let items = read_guids(s);
     WriterSet {
-        len: (f % 32) as usize,
-        items: items,
+        len: usize::from(f % 32),
+        items: read_guids(s),
     }
 }
 
 // All but key and handle, by the flags f.
-fn read_state(s: &[u8], f: u16) -> InstanceState
-    requires { length s.now ≡ 512 }
+fn read_state(s: &[u8; 512], f: u16) -> InstanceState
     ensures { result ≡ state_by s.now f }
 {
-    let life = read_life(s, f);
-    let times = read_times(s, f);
-    let owner = read_owner(s, f);
-    let holder = read_holder(s, f);
-    let writers = read_writers(s, f);
     InstanceState {
-        life: life,
-        times: times,
-        owner: owner,
-        holder: holder,
-        writers: writers,
+        life: read_life(s, f),
+        times: read_times(s, f),
+        owner: read_owner(s, f),
+        holder: read_holder(s, f),
+        writers: read_writers(s, f),
     }
 }
 
 // The key alone.
-pub fn read_key(s: &[u8]) -> Guid
-    requires { length s.now ≡ 512 }
+pub fn read_key(s: &[u8; 512]) -> Guid
     ensures { result ≡ (instance_of s.now).key }
 {
     guid::guid_at(s, 0)
 }
 
 // The handle alone.
-pub fn read_handle(s: &[u8]) -> InstanceHandle
-    requires { length s.now ≡ 512 }
+pub fn read_handle(s: &[u8; 512]) -> InstanceHandle
     ensures { result ≡ (instance_of s.now).handle }
 {
     InstanceHandle(octets::get_u64(s, 16))
 }
 
 // The whole instance.
-pub fn read_instance(s: &[u8]) -> Instance
-    requires { length s.now ≡ 512 }
+pub fn read_instance(s: &[u8; 512]) -> Instance
     ensures { result ≡ instance_of s.now }
 {
-    let key = read_key(s);
-    let handle = read_handle(s);
-    let f = octets::get_u16(s, 24);
-    let state = read_state(s, f);
     Instance {
-        key: key,
-        handle: handle,
-        state: state,
+        key: read_key(s),
+        handle: read_handle(s),
+        state: read_state(s, octets::get_u16(s, 24)),
     }
 }
 
 // ---- in a table
+
+// The bytes of record i of a table.
+pub fn record_at(t: &[u8], i: usize) -> &[u8; 512]
+    requires { i * 512 + 512 ≤ length t.now }
+    ensures { result.now ≡ record_at t.now i }
+{
+    <&[u8; 512]>::try_from(&t[i * 512..i * 512 + 512]).unwrap()
+}
 
 // Instance i of a table.
 pub fn instance_at(t: &[u8], i: usize) -> Instance
     requires { i * 512 + 512 ≤ length t.now }
     ensures { result ≡ instance_of (record_at t.now i) }
 {
-    let o = i * 512;
-    let e = o + 512;
-    read_instance(&t[o..e])
+    read_instance(record_at(t, i))
 }
 
 // The handle of instance i.
@@ -209,7 +175,5 @@ pub fn handle_at(t: &[u8], i: usize) -> InstanceHandle
     requires { i * 512 + 512 ≤ length t.now }
     ensures { result ≡ (instance_of (record_at t.now i)).handle }
 {
-    let o = i * 512;
-    let e = o + 512;
-    read_handle(&t[o..e])
+    read_handle(record_at(t, i))
 }

@@ -1,24 +1,18 @@
 -- What few bytes of a record tell of its owner and its writers.
---     same_low, same_high, same_halves       two GUIDs by their halves
---     prefix_low, prefix_high, prefix-same   their prefixes
---     less_high, less_low                    their order
 --     owner-other, owner-there               a test of the owner's GUID, and of the flags then
---     listed_none, listed_at, listed-missing without an owner, and what the search says of one
+--     prefix-other, prefix-there             a test of its participant
+--     listed_none, listed_by                 without an owner, and what the search says of one
 --     apart_high, apart_none, apart_low      the first writer is above a span, there is none, the last is below it
-use Prim.Native.Nat.{ℕ, zero, suc, ◌+◌, ◌-◌, ◌*◌, ◌/◌, ◌%◌, ◌^◌, ◌≤◌, ◌<◌}
-use mathlib.Core.Bool.{Bool, true, false, ◌&&◌, and-false, and-true}
+use Prim.Native.Nat.{ℕ, zero, suc, ◌+◌, ◌-◌, ◌*◌, ◌%◌, ◌≤◌, ◌<◌}
+use Rattle.std.specs.Prelude.{Result, Ok, Err, is_ok}
+use mathlib.Core.Bool.{true, false, and-false, and-true}
 use mathlib.Core.List.{List, [], ◌∷◌, map}
 use mathlib.Core.Logic.{inl, inr}
 use mathlib.Core.Path.{◌≡◌, refl, sym, ◌∙◌}
-use native.Mathlib.Nat.{le_of_lt}
 use native.Mathlib.Omega.{arith}
-use borrow.Author.Tests.{eq-eqb, ne_eqb, lt-ltb, le-ltb, ltb-true, ltb-false}
-use lib.Dec.{eqb, ltb}
+use borrow.Author.Tests.{ltb-true}
 use lib.ListN.{length, get_or, drop}
-use Rattle.octets.specs.Bounds.{Bytes}
 use Rattle.octets.specs.Lay.{All}
-use Rattle.octets.specs.Octets.{be}
-use Rattle.octets.proofs.BoundLaws.{be-lt}
 use Rattle.model.specs.declared.Guid.{Guid}
 use Rattle.model.specs.Guids.{num, less, same, same_prefix, guid_at, guid_of, guids_in, nil}
 use Rattle.model.specs.InstanceRecord.{flag, flags_at, instance_of}
@@ -28,9 +22,6 @@ use Rattle.model.specs.Sets.{has}
 use Rattle.model.specs.Tables.{find, is_some, rising, above as above_all}
 use Rattle.model.proofs.RowLaws.{get_read, length_read, take_read}
 use Rattle.model.proofs.Tests.{both, split}
-use Rattle.guid.proofs.Digits.{digit_lt, digits-eq, eqb_high, eqb_low, ltb_low}
-use Rattle.guid.proofs.Laws.{prefix-digits}
-use Rattle.tables.specs.declared.Found.TheVariants.{At, Missing}
 use Rattle.tables.specs.Found.{found_in}
 use Rattle.tables.specs.Keys.{keys}
 use Rattle.tables.proofs.Puts.{above_at}
@@ -42,83 +33,24 @@ use Rattle.instance_edits.specs.Losses.{owned_by}
 use Rattle.instance_edits.specs.Spans.{AllOutside}
 use Rattle.writer_set_bytes.proofs.SideBySide.{From, from_first}
 
--- ---- two GUIDs by their halves
+-- ---- the owner, by a test of its GUID and the flags
 
--- not below and not the same
-above : (a b : ℕ) → ltb a b ≡ false → (a ≡ b → ⊥) → b < a
-above a b e n = omega (arith, ltb-false a b e)
-
-module _ (a b : Guid) (fits : a.lo < 2 ^ 64) (fits' : b.lo < 2 ^ 64) where
-  pub same_low : (a.lo ≡ b.lo → ⊥) → same a b ≡ false
-  unfolding num
-  same_low n = ne_eqb (num a) (num b) (λ e. n (digits-eq (2 ^ 64) a.hi b.hi a.lo b.lo fits fits' e).1)
-
-  pub same_high : (a.hi ≡ b.hi → ⊥) → same a b ≡ false
-  unfolding num
-  same_high n = eqb_high (2 ^ 64) a.hi b.hi a.lo b.lo fits fits' n
-
-  pub prefix_high : (a.hi ≡ b.hi → ⊥) → same_prefix a b ≡ false
-  prefix_high n =
-      rw (prefix-digits a, prefix-digits b)
-      (eqb_high (2 ^ 32) a.hi b.hi (a.lo / 2 ^ 32) (b.lo / 2 ^ 32) (omega arith) (omega arith) n)
-
-  pub less_high : (a.hi ≡ b.hi → ⊥) → less a b ≡ ltb a.hi b.hi
-  unfolding num
-  less_high n =
-      split (ltb a.hi b.hi)
-      (λ e. rw e (lt-ltb (num a) (num b) (digit_lt (2 ^ 64) b.lo fits (ltb-true a.hi b.hi e))))
-      (λ e. rw e (le-ltb (num a) (num b) (le_of_lt (digit_lt (2 ^ 64) a.lo fits' (above a.hi b.hi e n)))))
-
-module _ (a b : Guid) (e : a.hi ≡ b.hi) where
-  pub same_halves : a.lo ≡ b.lo → same a b ≡ true
-  unfolding num
-  same_halves q = eqb_low (2 ^ 64) a.hi b.hi a.lo b.lo e ∙ eq-eqb a.lo b.lo q
-
-  pub prefix_low : same_prefix a b ≡ eqb (a.lo / 2 ^ 32) (b.lo / 2 ^ 32)
-  prefix_low = rw (prefix-digits a, prefix-digits b) (eqb_low (2 ^ 32) a.hi b.hi (a.lo / 2 ^ 32) (b.lo / 2 ^ 32) e)
-
-  pub less_low : less a b ≡ ltb a.lo b.lo
-  unfolding num
-  less_low = ltb_low (2 ^ 64) a.hi b.hi a.lo b.lo e
-
--- ---- the owner, by its halves and the flags
-
-false_and : (p b : Bool) → b ≡ false → false ≡ (p && b)
-false_and p b e = rw e (sym (and-false p))
-
-true_and : (p b : Bool) → b ≡ true → p ≡ (p && b)
-true_and p b e = rw e (sym (and-true p))
-
-module _ (r : List ℕ) (g : Guid) (bytes : Bytes r) (fits : g.lo < 2 ^ 64) where
-  pub owner_low : (be 8 r 100 ≡ g.lo → ⊥) → false ≡ owns g (instance_of r).state.owner
+module _ (r : List ℕ) (g a : Guid) (is : a ≡ guid_at r 92) where
+  pub owner-other : same a g ≡ false → false ≡ owns g (instance_of r).state.owner
   unfolding instance_of
-  owner_low n = false_and (flag 128 (flags_at r)) (same (guid_at r 92) g) (same_low (guid_at r 92) g (be-lt 8 r 100 bytes) fits n)
+  owner-other e = let q : same (guid_at r 92) g ≡ false = rw is at e in rw q (sym (and-false (flag 128 (flags_at r))))
 
-  pub owner_high : (be 8 r 92 ≡ g.hi → ⊥) → false ≡ owns g (instance_of r).state.owner
+  pub owner-there : same a g ≡ true → flag 128 (flags_at r) ≡ owns g (instance_of r).state.owner
   unfolding instance_of
-  owner_high n = false_and (flag 128 (flags_at r)) (same (guid_at r 92) g) (same_high (guid_at r 92) g (be-lt 8 r 100 bytes) fits n)
+  owner-there e = let q : same (guid_at r 92) g ≡ true = rw is at e in rw q (sym (and-true (flag 128 (flags_at r))))
 
-  pub participant_high : (be 8 r 92 ≡ g.hi → ⊥) → false ≡ owns_prefix g (instance_of r).state.owner
+  pub prefix-other : same_prefix a g ≡ false → false ≡ owns_prefix g (instance_of r).state.owner
   unfolding instance_of
-  participant_high n =
-      false_and (flag 128 (flags_at r)) (same_prefix (guid_at r 92) g) (prefix_high (guid_at r 92) g (be-lt 8 r 100 bytes) fits n)
+  prefix-other e = let q : same_prefix (guid_at r 92) g ≡ false = rw is at e in rw q (sym (and-false (flag 128 (flags_at r))))
 
-module _ (r : List ℕ) (g : Guid) (e : be 8 r 92 ≡ g.hi) where
-  pub owner-same : be 8 r 100 ≡ g.lo → flag 128 (flags_at r) ≡ owns g (instance_of r).state.owner
+  pub prefix-there : same_prefix a g ≡ true → flag 128 (flags_at r) ≡ owns_prefix g (instance_of r).state.owner
   unfolding instance_of
-  owner-same q = true_and (flag 128 (flags_at r)) (same (guid_at r 92) g) (same_halves (guid_at r 92) g e q)
-
-  pub participant_low : (be 8 r 100 / 2 ^ 32 ≡ g.lo / 2 ^ 32 → ⊥) → false ≡ owns_prefix g (instance_of r).state.owner
-  unfolding instance_of
-  participant_low n =
-      false_and (flag 128 (flags_at r)) (same_prefix (guid_at r 92) g)
-      (prefix_low (guid_at r 92) g e ∙ ne_eqb (be 8 r 100 / 2 ^ 32) (g.lo / 2 ^ 32) n)
-
-  pub participant_same : be 8 r 100 / 2 ^ 32 ≡ g.lo / 2 ^ 32 → flag 128 (flags_at r) ≡ owns_prefix g (instance_of r).state.owner
-  unfolding instance_of
-  participant_same q =
-      true_and (flag 128 (flags_at r)) (same_prefix (guid_at r 92) g)
-      (prefix_low (guid_at r 92) g e ∙ eq-eqb (be 8 r 100 / 2 ^ 32) (g.lo / 2 ^ 32) q)
+  prefix-there e = let q : same_prefix (guid_at r 92) g ≡ true = rw is at e in rw q (sym (and-true (flag 128 (flags_at r))))
 
 -- ---- the owner in a list
 
@@ -136,16 +68,22 @@ module _ (r : List ℕ) (n : ℕ) (t : List ℕ) (i : ℕ) where
   listed_none h = split (flag 128 (flags_at r)) (λ e. absurd (h e)) (λ e. rw e)
 
   module _ (h : flag 128 (flags_at r) ≡ true) where
-    pub listed_at : found_in (keys 16 n t) (num (guid_at r 92)) ≡ At i → true ≡ owned_by (guids_in n t) (instance_of r).state.owner
+    listed_at : found_in (keys 16 n t) (num (guid_at r 92)) ≡ Ok i → true ≡ owned_by (guids_in n t) (instance_of r).state.owner
     unfolding instance_of
     listed_at f =
         rw (h, has-find (guid_at r 92) (guids_in n t), find_at num (guids_in n t) (num (guid_at r 92)) i (rw (listed-keys n t) at f) nil)
 
-    pub listed-missing : rising num (guids_in n t) ≡ true → found_in (keys 16 n t) (num (guid_at r 92)) ≡ Missing i →
+    listed-missing : rising num (guids_in n t) ≡ true → found_in (keys 16 n t) (num (guid_at r 92)) ≡ Err i →
         false ≡ owned_by (guids_in n t) (instance_of r).state.owner
     unfolding instance_of
     listed-missing k f =
         rw (h, has-find (guid_at r 92) (guids_in n t), find_none num (guids_in n t) (num (guid_at r 92)) i k (rw (listed-keys n t) at f))
+
+-- whatever is found
+pub listed_by : (r : List ℕ) (n : ℕ) (t : List ℕ) → flag 128 (flags_at r) ≡ true → rising num (guids_in n t) ≡ true → (f : Result ℕ ℕ) →
+    found_in (keys 16 n t) (num (guid_at r 92)) ≡ f → is_ok f ≡ owned_by (guids_in n t) (instance_of r).state.owner
+listed_by r n t h k (Ok i) e = listed_at r n t i h e
+listed_by r n t h k (Err i) e = listed-missing r n t i h k e
 
 -- ---- the writers beside a span
 

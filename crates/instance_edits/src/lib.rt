@@ -8,16 +8,15 @@
 #![tactic(auto)]
 
 ghost use Rattle.std.specs.Prelude.{true, ◌≡◌, ◌+◌, ◌<◌, ◌≤◌, ◌%◌, length};
-ghost use Rattle.model.specs.Guids.{less, guid_at};
 ghost use Rattle.model.specs.InstanceRecord.{flag, flags_at, instance_of};
 ghost use Rattle.model.specs.Instances.{owns, owns_prefix, writers_in};
 ghost use Rattle.instance_edits.specs.Edits.{Formed, OwnerCleared, StrengthPut, WriterlessLeft, Settled, with_bit};
-ghost use Rattle.writer_set_bytes.specs.Lists.{gones_in, Listed};
+ghost use Rattle.writer_set_bytes.specs.Lists.{gones_in};
 ghost use Rattle.instance_edits.specs.Losses.{owned_by};
 ghost use Rattle.instance_edits.specs.Spans.{Outside, AllOutside};
 
 use model::{Guid, MaybeTime};
-use tables::Found;
+use writer_set_bytes::Gone;
 
 // The GUIDs from low to high.
 #[derive(Clone, Copy)]
@@ -28,18 +27,12 @@ pub struct Span {
 
 // ---- the owner
 
-// Whether the instance has that owner. Its entity comes first, which differs more often than its participant.
+// Whether the instance has that owner.
 pub fn owner_is(s: &[u8], g: Guid) -> bool
     requires { length s.now ≡ 512 }
     ensures { result ≡ owns g (instance_of s.now).state.owner }
 {
-    if octets::get_u64(s, 100) != g.lo {
-        return false;
-    }
-    if octets::get_u64(s, 92) != g.hi {
-        return false;
-    }
-    octets::get_u16(s, 24) / 128 % 2 == 1
+    guid::is_same(guid::guid_at(s, 92), g) && octets::get_u16(s, 24) / 128 % 2 == 1
 }
 
 // Whether the instance has an owner of that participant.
@@ -47,28 +40,19 @@ pub fn owner_of_prefix(s: &[u8], g: Guid) -> bool
     requires { length s.now ≡ 512 }
     ensures { result ≡ owns_prefix g (instance_of s.now).state.owner }
 {
-    if octets::get_u64(s, 92) != g.hi {
-        return false;
-    }
-    if octets::get_u64(s, 100) / 4294967296 != g.lo / 4294967296 {
-        return false;
-    }
-    octets::get_u16(s, 24) / 128 % 2 == 1
+    guid::same_prefix(guid::guid_at(s, 92), g) && octets::get_u16(s, 24) / 128 % 2 == 1
 }
 
 // Whether the instance has an owner that is in the list.
-pub fn owner_listed(s: &[u8], gone: &[u8], guesses: &[u8; 1024]) -> bool
-    requires { (length s.now ≡ 512) × Listed gone.now }
-    ensures { result ≡ owned_by (gones_in gone.now) (instance_of s.now).state.owner }
+pub fn owner_listed(s: &[u8], gone: &Gone) -> bool
+    requires { length s.now ≡ 512 }
+    ensures { result ≡ owned_by (gones_in gone.now.list.now) (instance_of s.now).state.owner }
 {
     if octets::get_u16(s, 24) / 128 % 2 == 0 {
         return false;
     }
     let g = guid::guid_at(s, 92);
-    match writer_set_bytes::find_listed(gone, guesses, g) {
-        Found::At(_) => true,
-        Found::Missing(_) => false,
-    }
+    writer_set_bytes::find_listed(gone.list, gone.guesses, g).is_ok()
 }
 
 // The owner is cleared; owner_at stays.
@@ -128,11 +112,9 @@ pub fn write_remainder(s: &mut [u8], n: usize, k: usize, at: MaybeTime) -> bool
     }
     let f = octets::get_u16(s, 24);
     let g = f - (n - k) as u16;
-    if k == 0 {
-        if f < 16384 {
-            leave_writerless(s, g, at);
-            return true;
-        }
+    if k == 0 && f < 16384 {
+        leave_writerless(s, g, at);
+        return true;
     }
     octets::put_u16(s, 24, g);
     false
@@ -140,46 +122,17 @@ pub fn write_remainder(s: &mut [u8], n: usize, k: usize, at: MaybeTime) -> bool
 
 // ---- beside a span
 
-// Whether the GUID at `at` stands before g: the low half is read only where the high ones are the same.
-fn is_before(s: &[u8], at: usize, g: Guid) -> bool
-    requires { at + 16 ≤ length s.now }
-    ensures { result ≡ less (guid_at s.now at) g }
-{
-    let a = octets::get_u64(s, at);
-    if a != g.hi {
-        return a < g.hi;
-    }
-    octets::get_u64(s, at + 8) < g.lo
-}
-
-// Whether the GUID at `at` stands behind g.
-fn is_behind(s: &[u8], at: usize, g: Guid) -> bool
-    requires { at + 16 ≤ length s.now }
-    ensures { result ≡ less g (guid_at s.now at) }
-{
-    let a = octets::get_u64(s, at);
-    if a != g.hi {
-        return g.hi < a;
-    }
-    g.lo < octets::get_u64(s, at + 8)
-}
-
 // Whether the writers of the record stand behind the span or before it: its first and its last tell, as they rise. Of most
 // records no other bytes are read.
 pub fn set_apart(s: &[u8], w: Span) -> bool
     requires { Formed s.now }
     ensures { result ≡ true → AllOutside w (writers_in (instance_of s.now).state) }
 {
-    let high = w.high;
-    if is_behind(s, 256, high) {
+    if guid::is_less(w.high, guid::guid_at(s, 256)) {
         return true;
     }
-    let n = (octets::get_u16(s, 24) % 32) as usize;
-    if n == 0 {
-        return true;
-    }
-    let low = w.low;
-    is_before(s, 240 + n * 16, low)
+    let n = usize::from(octets::get_u16(s, 24) % 32);
+    n == 0 || guid::is_less(guid::guid_at(s, 240 + n * 16), w.low)
 }
 
 // Whether the owner's GUID stands before the span or behind it, with an owner or without.
@@ -187,10 +140,6 @@ pub fn owner_apart(s: &[u8], w: Span) -> bool
     requires { length s.now ≡ 512 }
     ensures { result ≡ true → Outside w (instance_of s.now).state.owner.guid }
 {
-    let low = w.low;
-    if is_before(s, 92, low) {
-        return true;
-    }
-    let high = w.high;
-    is_behind(s, 92, high)
+    let owner = guid::guid_at(s, 92);
+    guid::is_less(owner, w.low) || guid::is_less(w.high, owner)
 }

@@ -21,15 +21,16 @@ use model::{
 // ---- a started instance
 
 // Alive, view-new, all else zero or absent.
+#[tactic(auto, unfolding(model::specs::Instances::started_state))]
 pub fn started_state() -> InstanceState
     ensures { result ≡ started_state }
 {
-    let no = MaybeTime {
+    let no_time = MaybeTime {
         present: false,
         sec: 0,
         nanosec: 0,
     };
-    let g = guid::nil();
+    let nil = guid::nil();
     InstanceState {
         life: Life {
             kind: InstanceStateKind::Alive,
@@ -40,16 +41,16 @@ pub fn started_state() -> InstanceState
             samples: 0,
         },
         times: Times {
-            last_sample: no,
-            last_delivered: no,
-            last_filter: no,
-            disposed_at: no,
-            no_writers_at: no,
-            owner_at: no,
+            last_sample: no_time,
+            last_delivered: no_time,
+            last_filter: no_time,
+            disposed_at: no_time,
+            no_writers_at: no_time,
+            owner_at: no_time,
         },
         owner: MaybeOwner {
             present: false,
-            guid: g,
+            guid: nil,
             strength: 0,
         },
         holder: Holder {
@@ -59,20 +60,20 @@ pub fn started_state() -> InstanceState
         },
         writers: WriterSet {
             len: 0,
-            items: [g; 16],
+            items: [nil; 16],
         },
     }
 }
 
 // The instance of a key with its handle, as a call starts it.
+#[tactic(auto, unfolding(model::specs::Instances::started))]
 pub fn started(key: Guid, handle: u64) -> Instance
     ensures { result ≡ started key handle }
 {
-    let x = started_state();
     Instance {
-        key: key,
+        key,
         handle: InstanceHandle(handle),
-        state: x,
+        state: started_state(),
     }
 }
 
@@ -83,34 +84,34 @@ pub fn take_effect(c: InstanceCall, s: Sheet, x: InstanceState) -> InstanceState
     requires { (on_every c ≡ false) × Usable x × ((rule c).adds_writer ≡ true → Room s.guid x) }
     ensures { effect c s x ≡ some result }
 {
-    let g = s.guid;
-    let t = s.time_1;
-    let n = s.second;
     match c {
         InstanceCall::Register => instance_lifecycle::registered(s, x),
         InstanceCall::EnsureRegisteredLimited => instance_lifecycle::ensured(x),
-        InstanceCall::Dispose => instance_lifecycle::disposed(if_present(t), x),
-        InstanceCall::Unregister => instance_lifecycle::unregistered(if_present(t), x),
+        InstanceCall::Dispose => instance_lifecycle::disposed(if_present(s.time_1), x),
+        InstanceCall::Unregister => instance_lifecycle::unregistered(if_present(s.time_1), x),
         InstanceCall::UnregisterWriter => instance_lifecycle::writer_unregistered(
-            g,
-            if_present(t),
+            s.guid,
+            if_present(s.time_1),
             x,
         ),
-        InstanceCall::NoteWriter => instance_fields::writer_noted(g, x),
+        InstanceCall::NoteWriter => instance_fields::writer_noted(s.guid, x),
         InstanceCall::DropWriter => x,
         InstanceCall::ObserveLifecycle => instance_samples::lifecycle_observed(s, x),
         InstanceCall::ObserveAdmitted => instance_samples::admitted_observed(s, x),
         InstanceCall::NoteAdmitted => instance_samples::admitted_noted(s, x),
-        InstanceCall::RecordDelivery => instance_samples::delivery_recorded(always(t), x),
-        InstanceCall::NoteTaken => instance_samples::viewed(false, instance_samples::drained(n, x)),
+        InstanceCall::RecordDelivery => instance_samples::delivery_recorded(always(s.time_1), x),
+        InstanceCall::NoteTaken => instance_samples::viewed(
+            false,
+            instance_samples::drained(s.second, x),
+        ),
         InstanceCall::MarkViewSeen => instance_samples::viewed(false, x),
         InstanceCall::MarkViewNew => instance_samples::viewed(true, x),
-        InstanceCall::DrainSamples => instance_samples::drained(n, x),
+        InstanceCall::DrainSamples => instance_samples::drained(s.second, x),
         InstanceCall::AcceptUnderExclusiveOwnership => instance_ownership::ownership_tried(s, x),
         InstanceCall::UpdateOwnerStrength => x,
         InstanceCall::ClearOwnerForWriter => x,
         InstanceCall::ClearOwnerForWriterPrefix => x,
-        InstanceCall::ReleaseOwnerOf => instance_ownership::owner_cleared(g, x),
+        InstanceCall::ReleaseOwnerOf => instance_ownership::owner_cleared(s.guid, x),
         InstanceCall::Autopurge => x,
     }
 }

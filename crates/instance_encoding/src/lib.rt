@@ -1,5 +1,5 @@
-// The 512 bytes of an instance, written from a struct by value. Each function works on one record, lent as a slice of its own,
-// so that the offsets are the document's; the last takes a whole table.
+// The 512 bytes of an instance, written from a struct by value. Each function works on one record, so that the offsets
+// are the document's; the last takes a whole table.
 //
 // Derives from instance_tracker.rs of ZeroDDS.
 // Copyright 2026 ZeroDDS Contributors. SPDX-License-Identifier: Apache-2.0. Changed: written anew in Rattle, with the
@@ -35,7 +35,7 @@ fn push(acc: u32, b: bool) -> u32
     requires { acc < 65536 }
     ensures { (result ≡ acc * 2 + bit b) × (result < acc * 2 + 2) }
 {
-    if b { acc * 2 + 1 } else { acc * 2 }
+    acc * 2 + u32::from(b)
 }
 
 // The 16 bits of the flags.
@@ -43,9 +43,7 @@ fn flags_of(x: InstanceState) -> u16
     requires { x.writers.len < 32 }
     ensures { result ≡ flags_of x }
 {
-    let l = x.life;
-    let k = l.kind;
-    let a = push(kind_number(k), x.life.view_new);
+    let a = push(kind_number(x.life.kind), x.life.view_new);
     let b = push(a, x.times.last_sample.present);
     let c = push(b, x.times.last_delivered.present);
     let d = push(c, x.times.last_filter.present);
@@ -54,8 +52,7 @@ fn flags_of(x: InstanceState) -> u16
     let g = push(f, x.owner.present);
     let h = push(g, x.times.owner_at.present);
     let i = push(h, x.holder.present);
-    let n = x.writers.len;
-    (i * 32) as u16 + n as u16
+    (i * 32) as u16 + x.writers.len as u16
 }
 
 // The 8 bytes of a time are written from at.
@@ -85,18 +82,12 @@ fn write_times(s: &mut [u8], m: Times)
     requires { length s.old ≡ 512 }
     ensures { s.new ≡ puts times_widths (times_values m) s.old 0 44 }
 {
-    let a = m.last_sample;
-    let b = m.last_delivered;
-    let c = m.last_filter;
-    let d = m.disposed_at;
-    let e = m.no_writers_at;
-    let g = m.owner_at;
-    write_time(s, 44, a);
-    write_time(s, 52, b);
-    write_time(s, 60, c);
-    write_time(s, 68, d);
-    write_time(s, 76, e);
-    write_time(s, 84, g);
+    write_time(s, 44, m.last_sample);
+    write_time(s, 52, m.last_delivered);
+    write_time(s, 60, m.last_filter);
+    write_time(s, 68, m.disposed_at);
+    write_time(s, 76, m.no_writers_at);
+    write_time(s, 84, m.owner_at);
 }
 
 // The fields before the holder are written; f are the flags.
@@ -104,18 +95,13 @@ fn write_fields(s: &mut [u8], f: u16, x: Instance)
     requires { (length s.old ≡ 512) × (f ≡ flags_of x.state) }
     ensures { s.new ≡ puts instance_widths (instance_values x) s.old 0 0 }
 {
-    let key = x.key;
-    let y = x.state;
-    let life = y.life;
-    let times = y.times;
-    let owner = y.owner;
-    let og = owner.guid;
-    guid::put_guid(s, 0, key);
+    let state = x.state;
+    guid::put_guid(s, 0, x.key);
     octets::put_u64(s, 16, x.handle.0);
-    write_life(s, f, y.holder.len, life);
-    write_times(s, times);
-    guid::put_guid(s, 92, og);
-    octets::put_u32(s, 108, owner.strength);
+    write_life(s, f, state.holder.len, state.life);
+    write_times(s, state.times);
+    guid::put_guid(s, 92, state.owner.guid);
+    octets::put_u32(s, 108, state.owner.strength);
 }
 
 // The 16 GUIDs of the writer set are written.
@@ -123,11 +109,8 @@ fn write_guids(s: &mut [u8], gs: [Guid; 16])
     requires { length s.old ≡ 512 }
     ensures { s.new ≡ patch s.old 256 256 (guids_bytes gs) }
 {
-    let mut i: usize = 0;
-    while i < 16 {
-        let g = gs[i];
-        guid::put_guid(s, 256 + i * 16, g);
-        i += 1;
+    for i in 0..16 {
+        guid::put_guid(s, 256 + i * 16, gs[i]);
     }
 }
 
@@ -145,15 +128,10 @@ pub fn write_instance(s: &mut [u8], x: Instance)
     requires { (length s.old ≡ 512) × (x.state.writers.len < 32) }
     ensures { s.new ≡ instance_bytes x }
 {
-    let y = x.state;
-    let holder = y.holder;
-    let bytes = holder.bytes;
-    let writers = y.writers;
-    let items = writers.items;
-    let f = flags_of(y);
-    write_fields(s, f, x);
-    write_holder(s, bytes);
-    write_guids(s, items);
+    let state = x.state;
+    write_fields(s, flags_of(state), x);
+    write_holder(s, state.holder.bytes);
+    write_guids(s, state.writers.items);
 }
 
 // ---- in a table
@@ -163,7 +141,5 @@ pub fn put_instance(t: &mut [u8], i: usize, x: Instance)
     requires { (i * 512 + 512 ≤ length t.old) × (x.state.writers.len < 32) }
     ensures { t.new ≡ patch t.old (i * 512) 512 (instance_bytes x) }
 {
-    let o = i * 512;
-    let e = o + 512;
-    write_instance(&mut t[o..e], x);
+    write_instance(&mut t[i * 512..i * 512 + 512], x);
 }

@@ -22,142 +22,114 @@ use model::{
 pub fn with_life(l: Life, x: InstanceState) -> InstanceState
     ensures { result ≡ with_life l x }
 {
-    let mut r = x;
-    r.life = l;
-    r
+    InstanceState { life: l, ..x }
 }
 
 // x with other times.
 pub fn with_times(t: Times, x: InstanceState) -> InstanceState
     ensures { result ≡ with_times t x }
 {
-    let mut r = x;
-    r.times = t;
-    r
+    InstanceState { times: t, ..x }
 }
 
 // x with another owner.
 pub fn with_owner(o: MaybeOwner, x: InstanceState) -> InstanceState
     ensures { result ≡ with_owner o x }
 {
-    let mut r = x;
-    r.owner = o;
-    r
+    InstanceState { owner: o, ..x }
 }
 
 // x with another holder.
 pub fn with_holder(h: Holder, x: InstanceState) -> InstanceState
     ensures { result ≡ with_holder h x }
 {
-    let mut r = x;
-    r.holder = h;
-    r
+    InstanceState { holder: h, ..x }
 }
 
 // x with other writers.
 pub fn with_writers(w: WriterSet, x: InstanceState) -> InstanceState
     ensures { result ≡ with_writers w x }
 {
-    let mut r = x;
-    r.writers = w;
-    r
+    InstanceState { writers: w, ..x }
 }
 
 // l with another kind.
 pub fn with_kind(k: InstanceStateKind, l: Life) -> Life
     ensures { result ≡ with_kind k l }
 {
-    Life {
-        kind: k,
-        view_new: l.view_new,
-        disposed_generations: l.disposed_generations,
-        no_writers_generations: l.no_writers_generations,
-        writer_count: l.writer_count,
-        samples: l.samples,
-    }
+    Life { kind: k, ..l }
 }
 
 // l with view-new set or cleared.
 pub fn with_view(v: bool, l: Life) -> Life
     ensures { result ≡ with_view v l }
 {
-    let mut r = l;
-    r.view_new = v;
-    r
-}
-
-// l with other generations.
-pub fn with_generations(disposed: u32, no_writers: u32, l: Life) -> Life
-    ensures { result ≡ with_generations disposed no_writers l }
-{
-    let mut r = l;
-    r.disposed_generations = disposed;
-    r.no_writers_generations = no_writers;
-    r
+    Life { view_new: v, ..l }
 }
 
 // l with another count of writers.
 pub fn with_writer_count(n: u32, l: Life) -> Life
     ensures { result ≡ with_writer_count n l }
 {
-    let mut r = l;
-    r.writer_count = n;
-    r
+    Life {
+        writer_count: n,
+        ..l
+    }
 }
 
 // l with another count of samples.
 pub fn with_samples(n: u32, l: Life) -> Life
     ensures { result ≡ with_samples n l }
 {
-    let mut r = l;
-    r.samples = n;
-    r
+    Life { samples: n, ..l }
 }
 
 // t with another time of the last sample.
 pub fn with_last_sample(at: MaybeTime, t: Times) -> Times
     ensures { result ≡ with_last_sample at t }
 {
-    let mut r = t;
-    r.last_sample = at;
-    r
+    Times {
+        last_sample: at,
+        ..t
+    }
 }
 
 // t with other times of the last delivery, for the order and for the filter.
 pub fn with_delivery(delivered: MaybeTime, filtered: MaybeTime, t: Times) -> Times
     ensures { result ≡ with_delivery delivered filtered t }
 {
-    let mut r = t;
-    r.last_delivered = delivered;
-    r.last_filter = filtered;
-    r
+    Times {
+        last_delivered: delivered,
+        last_filter: filtered,
+        ..t
+    }
 }
 
 // t with another time of disposal.
 pub fn with_disposed_at(at: MaybeTime, t: Times) -> Times
     ensures { result ≡ with_disposed_at at t }
 {
-    let mut r = t;
-    r.disposed_at = at;
-    r
+    Times {
+        disposed_at: at,
+        ..t
+    }
 }
 
 // t with another time at which the last writer was gone.
 pub fn with_no_writers_at(at: MaybeTime, t: Times) -> Times
     ensures { result ≡ with_no_writers_at at t }
 {
-    let mut r = t;
-    r.no_writers_at = at;
-    r
+    Times {
+        no_writers_at: at,
+        ..t
+    }
 }
 
 // t with another time of the owner's last sample.
 pub fn with_owner_at(at: MaybeTime, t: Times) -> Times
     ensures { result ≡ with_owner_at at t }
 {
-    let mut r = t;
-    r.owner_at = at;
-    r
+    Times { owner_at: at, ..t }
 }
 
 // ---- times and holders that may be absent
@@ -174,12 +146,13 @@ pub fn if_present(t: MaybeTime) -> MaybeTime
     ensures { result ≡ if_present t }
 {
     if t.present {
-        return t;
-    }
-    MaybeTime {
-        present: false,
-        sec: 0,
-        nanosec: 0,
+        t
+    } else {
+        MaybeTime {
+            present: false,
+            sec: 0,
+            nanosec: 0,
+        }
     }
 }
 
@@ -187,9 +160,7 @@ pub fn if_present(t: MaybeTime) -> MaybeTime
 pub fn always(t: MaybeTime) -> MaybeTime
     ensures { result ≡ always t }
 {
-    let mut r = t;
-    r.present = true;
-    r
+    MaybeTime { present: true, ..t }
 }
 
 // A given holder, else the other.
@@ -203,9 +174,7 @@ pub fn given_holder(h: Holder, other: Holder) -> Holder
 pub fn stored(h: Holder) -> Holder
     ensures { result ≡ stored h }
 {
-    let mut r = h;
-    r.present = true;
-    r
+    Holder { present: true, ..h }
 }
 
 // ---- kinds
@@ -214,75 +183,66 @@ pub fn stored(h: Holder) -> Holder
 pub fn is_alive(k: InstanceStateKind) -> bool
     ensures { result ≡ is_alive k }
 {
-    match k {
-        InstanceStateKind::Alive => true,
-        InstanceStateKind::NotAliveDisposed => false,
-        InstanceStateKind::NotAliveNoWriters => false,
-    }
+    matches!(k, InstanceStateKind::Alive)
 }
 
 // Whether the kind is disposed.
 pub fn is_disposed(k: InstanceStateKind) -> bool
     ensures { result ≡ is_disposed k }
 {
-    match k {
-        InstanceStateKind::Alive => false,
-        InstanceStateKind::NotAliveDisposed => true,
-        InstanceStateKind::NotAliveNoWriters => false,
-    }
+    matches!(k, InstanceStateKind::NotAliveDisposed)
 }
 
 // ---- the parts that calls of several families are made of
 
 // Alive again, and one more in the matching generation (DDS 1.4, 2.2.2.5.1.5); an alive instance stays as it is.
+#[tactic(auto, unfolding(model::specs::Instances::revived))]
 pub fn revived(l: Life) -> Life
     requires { UsableLife l }
     ensures { result ≡ revived l }
 {
-    let k = l.kind;
-    let disposed = l.disposed_generations;
-    let no_writers = l.no_writers_generations;
-    match k {
+    match l.kind {
         InstanceStateKind::Alive => l,
-        InstanceStateKind::NotAliveDisposed => {
-            let n = numbers::generation_after(disposed);
-            with_kind(InstanceStateKind::Alive, with_generations(n, no_writers, l))
-        }
-        InstanceStateKind::NotAliveNoWriters => {
-            let n = numbers::generation_after(no_writers);
-            with_kind(InstanceStateKind::Alive, with_generations(disposed, n, l))
-        }
+        InstanceStateKind::NotAliveDisposed => Life {
+            kind: InstanceStateKind::Alive,
+            disposed_generations: numbers::generation_after(l.disposed_generations),
+            ..l
+        },
+        InstanceStateKind::NotAliveNoWriters => Life {
+            kind: InstanceStateKind::Alive,
+            no_writers_generations: numbers::generation_after(l.no_writers_generations),
+            ..l
+        },
     }
 }
 
 // Revived, with view-new set where it was not alive.
+#[tactic(auto, unfolding(model::specs::Instances::revived_new))]
 pub fn revived_new(l: Life) -> Life
     requires { UsableLife l }
     ensures { result ≡ revived_new l }
 {
-    let k = l.kind;
-    let v = l.view_new;
-    let r = revived(l);
-    if is_alive(k) {
-        return with_view(v, r);
+    Life {
+        view_new: !is_alive(l.kind) || l.view_new,
+        ..revived(l)
     }
-    with_view(true, r)
 }
 
 // A given time goes to last sample.
 pub fn sampled_at(at: MaybeTime, x: InstanceState) -> InstanceState
     ensures { result ≡ sampled_at at x }
 {
-    let t = x.times;
-    let old = t.last_sample;
-    with_times(with_last_sample(given_time(at, old), t), x)
+    with_times(
+        with_last_sample(given_time(at, x.times.last_sample), x.times),
+        x,
+    )
 }
 
 // A writer is noted as one of the instance's: code 6, and a part of code 10.
+#[tactic(auto, unfolding(model::specs::Instances::writer_noted))]
 pub fn writer_noted(g: Guid, x: InstanceState) -> InstanceState
     requires { Sound x.writers × Room g x }
     ensures { result ≡ writer_noted g x }
 {
-    let w = x.writers;
-    with_writers(writer_set::with_writer(w, g), x)
+    with_writers(writer_set::with_writer(x.writers, g), x)
 }

@@ -21,37 +21,37 @@ pub fn nil() -> InstanceHandle
 fn not_nil(n: u64) -> u64
     ensures { result ≡ not_nil n }
 {
-    if n == 0 { 1 } else { n }
+    n.max(1)
 }
 
 // The allocator's step: nil is skipped.
+#[tactic(auto, unfolding(model::specs::Handles::allocated))]
 pub fn allocate_step(counter: u64) -> Allocated
     ensures { result ≡ allocated counter }
 {
     let given = not_nil(counter);
-    let next = numbers::wrapping_add_u64(given, 1);
     Allocated {
         handle: InstanceHandle(given),
-        counter: next,
+        counter: given.wrapping_add(1),
     }
 }
 
 // One byte more of 64-bit FNV-1a: xor, then times the prime.
+#[tactic(auto, unfolding(model::specs::Handles::fnv_step))]
 fn fnv_step(hash: u64, byte: u8) -> u64
     ensures { result ≡ fnv_step hash byte }
 {
-    numbers::wrapping_mul_u64(byte as u64 ^ hash, 0x100_0000_01b3)
+    (u64::from(byte) ^ hash).wrapping_mul(0x100_0000_01b3)
 }
 
 // 64-bit FNV-1a of the bytes.
+#[tactic(auto, using(crate::proofs::Hash::fnv_more, crate::proofs::Hash::fnv_none))]
 pub fn fnv_1a(bytes: &[u8]) -> u64
     ensures { result ≡ fnv bytes.now }
 {
     let mut hash: u64 = 0xcbf2_9ce4_8422_2325;
-    let mut i = 0;
-    while i < bytes.len() {
-        hash = fnv_step(hash, bytes[i]);
-        i += 1;
+    for &byte in bytes {
+        hash = fnv_step(hash, byte);
     }
     hash
 }

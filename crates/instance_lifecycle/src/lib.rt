@@ -25,20 +25,19 @@ use model::{Guid, InstanceState, InstanceStateKind, Life, MaybeTime, Sheet};
 fn writerless(at: MaybeTime, x: InstanceState) -> InstanceState
     ensures { result ≡ writerless at x }
 {
-    let l = x.life;
-    let t = x.times;
-    let old = t.no_writers_at;
-    let y = with_life(with_kind(InstanceStateKind::NotAliveNoWriters, l), x);
-    with_times(with_no_writers_at(given_time(at, old), t), y)
+    let times = with_no_writers_at(given_time(at, x.times.no_writers_at), x.times);
+    let y = with_life(with_kind(InstanceStateKind::NotAliveNoWriters, x.life), x);
+    with_times(times, y)
 }
 
 // One writer fewer is counted, stopping at 0.
 fn counted_down(x: InstanceState) -> InstanceState
     ensures { result ≡ counted_down x }
 {
-    let l = x.life;
-    let n = numbers::saturating_sub_u32(l.writer_count, 1);
-    with_life(with_writer_count(n, l), x)
+    with_life(
+        with_writer_count(x.life.writer_count.saturating_sub(1), x.life),
+        x,
+    )
 }
 
 // The GUID taken out of the writers.
@@ -46,79 +45,65 @@ fn without(g: Guid, x: InstanceState) -> InstanceState
     requires { Sound x.writers }
     ensures { result ≡ without g x }
 {
-    let w = x.writers;
-    with_writers(writer_set::without_writer(w, g), x)
+    with_writers(writer_set::without_writer(x.writers, g), x)
 }
 
 // ---- codes 1 and 2
 
 // A writer registers the instance (DDS 1.4, 2.2.2.4.2.5): its holder is stored, and one writer more is counted.
+#[tactic(auto, unfolding(model::specs::Instances::registered))]
 pub fn registered(s: Sheet, x: InstanceState) -> InstanceState
     requires { UsableLife x.life }
     ensures { result ≡ registered s x }
 {
-    let l = x.life;
-    let h = s.holder;
-    let t = s.time_1;
-    let n = numbers::saturating_add_u32(l.writer_count, 1);
-    let y = with_life(with_writer_count(n, revived(l)), x);
-    let z = with_holder(stored(h), y);
-    sampled_at(if_present(t), z)
-}
-
-// n, and 1 at least.
-fn at_least_one(n: u32) -> u32
-    ensures { result ≡ max n 1 }
-{
-    if n == 0 { 1 } else { n }
+    let n = x.life.writer_count.saturating_add(1);
+    let y = with_life(with_writer_count(n, revived(x.life)), x);
+    let z = with_holder(stored(s.holder), y);
+    sampled_at(if_present(s.time_1), z)
 }
 
 // A sample implies the registration: at least one writer is counted.
+#[tactic(auto, unfolding(model::specs::Instances::ensured))]
 pub fn ensured(x: InstanceState) -> InstanceState
     requires { UsableLife x.life }
     ensures { result ≡ ensured x }
 {
-    let l = x.life;
-    let n = at_least_one(l.writer_count);
-    with_life(with_writer_count(n, revived_new(l)), x)
+    with_life(
+        with_writer_count(x.life.writer_count.max(1), revived_new(x.life)),
+        x,
+    )
 }
 
 // ---- codes 3, 4 and 5
 
 // A writer declares the instance not alive (DDS 1.4, 2.2.2.4.2.10).
+#[tactic(auto, unfolding(model::specs::Instances::disposed))]
 pub fn disposed(at: MaybeTime, x: InstanceState) -> InstanceState
     ensures { result ≡ disposed at x }
 {
-    let l = x.life;
-    let t = x.times;
-    let old = t.disposed_at;
-    let y = with_life(with_kind(InstanceStateKind::NotAliveDisposed, l), x);
-    let z = with_times(with_disposed_at(given_time(at, old), t), y);
-    sampled_at(at, z)
+    let times = with_disposed_at(given_time(at, x.times.disposed_at), x.times);
+    let y = with_life(with_kind(InstanceStateKind::NotAliveDisposed, x.life), x);
+    sampled_at(at, with_times(times, y))
 }
 
 // The count of writers runs out on an instance that is not disposed: losing a writer does not undo a disposal.
 fn runs_out(l: Life) -> bool
     ensures { result ≡ (eqb (l.writer_count - 1) 0 && not (is_disposed l.kind)) }
 {
-    let k = l.kind;
-    let n = numbers::saturating_sub_u32(l.writer_count, 1);
-    if n == 0 {
-        return !is_disposed(k);
-    }
-    false
+    l.writer_count <= 1 && !is_disposed(l.kind)
 }
 
 // A counted writer unregisters (DDS 1.4, 2.2.2.4.2.7). The writer set stays as it is.
+#[tactic(auto, unfolding(model::specs::Instances::unregistered))]
 pub fn unregistered(at: MaybeTime, x: InstanceState) -> InstanceState
     ensures { result ≡ unregistered at x }
 {
-    let l = x.life;
     let y = counted_down(x);
-    if runs_out(l) {
-        return sampled_at(at, writerless(at, y));
+    if runs_out(x.life) {
+        sampled_at(at, writerless(at, y))
+    } else {
+        sampled_at(at, y)
     }
-    sampled_at(at, y)
 }
 
 // An alive instance whose set is empty.
@@ -126,13 +111,7 @@ fn is_writerless(x: InstanceState) -> bool
     requires { Sound x.writers }
     ensures { result ≡ (is_empty (writers_in x) && is_alive x.life.kind) }
 {
-    let w = x.writers;
-    let l = x.life;
-    let k = l.kind;
-    if writer_set::is_empty(w) {
-        return is_alive(k);
-    }
-    false
+    writer_set::is_empty(x.writers) && is_alive(x.life.kind)
 }
 
 // A writer named by its GUID unregisters; a disposed instance loses it too, and stays disposed.
@@ -142,7 +121,8 @@ pub fn writer_unregistered(g: Guid, at: MaybeTime, x: InstanceState) -> Instance
 {
     let rest = without(g, x);
     if is_writerless(rest) {
-        return sampled_at(at, writerless(at, rest));
+        sampled_at(at, writerless(at, rest))
+    } else {
+        sampled_at(at, rest)
     }
-    sampled_at(at, rest)
 }

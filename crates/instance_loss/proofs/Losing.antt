@@ -1,11 +1,12 @@
 -- The loss of writers from its parts.
 --     apart_stays              a set apart from a span that the list is within stays as it is
---     apart_unowned            an owner apart from it is not in the list
+--     apart_unowned, goes      an owner apart from it is not in the list; another is, where it is listed
+--     not_no                   a test of `not`
 --     few-left, owner-left     what is left of an instance that drops writers: its set is small enough, its owner is the same
 --     owner-flag               the flag of the owner in its bytes
 --     lost-left                the record once the owner is cleared where it goes
 use Prim.Native.Nat.{ℕ, suc, ◌<◌}
-use mathlib.Core.Bool.{Bool, true, false, ◌&&◌, cond, and-false}
+use mathlib.Core.Bool.{Bool, true, false, not, ◌&&◌, cond, and-false}
 use mathlib.Core.List.{List, [], ◌∷◌}
 use mathlib.Core.Logic.{⊎_elim}
 use mathlib.Core.Path.{◌≡◌, refl, sym, ap, ◌∙◌}
@@ -76,6 +77,10 @@ not_in w g (x ∷ gone) o h =
 
 pub apart_unowned : (clears : Bool) (w : Span) (gone : List Guid) (o : MaybeOwner) → All (Within w) gone → Outside w o.guid → false ≡ (clears && owned_by gone o)
 apart_unowned clears w gone o h b = rw (not_in w o.guid gone b h, and-false o.present) (sym (and-false clears))
+
+pub not_no : (b : Bool) → not b ≡ false → b ≡ true
+not_no true e = refl
+not_no false e = sym e
 
 pub goes : {b : Bool} (clears : Bool) → clears ≡ true → b ≡ (clears && b)
 goes clears e = rw e

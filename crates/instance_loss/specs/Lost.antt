@@ -1,10 +1,12 @@
 -- The writers of a list lost to an instance: dropped, as code 7 does, and cleared as its owner, as code 18 does, or dropped
 -- alone.
---     Within          a GUID of a span
+--     Within          a GUID of a span; within-prop: of a list it has one proof
 --     lost_by          what is left of the instance
 --     told_of          whether it is left writerless, and whether its owner is cleared
 --     ClearedIf       what becomes of the bytes r of an instance, whichever it is: the bytes s
-use Rattle.std.specs.Prelude.{ℕ, ◌≤◌, ◌<◌, Bool, true, ◌&&◌, cond, List, ◌≡◌}
+use Rattle.std.specs.Prelude.{ℕ, ◌≤◌, ◌<◌, Bool, true, ◌&&◌, cond, List, [], ◌∷◌, ◌≡◌}
+use Rattle.std.specs.Coded.{×_prop, Unit-prop, le_prop}
+use Rattle.octets.specs.Lay.{All}
 use Rattle.model.specs.declared.Guid.{Guid}
 use Rattle.model.specs.declared.Instance.{Instance}
 use Rattle.model.specs.declared.InstanceState.{InstanceState}
@@ -31,3 +33,8 @@ ClearedIf b r s =
 -- neither before the span nor behind it
 abbrev pub Within : Span → Guid → Type 0
 Within w g = (num w.low ≤ num g) × (num g ≤ num w.high)
+
+-- so much has one proof, as a field of a struct has to
+pub within-prop : (w : Span) (gs : List Guid) → IsProp (All (Within w) gs)
+within-prop w [] = Unit-prop
+within-prop w (g ∷ gs) = ×_prop (×_prop le_prop le_prop) (within-prop w gs)

@@ -17,80 +17,54 @@ use model::{Guid, InstanceState, MaybeOwner, Sheet};
 pub fn owns(g: Guid, o: MaybeOwner) -> bool
     ensures { result ≡ owns g o }
 {
-    let og = o.guid;
-    if o.present {
-        return guid::is_same(og, g);
-    }
-    false
+    o.present && guid::is_same(o.guid, g)
 }
 
 // No owner, the same, greater strength, or equal strength and lower GUID takes over. The owner's own sample is accepted
 // whatever strength it carries: one that lowered its strength would else be turned away by itself. On a tie the standard asks
 // only that all readers choose alike (2.2.3.9.2); the lower GUID is what other implementations take.
+#[tactic(auto, unfolding(model::specs::Instances::outbids))]
 pub fn outbids(g: Guid, strength: u32, o: MaybeOwner) -> bool
     ensures { result ≡ outbids g strength o }
 {
-    let og = o.guid;
-    if !o.present {
-        return true;
-    }
-    if guid::is_same(og, g) {
-        return true;
-    }
     let old = numbers::raise(o.strength);
     let new = numbers::raise(strength);
-    if old < new {
-        return true;
-    }
-    if old == new {
-        return guid::is_less(g, og);
-    }
-    false
+    !o.present || guid::is_same(o.guid, g) || old < new || old == new && guid::is_less(g, o.guid)
 }
 
 // So does a missed deadline of the owner: one that is silent for the period it committed to gives the instance up, to a
 // weaker writer too (2.2.3.9.2).
+#[tactic(auto, unfolding(model::specs::Instances::takes_over))]
 pub fn takes_over(s: Sheet, x: InstanceState) -> bool
     ensures { result ≡ takes_over s x }
 {
-    let g = s.guid;
-    let o = x.owner;
-    if outbids(g, s.second, o) {
-        return true;
-    }
-    let t = x.times;
-    let at = t.owner_at;
-    let now = s.time_2;
-    if s.deadline_present {
-        return sample_time::deadline_missed(at, now, s.b);
-    }
-    false
+    outbids(s.guid, s.second, x.owner)
+        || s.deadline_present && sample_time::deadline_missed(x.times.owner_at, s.time_2, s.b)
 }
 
 // The sheet's writer owns the instance, with the strength that this sample carries. Its deadline counts from time 2.
 pub fn owned_from(s: Sheet, x: InstanceState) -> InstanceState
     ensures { result ≡ owned_from s x }
 {
-    let g = s.guid;
-    let t = x.times;
-    let since = s.time_2;
-    let o = MaybeOwner {
+    let owner = MaybeOwner {
         present: true,
-        guid: g,
+        guid: s.guid,
         strength: s.second,
     };
-    let y = with_owner(o, x);
-    with_times(with_owner_at(always(since), t), y)
+    let times = with_owner_at(always(s.time_2), x.times);
+    with_times(times, with_owner(owner, x))
 }
 
 // A sample under exclusive ownership: its writer owns the instance where it takes over.
+#[tactic(auto, unfolding(model::specs::Instances::ownership_tried))]
 pub fn ownership_tried(s: Sheet, x: InstanceState) -> InstanceState
     ensures { result ≡ ownership_tried s x }
 {
     if takes_over(s, x) {
-        return owned_from(s, x);
+        owned_from(s, x)
+    } else {
+        x
     }
-    x
 }
 
 // The instance with no owner: the next sample of any writer takes it over. The time of the last owner stays, as in the original;
@@ -98,22 +72,18 @@ pub fn ownership_tried(s: Sheet, x: InstanceState) -> InstanceState
 fn unowned(x: InstanceState) -> InstanceState
     ensures { result ≡ with_owner no_owner x }
 {
-    let g = guid::nil();
-    let o = MaybeOwner {
+    let owner = MaybeOwner {
         present: false,
-        guid: g,
+        guid: guid::nil(),
         strength: 0,
     };
-    with_owner(o, x)
+    with_owner(owner, x)
 }
 
 // The writer's ownership is cleared: it unregistered the instance and gave it up (2.2.3.23.3).
+#[tactic(auto, unfolding(model::specs::Instances::owner_cleared))]
 pub fn owner_cleared(g: Guid, x: InstanceState) -> InstanceState
     ensures { result ≡ owner_cleared g x }
 {
-    let o = x.owner;
-    if owns(g, o) {
-        return unowned(x);
-    }
-    x
+    if owns(g, x.owner) { unowned(x) } else { x }
 }

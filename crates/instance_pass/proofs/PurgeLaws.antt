@@ -25,29 +25,29 @@ use Rattle.instance_table.specs.Laid.{Laid}
 use Rattle.instance_pass.specs.declared.PassCounts.{PassCounts}
 use Rattle.instance_pass.specs.Acts.{Act}
 use Rattle.instance_pass.specs.Passes.{TookOne, Spared, Passed}
-use Rattle.instance_pass.specs.Purges.{Delays, PurgedOne}
+use Rattle.instance_pass.specs.Purges.{PurgedOne}
 use Rattle.instance_pass.specs.Steps.{call_act}
 use Rattle.instance_pass.proofs.PassLaws.{During, during_start, during_went, during_end}
 use Rattle.instance_pass.proofs.StepLaws.{bit_le}
 
 -- ---- one instance, by the flags of its record
 
-module _ (r : List ℕ) (f : ℕ) (e : f ≡ flags_at r) (s : Sheet) (at : MaybeTime) (a b : ℕ) (d : Delays s at a b) where
+module _ (r : List ℕ) (f : ℕ) (e : f ≡ flags_at r) (s : Sheet) where
   pub alive-stays : f < 16384 → false ≡ purged s (instance_of r).state
   unfolding purged instance_of
   alive-stays h = let k : flags_at r / 16384 ≡ 0 = omega (arith, e) in rw k
 
-  pub disposed_goes : (g : Bool) (t : MaybeTime) → t ≡ time_at r 68 (flag 512 f) → g ≡ purge_due t at a → 16384 ≤ f → f < 32768 →
+  pub disposed_goes : (g : Bool) (t : MaybeTime) → t ≡ time_at r 68 (flag 512 f) → g ≡ purge_due t s.time_2 s.a → 16384 ≤ f → f < 32768 →
       g ≡ purged s (instance_of r).state
   unfolding purged instance_of
   disposed_goes g t q p n h =
       let k : flags_at r / 16384 ≡ 1 = omega (arith, e, n) in
-      rw (k, d.time, d.disposed, ← e, ← q) p
+      rw (k, ← e, ← q) p
 
-  pub writerless_goes : (g : Bool) (t : MaybeTime) → t ≡ time_at r 76 (flag 256 f) → g ≡ purge_due t at b → 32768 ≤ f → g ≡ purged s (instance_of r).state
+  pub writerless_goes : (g : Bool) (t : MaybeTime) → t ≡ time_at r 76 (flag 256 f) → g ≡ purge_due t s.time_2 s.b → 32768 ≤ f → g ≡ purged s (instance_of r).state
   unfolding purged instance_of
   writerless_goes g t q p n =
-      rw (sym (kind_rest (flags_at r / 16384) (λ z. omega (arith, e)) (λ z. omega (arith, e))), d.time, d.writerless, ← e, ← q) p
+      rw (sym (kind_rest (flags_at r / 16384) (λ z. omega (arith, e)) (λ z. omega (arith, e))), ← e, ← q) p
 
 -- ---- one record of the pass
 

@@ -1,18 +1,9 @@
 -- Code 21 over the records of a table.
---     Delays        what a sheet says of it: when it is now, and the two delays
 --     PurgedOne     what a turn leaves of the table, and how many are kept
 use Rattle.std.specs.Prelude.{ℕ, ◌+◌, ◌*◌, Bool, cond, List, ◌≡◌}
 use Rattle.octets.specs.Patch.{patch}
-use Rattle.model.specs.declared.MaybeTime.{MaybeTime}
-use Rattle.model.specs.declared.Sheet.{Sheet}
 use Rattle.model.specs.InstanceRecord.{instance_size}
 use Rattle.instance_decoding.specs.Parts.{record_at}
-
--- A is the disposed delay, B the no-writer delay, time 2 is now
-pub record Delays (s : Sheet) (at : MaybeTime) (a b : ℕ) : Type 0 where
-  pub time : s.time_2 ≡ at
-  pub disposed : s.a ≡ a
-  pub writerless : s.b ≡ b
 
 -- an instance that is not gone goes with its bytes behind those kept
 pub record PurgedOne (gone : Bool) (i k : ℕ) (t t' : List ℕ) (k' : ℕ) : Type 0 where

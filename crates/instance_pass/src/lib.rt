@@ -13,8 +13,8 @@ ghost use Rattle.octets.specs.Octets.{put};
 ghost use Rattle.octets.specs.Patch.{patch};
 ghost use Rattle.model.specs.declared.InstanceCall.TheVariants.{Autopurge, DropWriter, UpdateOwnerStrength};
 ghost use Rattle.model.specs.InstanceCalls.{instance_call};
-ghost use Rattle.model.specs.InstanceRecord.{bit, instance_of};
-ghost use Rattle.model.specs.Instances.{rule, on_every, purged, strength_updated};
+ghost use Rattle.model.specs.InstanceRecord.{instance_of};
+ghost use Rattle.model.specs.Instances.{on_every, purged, strength_updated};
 ghost use Rattle.model.specs.State.{instances_in};
 ghost use Rattle.instance_decoding.specs.Parts.{record_at};
 ghost use Rattle.writer_set_bytes.specs.Lists.{gones_in, Listed};
@@ -23,13 +23,14 @@ ghost use Rattle.instance_loss.specs.Lost.{Within};
 ghost use Rattle.instance_table.specs.TableCalls.{TableFormed, state_with};
 ghost use Rattle.instance_pass.specs.EveryCalls.{answer_as, LeavesTableAndOut};
 ghost use Rattle.instance_pass.specs.Passes.{Editable, Ahead, TookOne, EditedAt, Passed, with_told};
-ghost use Rattle.instance_pass.specs.Purges.{Delays, PurgedOne};
+ghost use Rattle.instance_pass.specs.Purges.{PurgedOne};
 ghost use Rattle.instance_pass.specs.Steps.{call_act, loss_act, loss_by, owns_as, cleared_as, owner_act};
 
 use instance_edits::Span;
-use instance_loss::Told;
+use instance_loss::{Loss, Told};
 use instance_table::TableCall;
 use model::{Answer, Guid, InstanceCall, InstanceHandle, MaybeTime, Report, Sheet};
+use writer_set_bytes::Gone;
 
 // How many instances stay and are listed, and what was counted.
 #[derive(Clone, Copy)]
@@ -37,22 +38,6 @@ pub struct PassCounts {
     pub kept: usize,
     pub listed: usize,
     pub counted: usize,
-}
-
-// What a call reports of an instance.
-fn report_of(c: InstanceCall) -> Report
-    ensures { result ≡ (rule c).reports }
-{
-    let r = instance_rules::rule_of(c);
-    let k = r.reports;
-    k
-}
-
-// 1 for yes, 0 for no.
-fn one(yes: bool) -> usize
-    ensures { result ≡ bit yes }
-{
-    if yes { 1 } else { 0 }
 }
 
 // The handle h is noted behind l others.
@@ -68,21 +53,17 @@ fn note(out: &mut [u8], l: usize, yes: bool, h: u64)
 // ---- writers lost
 
 // From the first GUID of a list that rises to its last; of a list with none, any span.
-fn span_of(gone: &[u8]) -> Span
-    requires { Listed gone.now }
-    ensures { All (Within result) (gones_in gone.now) }
+fn span_of(gone: &Gone) -> Span
+    ensures { All (Within result) (gones_in gone.now.list.now) }
 {
-    let n = gone.len() / 16;
+    let n = gone.list.len() / 16;
     if n == 0 {
         let g = guid::nil();
         return Span { low: g, high: g };
     }
-    let low = guid::guid_at(gone, 0);
-    let high = guid::guid_at(gone, n * 16 - 16);
-    Span {
-        low: low,
-        high: high,
-    }
+    let low = guid::guid_at(gone.list, 0);
+    let high = guid::guid_at(gone.list, n * 16 - 16);
+    Span { low, high }
 }
 
 // The counts with one instance more, which stays.
@@ -90,36 +71,40 @@ fn with_told(c: PassCounts, r: Told) -> PassCounts
     requires { (c.kept < 128) × (c.listed < 128) × (c.counted ≤ 32768) }
     ensures { result ≡ with_told c r }
 {
-    let l = one(r.left);
-    let n = one(r.cleared);
     PassCounts {
         kept: c.kept + 1,
-        listed: c.listed + l,
-        counted: c.counted + n,
+        listed: c.listed + usize::from(r.left),
+        counted: c.counted + usize::from(r.cleared),
     }
 }
 
-// The writers of a list are lost to the instance of record i.
-fn lose_at(
-    pens: &mut [u8],
-    out: &mut [u8],
-    i: usize,
-    tally: PassCounts,
-    w: Span,
-    gone: &[u8],
-    guesses: &[u8; 1024],
-    at: MaybeTime,
-    clears: bool,
-) -> PassCounts
-    requires { Ahead pens.old out.old i tally × Formed (record_at pens.old i) × Listed gone.now × All (Within w) (gones_in gone.now) }
-    ensures { TookOne (loss_by clears (gones_in gone.now) at) (instance_of (record_at pens.old i)) pens.old out.old tally pens.new out.new result }
+// The writers of a loss are lost to the instance of record i.
+fn lose_at(pens: &mut [u8], out: &mut [u8], i: usize, tally: PassCounts, loss: &Loss) -> PassCounts
+    requires { Ahead pens.old out.old i tally × Formed (record_at pens.old i) }
+    ensures { TookOne (loss_by loss.now.clears (gones_in loss.now.gone.list.now) loss.now.at) (instance_of (record_at pens.old i)) pens.old out.old tally pens.new out.new result }
 {
     let from = i * 512;
     let end = from + 512;
     let h = instance_decoding::handle_at(pens, i);
-    let told = instance_loss::lose(&mut pens[from..end], w, gone, guesses, at, clears);
+    let told = instance_loss::lose(&mut pens[from..end], loss);
     note(out, tally.listed, told.left, h.0);
     with_told(tally, told)
+}
+
+// They are lost to the first count instances.
+fn lose_over(pens: &mut [u8], out: &mut [u8], count: usize, loss: &Loss) -> PassCounts
+    requires { Editable count pens.old × (1024 ≤ length out.old) }
+    ensures { Passed (loss_by loss.now.clears (gones_in loss.now.gone.list.now) loss.now.at) (instances_in count pens.old) pens.old out.old pens.new out.new result }
+{
+    let mut tally = PassCounts {
+        kept: 0,
+        listed: 0,
+        counted: 0,
+    };
+    for i in 0..count {
+        tally = lose_at(pens, out, i, tally, loss);
+    }
+    tally
 }
 
 // The writers of a list are lost to the first count instances: dropped and, where that is asked for, cleared as owners.
@@ -127,27 +112,27 @@ fn lose_every(
     pens: &mut [u8],
     out: &mut [u8],
     count: usize,
-    gone: &[u8],
+    list: &[u8],
     at: MaybeTime,
     clears: bool,
 ) -> PassCounts
-    requires { Editable count pens.old × Listed gone.now × (1024 ≤ length out.old) }
-    ensures { Passed (loss_by clears (gones_in gone.now) at) (instances_in count pens.old) pens.old out.old pens.new out.new result }
+    requires { Editable count pens.old × Listed list.now × (1024 ≤ length out.old) }
+    ensures { Passed (loss_by clears (gones_in list.now) at) (instances_in count pens.old) pens.old out.old pens.new out.new result }
 {
-    let w = span_of(gone);
     let mut guesses = [0u8; 1024]; // made once for all instances
-    writer_set_bytes::note_guesses(gone, &mut guesses);
-    let mut tally = PassCounts {
-        kept: 0,
-        listed: 0,
-        counted: 0,
+    writer_set_bytes::note_guesses(list, &mut guesses);
+    let gone = Gone {
+        list,
+        guesses: &guesses,
     };
-    let mut i = 0;
-    while i < count {
-        tally = lose_at(pens, out, i, tally, w, gone, &guesses, at, clears);
-        i += 1;
-    }
-    tally
+    let span = span_of(&gone);
+    let loss = Loss {
+        gone,
+        span,
+        at,
+        clears,
+    };
+    lose_over(pens, out, count, &loss)
 }
 
 // The writers of a list are lost, one after the other: codes 7 and 18 for each.
@@ -176,18 +161,10 @@ fn drop_writer(pens: &mut [u8], out: &mut [u8], count: usize, s: Sheet) -> PassC
     requires { Editable count pens.old × (1024 ≤ length out.old) }
     ensures { Passed (call_act DropWriter s) (instances_in count pens.old) pens.old out.old pens.new out.new result }
 {
-    let g = s.guid;
-    let t = s.time_1;
     let mut gone = [0u8; 16];
-    guid::put_guid(&mut gone, 0, g);
-    lose_every(
-        pens,
-        out,
-        count,
-        &gone,
-        instance_fields::if_present(t),
-        false,
-    )
+    guid::put_guid(&mut gone, 0, s.guid);
+    let at = instance_fields::if_present(s.time_1);
+    lose_every(pens, out, count, &gone, at, false)
 }
 
 // ---- owners
@@ -209,12 +186,8 @@ fn set_strengths(pens: &mut [u8], count: usize, s: Sheet) -> PassCounts
     requires { (count ≤ 128) × (count * 512 ≤ length pens.old) }
     ensures { (out : List ℕ) → 1024 ≤ length out → Passed (call_act UpdateOwnerStrength s) (instances_in count pens.old) pens.old out pens.new out result }
 {
-    let g = s.guid;
-    let strength = s.second;
-    let mut i = 0;
-    while i < count {
-        strength_at(pens, i, g, strength);
-        i += 1;
+    for i in 0..count {
+        strength_at(pens, i, s.guid, s.second);
     }
     PassCounts {
         kept: count,
@@ -254,10 +227,8 @@ fn clear_owners(pens: &mut [u8], count: usize, g: Guid, prefix: bool) -> PassCou
     ensures { (out : List ℕ) → 1024 ≤ length out → Passed (owner_act prefix g) (instances_in count pens.old) pens.old out pens.new out result }
 {
     let mut n = 0;
-    let mut i = 0;
-    while i < count {
-        n = n + one(owner_at(pens, i, g, prefix));
-        i += 1;
+    for i in 0..count {
+        n += usize::from(owner_at(pens, i, g, prefix));
     }
     PassCounts {
         kept: count,
@@ -279,28 +250,30 @@ fn close_up(pens: &mut [u8], k: usize, i: usize)
 }
 
 // Whether the instance of a record is purged: its kind, in the two highest bits of the flags, says since when and which delay.
-fn purged_in(r: &[u8], at: MaybeTime, a: u64, b: u64) -> bool
+fn purged_in(r: &[u8], s: &Sheet) -> bool
     requires { length r.now ≡ 512 }
-    ensures { (s : Sheet) → Delays s at a b → result ≡ purged s (instance_of r.now).state }
+    ensures { result ≡ purged s.now (instance_of r.now).state }
 {
     let f = octets::get_u16(r, 24);
     if f < 16384 {
         return false;
     }
     if f < 32768 {
-        return sample_time::purge_due(instance_decoding::read_time(r, 68, f / 512 % 2 == 1), at, a);
+        let since = instance_decoding::read_time(r, 68, f / 512 % 2 == 1);
+        return sample_time::purge_due(since, s.time_2, s.a);
     }
-    sample_time::purge_due(instance_decoding::read_time(r, 76, f / 256 % 2 == 1), at, b)
+    let since = instance_decoding::read_time(r, 76, f / 256 % 2 == 1);
+    sample_time::purge_due(since, s.time_2, s.b)
 }
 
 // Record i goes behind the k kept, unless it is purged. How many are kept then.
-fn purge_at(pens: &mut [u8], i: usize, k: usize, at: MaybeTime, a: u64, b: u64) -> usize
+fn purge_at(pens: &mut [u8], i: usize, k: usize, s: &Sheet) -> usize
     requires { (k ≤ i) × (i < 128) × (i * 512 + 512 ≤ length pens.old) }
-    ensures { (s : Sheet) → Delays s at a b → PurgedOne (purged s (instance_of (record_at pens.old i)).state) i k pens.old pens.new result }
+    ensures { PurgedOne (purged s.now (instance_of (record_at pens.old i)).state) i k pens.old pens.new result }
 {
     let from = i * 512;
     let end = from + 512;
-    if purged_in(&pens[from..end], at, a, b) {
+    if purged_in(&pens[from..end], s) {
         return k;
     }
     close_up(pens, k, i);
@@ -312,14 +285,9 @@ fn purge(pens: &mut [u8], count: usize, s: Sheet) -> PassCounts
     requires { (count ≤ 128) × (count * 512 ≤ length pens.old) }
     ensures { (out : List ℕ) → 1024 ≤ length out → Passed (call_act Autopurge s) (instances_in count pens.old) pens.old out pens.new out result }
 {
-    let at = s.time_2;
-    let a = s.a;
-    let b = s.b;
     let mut k = 0;
-    let mut i = 0;
-    while i < count {
-        k = purge_at(pens, i, k, at, a, b);
-        i += 1;
+    for i in 0..count {
+        k = purge_at(pens, i, k, &s);
     }
     instance_table::truncate(pens, k, count);
     PassCounts {
@@ -336,12 +304,11 @@ fn call_pass(pens: &mut [u8], out: &mut [u8], count: usize, c: InstanceCall, s: 
     requires { (on_every c ≡ true) × Editable count pens.old × (1024 ≤ length out.old) }
     ensures { Passed (call_act c s) (instances_in count pens.old) pens.old out.old pens.new out.new result }
 {
-    let g = s.guid;
-    match report_of(c) {
+    match instance_rules::rule_of(c).reports {
         Report::Nothing => set_strengths(pens, count, s),
         Report::Left => drop_writer(pens, out, count, s),
-        Report::Owner => clear_owners(pens, count, g, false),
-        Report::Prefix => clear_owners(pens, count, g, true),
+        Report::Owner => clear_owners(pens, count, s.guid, false),
+        Report::Prefix => clear_owners(pens, count, s.guid, true),
         Report::Purge => purge(pens, count, s),
     }
 }
@@ -351,14 +318,10 @@ fn answered(k: Report, t: PassCounts) -> Answer
     requires { (t.listed ≤ 128) × (t.counted ≤ 32768) }
     ensures { result ≡ answer_as k t.listed t.counted }
 {
-    let l = t.listed as u32;
-    let n = t.counted as u32;
     match k {
         Report::Nothing => answers::silent(),
-        Report::Left => answers::listing(l),
-        Report::Owner => answers::counting(n),
-        Report::Prefix => answers::counting(n),
-        Report::Purge => answers::counting(n),
+        Report::Left => answers::listing(t.listed as u32),
+        Report::Owner | Report::Prefix | Report::Purge => answers::counting(t.counted as u32),
     }
 }
 
@@ -376,10 +339,8 @@ pub fn every_call(
     ensures { LeavesTableAndOut places (instance_call places c s (state_with (instances_in count pens.old) next.0)) out.old result pens.new out.new }
 {
     let tally = call_pass(pens, out, count as usize, c, s);
-    let k = report_of(c);
-    let a = answered(k, tally);
     TableCall {
-        answer: a,
+        answer: answered(instance_rules::rule_of(c).reports, tally),
         count: tally.kept as u32,
         next_handle: next,
     }

@@ -9,10 +9,7 @@ ghost use Rattle.model.specs.State.{figure_ok, places_in};
 pub fn figure_ok(places: u16) -> bool
     ensures { result ≡ figure_ok places }
 {
-    if places == 32 {
-        return true;
-    }
-    places == 128
+    places == 32 || places == 128
 }
 
 // The places of a table by its length alone.
@@ -28,11 +25,5 @@ pub fn room_ok(places: usize, pens: usize, writers: usize, lost: usize) -> bool
     requires { places ≤ 128 }
     ensures { result ≡ (eqb pens (places * 512) && (eqb writers 5120 && eqb lost 4096)) }
 {
-    if pens != places * 512 {
-        return false;
-    }
-    if writers != 5120 {
-        return false;
-    }
-    lost == 4096
+    pens == places * 512 && writers == 5120 && lost == 4096
 }

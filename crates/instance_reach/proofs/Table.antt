@@ -42,7 +42,7 @@ use Rattle.model.specs.Times.{negative}
 use Rattle.model.specs.WellFormed.{instance_ok, handles_distinct}
 use Rattle.model.proofs.Tests.{split}
 use Rattle.model.proofs.RowLaws.{length_read, get_read}
-use Rattle.tables.specs.declared.Found.TheVariants.{At, Missing}
+use Rattle.std.specs.Prelude.{Ok, Err}
 use Rattle.tables.specs.Found.{found_in}
 use Rattle.tables.specs.Places.{place_of, Only, Nowhere}
 use Rattle.tables.proofs.Finds.{all-at, any-only, place_at, noplace}
@@ -266,7 +266,7 @@ module _ {places count : ℕ} {t : List ℕ} (next : InstanceHandle) (r : TableF
 
 module _ (c : InstanceCall) (s : Sheet) (xs : List Instance) where
   module _ (one : single (rule c).reach ≡ true) (keyed : handled (rule c).reach ≡ false) (r : rising instance_key xs ≡ true) (i : ℕ) where
-    pub reached_key : found_in (map instance_key xs) (num s.key) ≡ At i → Reached c s xs i
+    pub reached_key : found_in (map instance_key xs) (num s.key) ≡ Ok i → Reached c s xs i
     reached_key f =
         let o : Only (has_key s.key) xs i blank = found_only instance_key xs blank r (num s.key) i f in
         record {
@@ -275,7 +275,7 @@ module _ (c : InstanceCall) (s : Sheet) (xs : List Instance) where
           only = key_reach (λ p. Only p xs i blank) s o (rule c).reach one keyed;
         }
 
-    pub absent_key : found_in (map instance_key xs) (num s.key) ≡ Missing i → starts_by (rule c).reach ≡ false → Absent c s xs
+    pub absent_key : found_in (map instance_key xs) (num s.key) ≡ Err i → starts_by (rule c).reach ≡ false → Absent c s xs
     absent_key f idle =
         record {
           one = one;

@@ -30,7 +30,7 @@ use Rattle.model.specs.Instances.{effect, rule, has_key, reaches_by, reaches, st
 use Rattle.model.specs.State.{State, instance_key}
 use Rattle.model.specs.Tables.{pick, put, sift, rising}
 use Rattle.model.specs.Times.{negative}
-use Rattle.tables.specs.declared.Found.TheVariants.{Missing}
+use Rattle.std.specs.Prelude.{Err}
 use Rattle.tables.specs.Found.{found_in}
 use Rattle.tables.specs.Places.{Only, Nowhere}
 use Rattle.model.proofs.Tests.{clash}
@@ -153,7 +153,7 @@ module _ (c : InstanceCall) (s : Sheet) where
           (find-nowhere (reaches c s) d xs n) (find-nowhere (reaches c s) d xs n)
 
     -- the instance of the key is started, and goes in at place i
-    module _ (i : ℕ) (d : Instance) (r : rising instance_key st.instances ≡ true) (m : found_in (map instance_key st.instances) (num s.key) ≡ Missing i)
+    module _ (i : ℕ) (d : Instance) (r : rising instance_key st.instances ≡ true) (m : found_in (map instance_key st.instances) (num s.key) ≡ Err i)
         (starts : starts_by (rule c).reach ≡ true) where
       abbrev first : Instance
       first = started s.key (allocated st.next_handle).handle.0
@@ -250,7 +250,7 @@ module _ (c : InstanceCall) (s : Sheet) where
 
     -- the call would start the instance of its key, at place i
     module _ (places i : ℕ) (d : Instance) (r : rising instance_key st.instances ≡ true)
-        (m : found_in (map instance_key st.instances) (num s.key) ≡ Missing i) (starts : starts_by (rule c).reach ≡ true) where
+        (m : found_in (map instance_key st.instances) (num s.key) ≡ Err i) (starts : starts_by (rule c).reach ≡ true) where
       -- the limit, where the key is unknown
       abbrev pub limit : Bool
       limit = limited_by (rule c).reach && (not (negative s.first) && leb s.first (length st.instances))

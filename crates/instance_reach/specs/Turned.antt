@@ -4,7 +4,7 @@
 --     Acted             what a call leaves of an instance
 --     Reached, Absent, Starts
 --                       the instance that a call reaches stands at a place; it reaches none; it starts one there
-use Rattle.std.specs.Prelude.{ℕ, ◌<◌, true, false, not, ◌&&◌, cond, List, [], map, ◌≡◌, leb, length}
+use Rattle.std.specs.Prelude.{ℕ, ◌<◌, true, false, not, ◌&&◌, cond, List, [], map, ◌≡◌, leb, length, Err}
 use Rattle.std.proofs.Math.Option.{some}
 use Rattle.model.specs.declared.Instance.{Instance}
 use Rattle.model.specs.declared.InstanceCall.{InstanceCall}
@@ -17,7 +17,6 @@ use Rattle.model.specs.InstanceRecord.{instance_of}
 use Rattle.model.specs.Instances.{effect, rule, has_key, reaches, starts_by}
 use Rattle.model.specs.State.{instance_key}
 use Rattle.model.specs.Tables.{any}
-use Rattle.tables.specs.declared.Found.TheVariants.{Missing}
 use Rattle.tables.specs.Found.{found_in}
 use Rattle.tables.specs.Places.{Only, Nowhere}
 use Rattle.instance_table.specs.declared.TableCall.{TableCall}
@@ -70,4 +69,4 @@ pub record Absent (c : InstanceCall) (s : Sheet) (xs : List Instance) : Type 0 w
 -- it starts the instance of its key, which goes in at place i
 pub record Starts (c : InstanceCall) (s : Sheet) (xs : List Instance) (i : ℕ) : Type 0 where
   pub starts : starts_by (rule c).reach ≡ true
-  pub missing : found_in (map instance_key xs) (num s.key) ≡ Missing i
+  pub missing : found_in (map instance_key xs) (num s.key) ≡ Err i

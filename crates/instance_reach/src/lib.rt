@@ -11,7 +11,7 @@ ghost use Rattle.std.specs.Prelude.{true, false, not, ◌&&◌, ◌≡◌, ◌<�
 ghost use Rattle.std.proofs.Math.Option.{none, some};
 ghost use Rattle.model.specs.Answers.{refused_with};
 ghost use Rattle.model.specs.InstanceCalls.{crowds, samples_answer, answer_of};
-ghost use Rattle.model.specs.Instances.{rule, starts_by, limited_by};
+ghost use Rattle.model.specs.Instances.{rule, limited_by};
 ghost use Rattle.model.specs.State.{instances_in};
 ghost use Rattle.model.specs.Times.{negative};
 ghost use Rattle.instance_fields.specs.Usable.{Usable, Room};
@@ -21,58 +21,33 @@ ghost use Rattle.instance_reach.specs.Turned.{start_refusal, Turned, Acted, Reac
 
 use instance_table::TableCall;
 use model::{Answer, Instance, InstanceCall, InstanceHandle, InstanceState, Reach, Says, Sheet};
-use tables::Found;
 
-// ---- the row of a call
+// What the head says of the lent table: its places, how many instances stand in it, and the handle that is next.
+#[derive(Clone, Copy)]
+pub struct TableHead {
+    pub places: usize,
+    pub count: u32,
+    pub next: InstanceHandle,
+}
+
+impl TableHead {
+    // The call changes nothing of this, and answers so.
+    pub fn left(self, answer: Answer) -> TableCall
+        ensures { result ≡ left answer self.count self.next }
+    {
+        TableCall {
+            answer,
+            count: self.count,
+            next_handle: self.next,
+        }
+    }
+}
 
 // The call reaches its instance by handle.
 fn reaches_by_handle(c: InstanceCall) -> bool
     ensures { result ≡ handled (rule c).reach }
 {
-    let r = instance_rules::rule_of(c);
-    let k = r.reach;
-    match k {
-        Reach::ByKey => false,
-        Reach::StartingByKey => false,
-        Reach::StartingWithin => false,
-        Reach::ByHandle => true,
-        Reach::Every => false,
-    }
-}
-
-// The call starts an absent instance.
-fn starts(c: InstanceCall) -> bool
-    ensures { result ≡ starts_by (rule c).reach }
-{
-    let r = instance_rules::rule_of(c);
-    let k = r.reach;
-    instance_rules::starts(k)
-}
-
-// It does so up to a limit.
-fn is_limited(c: InstanceCall) -> bool
-    ensures { result ≡ limited_by (rule c).reach }
-{
-    let r = instance_rules::rule_of(c);
-    let k = r.reach;
-    instance_rules::is_limited(k)
-}
-
-// The call puts a GUID into the writer set.
-fn adds_writer(c: InstanceCall) -> bool
-    ensures { result ≡ (rule c).adds_writer }
-{
-    let r = instance_rules::rule_of(c);
-    r.adds_writer
-}
-
-// What the call answers.
-fn says_of(c: InstanceCall) -> Says
-    ensures { result ≡ (rule c).says }
-{
-    let r = instance_rules::rule_of(c);
-    let k = r.says;
-    k
+    matches!(instance_rules::rule_of(c).reach, Reach::ByHandle)
 }
 
 // ---- limit, places and crowd
@@ -81,20 +56,14 @@ fn says_of(c: InstanceCall) -> Says
 pub fn at_limit(limit: u32, count: u32) -> bool
     ensures { result ≡ (not (negative limit) && leb limit count) }
 {
-    if 2147483648 <= limit {
-        return false;
-    }
-    limit <= count
+    limit < 2147483648 && limit <= count
 }
 
 // The call has a limit, which so many instances meet.
 fn limited(c: InstanceCall, limit: u32, count: u32) -> bool
     ensures { result ≡ (limited_by (rule c).reach && (not (negative limit) && leb limit count)) }
 {
-    if !is_limited(c) {
-        return false;
-    }
-    at_limit(limit, count)
+    instance_rules::is_limited(instance_rules::rule_of(c).reach) && at_limit(limit, count)
 }
 
 // What refuses a new instance, else 0: 9 where every place is taken, 13 where the next handle is 2^63.
@@ -115,13 +84,7 @@ pub fn crowds(s: Sheet, x: Instance) -> bool
     requires { Usable x.state }
     ensures { result ≡ crowds s (some x) }
 {
-    let g = s.guid;
-    let y = x.state;
-    let w = y.writers;
-    if writer_set::holds(w, g) {
-        return false;
-    }
-    16 <= w.len
+    !writer_set::holds(x.state.writers, s.guid) && 16 <= x.state.writers.len
 }
 
 // The call adds a writer to an instance that has 16 others.
@@ -129,10 +92,7 @@ fn crowded(c: InstanceCall, s: Sheet, x: Instance) -> bool
     requires { Usable x.state }
     ensures { result ≡ ((rule c).adds_writer && crowds s (some x)) }
 {
-    if !adds_writer(c) {
-        return false;
-    }
-    crowds(s, x)
+    instance_rules::rule_of(c).adds_writer && crowds(s, x)
 }
 
 // ---- the answer
@@ -141,30 +101,21 @@ fn crowded(c: InstanceCall, s: Sheet, x: Instance) -> bool
 fn samples_of(y: Instance) -> Answer
     ensures { result ≡ samples_answer (some y) }
 {
-    let h = y.handle;
-    let z = y.state;
-    let l = z.life;
-    answers::handed_samples(h, l.samples)
+    answers::handed_samples(y.handle, y.state.life.samples)
 }
 
 // What the call answers of its instance, as it was before the call and after it.
 fn answered(c: InstanceCall, s: Sheet, x: Instance, y: Instance) -> Answer
     ensures { result ≡ answer_of (rule c).says s (some x) (some y) }
 {
-    let h = x.handle;
-    let g = s.guid;
-    let before = x.state;
-    let o = before.owner;
-    let after = y.state;
-    let k = says_of(c);
-    match k {
+    match instance_rules::rule_of(c).says {
         Says::Nothing => answers::silent(),
-        Says::Handle => answers::handed(h),
+        Says::Handle => answers::handed(x.handle),
         Says::Known => answers::saying(true),
         Says::Samples => samples_of(y),
-        Says::Info => answers::informed(answers::info_of(after)),
-        Says::Accepted => answers::saying(instance_ownership::takes_over(s, before)),
-        Says::Released => answers::saying(instance_ownership::owns(g, o)),
+        Says::Info => answers::informed(answers::info_of(y.state)),
+        Says::Accepted => answers::saying(instance_ownership::takes_over(s, x.state)),
+        Says::Released => answers::saying(instance_ownership::owns(s.guid, x.state.owner)),
     }
 }
 
@@ -172,42 +123,27 @@ fn answered(c: InstanceCall, s: Sheet, x: Instance, y: Instance) -> Answer
 fn unanswered(c: InstanceCall) -> Answer
     ensures { (s : Sheet) → result ≡ answer_of (rule c).says s none none }
 {
-    let k = says_of(c);
-    match k {
-        Says::Nothing => answers::silent(),
-        Says::Handle => answers::silent(),
-        Says::Known => answers::saying(false),
-        Says::Samples => answers::silent(),
-        Says::Info => answers::silent(),
+    match instance_rules::rule_of(c).says {
+        Says::Nothing | Says::Handle | Says::Samples | Says::Info => answers::silent(),
+        Says::Known | Says::Released => answers::saying(false),
         Says::Accepted => answers::saying(true),
-        Says::Released => answers::saying(false),
     }
 }
 
 // ---- what a call leaves where it writes nothing
 
 // The call is refused with this number, or with 0 answers none.
-fn stopped(n: u8, count: u32, next: InstanceHandle) -> TableCall
-    ensures { result ≡ left (refused_with n) count next }
+fn stopped(n: u8, t: TableHead) -> TableCall
+    ensures { result ≡ left (refused_with n) t.count t.next }
 {
-    let a = answers::refused_with(n);
-    TableCall {
-        answer: a,
-        count: count,
-        next_handle: next,
-    }
+    t.left(answers::refused_with(n))
 }
 
 // The call reaches no instance and starts none.
-fn idle(c: InstanceCall, count: u32, next: InstanceHandle) -> TableCall
-    ensures { (s : Sheet) → result ≡ left (answer_of (rule c).says s none none) count next }
+fn idle(c: InstanceCall, t: TableHead) -> TableCall
+    ensures { (s : Sheet) → result ≡ left (answer_of (rule c).says s none none) t.count t.next }
 {
-    let a = unanswered(c);
-    TableCall {
-        answer: a,
-        count: count,
-        next_handle: next,
-    }
+    t.left(unanswered(c))
 }
 
 // ---- the call on one instance
@@ -217,91 +153,54 @@ fn acted(c: InstanceCall, s: Sheet, x: Instance) -> Instance
     requires { (single (rule c).reach ≡ true) × Usable x.state × ((rule c).adds_writer ≡ true → Room s.guid x.state) }
     ensures { Acted c s x result }
 {
-    let key = x.key;
-    let handle = x.handle;
-    let before = x.state;
-    let after = instance_effects::take_effect(c, s, before);
-    Instance {
-        key: key,
-        handle: handle,
-        state: after,
-    }
+    let after = instance_effects::take_effect(c, s, x.state);
+    Instance { state: after, ..x }
 }
 
 // The call acts on the instance at place i, which it reaches; refused is a writer too many.
-fn change(
-    c: InstanceCall,
-    s: Sheet,
-    pens: &mut [u8],
-    places: usize,
-    i: usize,
-    count: u32,
-    next: InstanceHandle,
-) -> TableCall
-    requires { TableFormed places count next.0 pens.old × Reached c s (instances_in count pens.old) i }
-    ensures { Turned places c s (instances_in count pens.old) next.0 result pens.new }
+fn change(c: InstanceCall, s: Sheet, pens: &mut [u8], i: usize, t: TableHead) -> TableCall
+    requires { TableFormed t.places t.count t.next.0 pens.old × Reached c s (instances_in t.count pens.old) i }
+    ensures { Turned t.places c s (instances_in t.count pens.old) t.next.0 result pens.new }
 {
     let x = instance_decoding::instance_at(pens, i);
     if crowded(c, s, x) {
-        return stopped(10, count, next);
+        return stopped(10, t);
     }
     let y = acted(c, s, x);
     instance_table::replace(pens, i, y);
-    TableCall {
-        answer: answered(c, s, x, y),
-        count: count,
-        next_handle: next,
-    }
+    t.left(answered(c, s, x, y))
 }
 
 // The call starts the instance of its key, which goes in at place i, and acts on it.
-fn start(
-    c: InstanceCall,
-    s: Sheet,
-    pens: &mut [u8],
-    places: usize,
-    i: usize,
-    count: u32,
-    next: InstanceHandle,
-) -> TableCall
-    requires { TableFormed places count next.0 pens.old × Starts c s (instances_in count pens.old) i × (count < places) × (next.0 < 9223372036854775808)
-        × ((limited_by (rule c).reach && (not (negative s.first) && leb s.first count)) ≡ false) }
-    ensures { Turned places c s (instances_in count pens.old) next.0 result pens.new }
+fn start(c: InstanceCall, s: Sheet, pens: &mut [u8], i: usize, t: TableHead) -> TableCall
+    requires { TableFormed t.places t.count t.next.0 pens.old × Starts c s (instances_in t.count pens.old) i × (t.count < t.places) × (t.next.0 < 9223372036854775808)
+        × ((limited_by (rule c).reach && (not (negative s.first) && leb s.first t.count)) ≡ false) }
+    ensures { Turned t.places c s (instances_in t.count pens.old) t.next.0 result pens.new }
 {
-    let key = s.key;
-    let a = instance_handle::allocate_step(next.0);
-    let h = a.handle;
-    let x = instance_effects::started(key, h.0);
+    let a = instance_handle::allocate_step(t.next.0);
+    let x = instance_effects::started(s.key, a.handle.0);
     let y = acted(c, s, x);
-    instance_table::insert(pens, count as usize, i, y);
+    instance_table::insert(pens, t.count as usize, i, y);
     TableCall {
         answer: answered(c, s, x, y),
-        count: count + 1,
+        count: t.count + 1,
         next_handle: InstanceHandle(a.counter),
     }
 }
 
 // The call would start the instance of its key at place i: none at its limit, then refusals 9 and 13.
-fn begin(
-    c: InstanceCall,
-    s: Sheet,
-    pens: &mut [u8],
-    places: usize,
-    i: usize,
-    count: u32,
-    next: InstanceHandle,
-) -> TableCall
-    requires { TableFormed places count next.0 pens.old × Starts c s (instances_in count pens.old) i }
-    ensures { Turned places c s (instances_in count pens.old) next.0 result pens.new }
+fn begin(c: InstanceCall, s: Sheet, pens: &mut [u8], i: usize, t: TableHead) -> TableCall
+    requires { TableFormed t.places t.count t.next.0 pens.old × Starts c s (instances_in t.count pens.old) i }
+    ensures { Turned t.places c s (instances_in t.count pens.old) t.next.0 result pens.new }
 {
-    if limited(c, s.first, count) {
-        return stopped(0, count, next);
+    if limited(c, s.first, t.count) {
+        return stopped(0, t);
     }
-    let n = start_refusal(places, count, next);
+    let n = start_refusal(t.places, t.count, t.next);
     if n != 0 {
-        return stopped(n, count, next);
+        return stopped(n, t);
     }
-    start(c, s, pens, places, i, count, next)
+    start(c, s, pens, i, t)
 }
 
 // ---- the calls
@@ -318,15 +217,18 @@ pub fn by_key(
     requires { TableFormed places count next.0 pens.old × (single (rule c).reach ≡ true) × (handled (rule c).reach ≡ false) }
     ensures { Turned places c s (instances_in count pens.old) next.0 result pens.new }
 {
-    let key = s.key;
-    let f = instance_table::find_key(pens, count as usize, key);
-    match f {
-        Found::At(i) => change(c, s, pens, places, i, count, next),
-        Found::Missing(i) => {
-            if starts(c) {
-                return begin(c, s, pens, places, i, count, next);
+    let t = TableHead {
+        places,
+        count,
+        next,
+    };
+    match instance_table::find_key(pens, count as usize, s.key) {
+        Ok(i) => change(c, s, pens, i, t),
+        Err(i) => {
+            if instance_rules::starts(instance_rules::rule_of(c).reach) {
+                return begin(c, s, pens, i, t);
             }
-            idle(c, count, next)
+            idle(c, t)
         }
     }
 }
@@ -343,13 +245,17 @@ pub fn by_handle(
     requires { TableFormed places count next.0 pens.old × (handled (rule c).reach ≡ true) }
     ensures { Turned places c s (instances_in count pens.old) next.0 result pens.new }
 {
-    let h = s.handle;
+    let t = TableHead {
+        places,
+        count,
+        next,
+    };
     let n = count as usize;
-    let i = instance_table::find_handle(pens, n, h);
+    let i = instance_table::find_handle(pens, n, s.handle);
     if i < n {
-        return change(c, s, pens, places, i, count, next);
+        return change(c, s, pens, i, t);
     }
-    idle(c, count, next)
+    idle(c, t)
 }
 
 // A call that reaches one instance, by key or by handle.

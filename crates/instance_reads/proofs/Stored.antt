@@ -33,8 +33,7 @@ use Rattle.instance_decoding.specs.Parts.{record_at}
 use Rattle.octets.proofs.Laws.{be-part}
 use Rattle.instance_decoding.proofs.Rows.{drop-take}
 use Rattle.instance_table.proofs.Finding.{key_only}
-use Rattle.tables.specs.declared.Found.{Found}
-use Rattle.tables.specs.declared.Found.TheVariants.{At}
+use Rattle.std.specs.Prelude.{Result, Ok}
 use Rattle.tables.specs.Found.{found_in}
 use Rattle.tables.specs.Places.{place_of, Only}
 use Rattle.model.proofs.Tests.{both, split, lt-or-le, eq-or-ne}
@@ -119,7 +118,7 @@ module _ (places : ℕ) (t : List ℕ) (key : Guid) where
     pub place_none : find (has_key key) xs ≡ none → no_place ≡ holder_place places t key
     place_none e = sym (place_found ∙ rw e)
 
-    pub place_here : (i : ℕ) (f : Found) → f ≡ found_in (map instance_key xs) (num key) → f ≡ At i → (p : HolderPlace) →
+    pub place_here : (i : ℕ) (f : Result ℕ ℕ) → f ≡ found_in (map instance_key xs) (num key) → f ≡ Ok i → (p : HolderPlace) →
         p ≡ stored_at i (instance_of (record_at t i)).state.holder → p ≡ holder_place places t key
     place_here i f e a p q =
         let o : Only (has_key key) xs i (instance_of []) = key_only xs (instance_of []) key i (whole places t r).rises (sym e ∙ a) in

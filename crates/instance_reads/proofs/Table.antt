@@ -25,8 +25,7 @@ use Rattle.model.specs.State.{instance_key, instances_in}
 use Rattle.model.specs.Tables.{find, all, rising}
 use Rattle.model.specs.WellFormed.{instance_ok}
 use Rattle.model.proofs.RowLaws.{length_read, get_read}
-use Rattle.tables.specs.declared.Found.{Found}
-use Rattle.tables.specs.declared.Found.TheVariants.{At, Missing}
+use Rattle.std.specs.Prelude.{Result, Ok, Err}
 use Rattle.tables.specs.Found.{found_in}
 use Rattle.tables.proofs.RecordLaws.{at_lt, find_at, find_none}
 use Rattle.instance_decoding.specs.Parts.{record_at}
@@ -88,7 +87,7 @@ module _ (places : ℕ) (t : List ℕ) where
   unfolding table_of
   at_place i d h = get_read instance_of 512 (used_in places t) t i d h
 
-  pub located : (count k : ℕ) (f : Found) → count ≡ used_in places t → f ≡ found_in (map instance_key (instances_in count t)) k →
+  pub located : (count k : ℕ) (f : Result ℕ ℕ) → count ≡ used_in places t → f ≡ found_in (map instance_key (instances_in count t)) k →
       f ≡ found_in (map instance_key (table_of places t)) k
   unfolding table_of
   located count k f e h = rw e at h
@@ -104,17 +103,17 @@ module _ (places : ℕ) (t : List ℕ) where
 
     -- ---- by key: f is where the key was found
 
-    module _ (key : Guid) (i : ℕ) (f : Found) (e : f ≡ found_in (map instance_key (table_of places t)) (num key)) where
-      found_lt : f ≡ At i → i < used_in places t
+    module _ (key : Guid) (i : ℕ) (f : Result ℕ ℕ) (e : f ≡ found_in (map instance_key (table_of places t)) (num key)) where
+      found_lt : f ≡ Ok i → i < used_in places t
       found_lt a = omega (arith, at_lt instance_key (table_of places t) (num key) i (sym e ∙ a), count-table)
 
-      pub found_room : f ≡ At i → i * 512 + 512 ≤ length t
+      pub found_room : f ≡ Ok i → i * 512 + 512 ≤ length t
       found_room a = room_at i (found_lt a)
 
-      pub found_here : f ≡ At i → find (has_key key) (table_of places t) ≡ some (instance_of (record_at t i))
+      pub found_here : f ≡ Ok i → find (has_key key) (table_of places t) ≡ some (instance_of (record_at t i))
       found_here a =
           find_at instance_key (table_of places t) (num key) i (sym e ∙ a) (instance_of [])
           ∙ ap some (at_place i (instance_of []) (found_lt a))
 
-      pub found_none : f ≡ Missing i → find (has_key key) (table_of places t) ≡ none
+      pub found_none : f ≡ Err i → find (has_key key) (table_of places t) ≡ none
       found_none a = find_none instance_key (table_of places t) (num key) i (whole r).rises (sym e ∙ a)

@@ -29,7 +29,6 @@ ghost use Rattle.instance_reads.specs.Looked.{times_in, ListedBy};
 use model::{
     Decision, FoundHandle, FoundTime, Guid, InstanceHandle, Listing, MaybeTime, Time, Times,
 };
-use tables::Found;
 
 // Where a stored holder stands in the table: its first byte and its length.
 #[derive(Clone, Copy)]
@@ -71,7 +70,7 @@ fn time_refusal(pens: &[u8], places: usize, time: Time) -> u8
 // ---- by key
 
 // The place of the key in a table that is not refused.
-fn locate(pens: &[u8], places: usize, key: Guid) -> Found
+fn locate(pens: &[u8], places: usize, key: Guid) -> Result<usize, usize>
     requires { (places ≤ 128) × (table_refusal places pens.now ≡ 0) }
     ensures { result ≡ found_in (map instance_key (table_of places pens.now)) (num key) }
 {
@@ -96,13 +95,13 @@ fn times_of(pens: &[u8], places: usize, key: Guid) -> Times
     ensures { result ≡ times_in (find (has_key key) (table_of places pens.now)) }
 {
     match locate(pens, places, key) {
-        Found::At(i) => {
+        Ok(i) => {
             let x = instance_decoding::instance_at(pens, i);
             let y = x.state;
             let times = y.times;
             times
         }
-        Found::Missing(_) => {
+        Err(_) => {
             let n = no_time();
             Times {
                 last_sample: n,
@@ -282,8 +281,8 @@ pub fn holder_place(pens: &[u8], key: Guid) -> HolderPlace
         return nowhere();
     }
     match locate(pens, places, key) {
-        Found::At(i) => holder_at(pens, i),
-        Found::Missing(_) => nowhere(),
+        Ok(i) => holder_at(pens, i),
+        Err(_) => nowhere(),
     }
 }
 

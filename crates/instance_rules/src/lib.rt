@@ -15,6 +15,7 @@ use model::{FieldUse, InstanceCall, Reach, Report, Rule, Says};
 // ---- codes
 
 // The call on instances of a code from 1 to 21.
+#[tactic(auto, unfolding(model::specs::Calls::call_of_code, model::specs::Calls::amongst, model::specs::Calls::calls))]
 pub fn instance_call(code: u8) -> InstanceCall
     requires { (1 ≤ code) × (code ≤ last_instance) }
     ensures { call_of_code code ≡ some (instances result) }
@@ -51,12 +52,12 @@ fn on_one(reach: Reach, time_1: FieldUse, time_2: FieldUse, holder: FieldUse, sa
     ensures { result ≡ on_one reach time_1 time_2 holder says }
 {
     Rule {
-        reach: reach,
+        reach,
         adds_writer: false,
-        time_1: time_1,
-        time_2: time_2,
-        holder: holder,
-        says: says,
+        time_1,
+        time_2,
+        holder,
+        says,
         reports: Report::Nothing,
     }
 }
@@ -66,13 +67,8 @@ fn adding(reach: Reach, time_1: FieldUse, time_2: FieldUse, holder: FieldUse, sa
     ensures { result ≡ adding reach time_1 time_2 holder says }
 {
     Rule {
-        reach: reach,
         adds_writer: true,
-        time_1: time_1,
-        time_2: time_2,
-        holder: holder,
-        says: says,
-        reports: Report::Nothing,
+        ..on_one(reach, time_1, time_2, holder, says)
     }
 }
 
@@ -83,11 +79,11 @@ fn on_all(time_1: FieldUse, time_2: FieldUse, reports: Report) -> Rule
     Rule {
         reach: Reach::Every,
         adds_writer: false,
-        time_1: time_1,
-        time_2: time_2,
+        time_1,
+        time_2,
         holder: FieldUse::Never,
         says: Says::Nothing,
-        reports: reports,
+        reports,
     }
 }
 
@@ -234,37 +230,19 @@ pub fn rule_of(c: InstanceCall) -> Rule
 pub fn starts(r: Reach) -> bool
     ensures { result ≡ starts_by r }
 {
-    match r {
-        Reach::ByKey => false,
-        Reach::StartingByKey => true,
-        Reach::StartingWithin => true,
-        Reach::ByHandle => false,
-        Reach::Every => false,
-    }
+    matches!(r, Reach::StartingByKey | Reach::StartingWithin)
 }
 
 // It does so up to a limit.
 pub fn is_limited(r: Reach) -> bool
     ensures { result ≡ limited_by r }
 {
-    match r {
-        Reach::ByKey => false,
-        Reach::StartingByKey => false,
-        Reach::StartingWithin => true,
-        Reach::ByHandle => false,
-        Reach::Every => false,
-    }
+    matches!(r, Reach::StartingWithin)
 }
 
 // It is on every instance.
 pub fn is_every(r: Reach) -> bool
     ensures { result ≡ is_every r }
 {
-    match r {
-        Reach::ByKey => false,
-        Reach::StartingByKey => false,
-        Reach::StartingWithin => false,
-        Reach::ByHandle => false,
-        Reach::Every => true,
-    }
+    matches!(r, Reach::Every)
 }

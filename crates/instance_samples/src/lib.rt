@@ -23,74 +23,63 @@ use model::{InstanceState, MaybeTime, Sheet};
 fn counted(x: InstanceState) -> InstanceState
     ensures { result ≡ counted x }
 {
-    let l = x.life;
-    let n = numbers::saturating_add_u32(l.samples, 1);
-    with_life(with_samples(n, l), x)
+    with_life(with_samples(x.life.samples.saturating_add(1), x.life), x)
 }
 
 // ---- codes 8, 9, 10 and 11
 
 // A lifecycle sample is observed: a given holder replaces the one there; nothing is revived.
+#[tactic(auto, unfolding(model::specs::Instances::lifecycle_observed))]
 pub fn lifecycle_observed(s: Sheet, x: InstanceState) -> InstanceState
     ensures { result ≡ lifecycle_observed s x }
 {
-    let old = x.holder;
-    let new = s.holder;
-    let t = s.time_1;
-    let y = with_holder(given_holder(new, old), x);
-    counted(sampled_at(if_present(t), y))
+    let y = with_holder(given_holder(s.holder, x.holder), x);
+    counted(sampled_at(if_present(s.time_1), y))
 }
 
 // A data sample is observed: it revives, and its holder is stored where none is.
+#[tactic(auto, unfolding(model::specs::Instances::admitted_observed))]
 pub fn admitted_observed(s: Sheet, x: InstanceState) -> InstanceState
     requires { UsableLife x.life }
     ensures { result ≡ admitted_observed s x }
 {
-    let l = x.life;
-    let old = x.holder;
-    let new = s.holder;
-    let t = s.time_1;
-    let y = with_life(revived_new(l), x);
-    let z = with_holder(given_holder(old, stored(new)), y);
-    counted(sampled_at(always(t), z))
+    let y = with_life(revived_new(x.life), x);
+    let z = with_holder(given_holder(x.holder, stored(s.holder)), y);
+    counted(sampled_at(always(s.time_1), z))
 }
 
 // A data sample is admitted: its writer is noted, time 1 serves the order, time 2 the filter.
+#[tactic(auto, unfolding(model::specs::Instances::admitted_noted))]
 pub fn admitted_noted(s: Sheet, x: InstanceState) -> InstanceState
     requires { Sound x.writers × Room s.guid x }
     ensures { result ≡ admitted_noted s x }
 {
-    let g = s.guid;
-    let t = x.times;
-    let delivered = s.time_1;
-    let filtered = s.time_2;
-    let y = writer_noted(g, x);
-    with_times(with_delivery(always(delivered), always(filtered), t), y)
+    let times = with_delivery(always(s.time_1), always(s.time_2), x.times);
+    with_times(times, writer_noted(s.guid, x))
 }
 
 // A delivery is recorded, for the order and for the filter.
+#[tactic(auto, unfolding(model::specs::Instances::delivery_recorded))]
 pub fn delivery_recorded(at: MaybeTime, x: InstanceState) -> InstanceState
     ensures { result ≡ delivery_recorded at x }
 {
-    let t = x.times;
-    with_times(with_delivery(at, at, t), x)
+    with_times(with_delivery(at, at, x.times), x)
 }
 
 // ---- codes 12 to 15
 
 // View-new is set or cleared (DDS 1.4, 2.2.2.5.1.8).
+#[tactic(auto, unfolding(model::specs::Instances::viewed))]
 pub fn viewed(v: bool, x: InstanceState) -> InstanceState
     ensures { result ≡ viewed v x }
 {
-    let l = x.life;
-    with_life(with_view(v, l), x)
+    with_life(with_view(v, x.life), x)
 }
 
 // n samples fewer, stopping at 0.
+#[tactic(auto, unfolding(model::specs::Instances::drained))]
 pub fn drained(n: u32, x: InstanceState) -> InstanceState
     ensures { result ≡ drained n x }
 {
-    let l = x.life;
-    let left = numbers::saturating_sub_u32(l.samples, n);
-    with_life(with_samples(left, l), x)
+    with_life(with_samples(x.life.samples.saturating_sub(n), x.life), x)
 }

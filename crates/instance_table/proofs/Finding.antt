@@ -12,7 +12,7 @@ use Rattle.model.specs.Instances.{has_key}
 use Rattle.model.specs.State.{instance_key, instances_in}
 use Rattle.model.specs.Tables.{rising}
 use Rattle.model.proofs.RowLaws.{length_read}
-use Rattle.tables.specs.declared.Found.TheVariants.{At}
+use Rattle.std.specs.Prelude.{Ok}
 use Rattle.tables.specs.Found.{found_in}
 use Rattle.tables.specs.Keys.{keys, rising as rise}
 use Rattle.tables.proofs.KeyLaws.{length-keys, get_or-keys}
@@ -35,5 +35,5 @@ rise_read n t = ap rise (keys_read n t) ∙ rising-records instance_key (instanc
 -- ---- what was found, by model's own tests
 
 module _ (xs : List Instance) (d : Instance) where
-  pub key_only : (k : Guid) (i : ℕ) → rising instance_key xs ≡ true → found_in (map instance_key xs) (num k) ≡ At i → Only (has_key k) xs i d
+  pub key_only : (k : Guid) (i : ℕ) → rising instance_key xs ≡ true → found_in (map instance_key xs) (num k) ≡ Ok i → Only (has_key k) xs i d
   key_only k i r f = found_only instance_key xs d r (num k) i f

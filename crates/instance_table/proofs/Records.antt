@@ -1,8 +1,9 @@
 -- The test of the first records, and the whole test of a table.
 --     record_test, records_test            of one record's bytes, and of the first n records
+--     record_read                          of one record that is read
 --     records-first, records_none        the first record apart; of no record
 --     table_by                           the whole test, from its parts in the order of the code
-use Rattle.std.proofs.Common.{◌≡◌, ℕ, zero, suc, ◌*◌, Bool, true, false, ◌&&◌, ltb, leb, List, take, drop, sym, refl, ◌∙◌, arith}
+use Rattle.std.proofs.Common.{◌≡◌, ℕ, zero, suc, ◌+◌, ◌-◌, ◌*◌, Bool, true, false, ◌&&◌, ltb, leb, List, take, drop, sym, refl, ap, ◌∙◌, arith}
 use Rattle.octets.specs.Zeros.{all_zero}
 use Rattle.octets.proofs.Laws.{be-part}
 use Rattle.model.specs.InstanceRecord.{flags_at, instance_of}
@@ -10,11 +11,17 @@ use Rattle.model.specs.Layout.{read_rows}
 use Rattle.model.specs.State.{instance_key, instances_in}
 use Rattle.model.specs.Tables.{all, rising}
 use Rattle.model.specs.WellFormed.{instance_ok, kinds_ok, instances_ok, instance_table_ok, handle_below, handles_distinct}
+use Rattle.instance_decoding.proofs.Rows.{lent-part}
 use Rattle.tables.proofs.RecordTests.{swap}
 
 -- kind is no 3, and the instance is as section 2 asks
 abbrev pub record_test : List ℕ → Bool
 record_test r = ltb (flags_at r) 49152 && instance_ok (instance_of r)
+
+-- of record k of a table, in the words of tables' laws
+pub record_read : (t : List ℕ) (k : ℕ) {b : Bool} (r : List ℕ) → r ≡ take 512 (drop (k * 512) t) → b ≡ record_test r →
+    b ≡ record_test (take (k * 512 + 512 - k * 512) (drop (k * 512) t))
+record_read t k r e f = f ∙ ap record_test (e ∙ sym (lent-part (k * 512) 512 t))
 
 abbrev pub records_test : ℕ → List ℕ → Bool
 records_test n t = kinds_ok n t && all instance_ok (instances_in n t)

@@ -6,7 +6,7 @@
 // instances as a table of records in lent bytes.
 #![tactic(auto)]
 
-ghost use Rattle.std.specs.Prelude.{◌≡◌, ℕ, ◌+◌, ◌*◌, ◌<◌, ◌≤◌, true, ◌&&◌, List, ◌∷◌, ◌++◌, map, length, take, drop, slice_index, slice_set};
+ghost use Rattle.std.specs.Prelude.{◌≡◌, ℕ, ◌+◌, ◌*◌, ◌<◌, ◌≤◌, ◌≢◌, true, ◌&&◌, List, ◌∷◌, ◌++◌, map, length, take, drop, slice_index, slice_set};
 ghost use Rattle.model.specs.Guids.{num};
 ghost use Rattle.model.specs.Instances.{has_handle};
 ghost use Rattle.model.specs.Reads.{used_in, table_ok};
@@ -18,7 +18,6 @@ ghost use Rattle.tables.specs.Places.{place_of};
 ghost use Rattle.instance_table.specs.Laid.{handle_at, Laid};
 
 use model::{Answer, Guid, Instance, InstanceHandle};
-use tables::Found;
 
 // What a call on the table leaves by value.
 #[derive(Clone, Copy)]
@@ -38,30 +37,36 @@ fn number_at(t: &[u8], i: usize) -> u64
     octets::get_u64(t, i * 512 + 16)
 }
 
+// The place of the first of n instances whose handle is that number, n where none is.
+fn first_numbered(t: &[u8], n: usize, number: u64) -> usize
+    requires { n * 512 ≤ length t.now }
+    ensures within { result ≤ n }
+    ensures before { (j : ℕ) → j < result → handle_at t.now j ≢ number }
+    ensures here { result < n → handle_at t.now result ≡ number }
+{
+    for i in 0..n {
+        if number_at(t, i) == number {
+            return i;
+        }
+    }
+    n
+}
+
 // Whether none of the first n instances has the handle h.
 fn is_unused(t: &[u8], n: usize, h: u64) -> bool
     requires { n * 512 ≤ length t.now }
     ensures { result ≡ all (other_handle h) (instances_in n t.now) }
 {
-    let mut j = 0;
-    while j < n {
-        if number_at(t, j) == h {
-            return false;
-        }
-        j += 1;
-    }
-    true
+    first_numbered(t, n, h) == n
 }
 
-// The handles of the first count instances are noted in hs, as numbers.
-fn note(t: &[u8], count: usize, hs: &mut [u64; 128])
-    requires { (count ≤ 128) × (count * 512 ≤ length t.now) × (length hs.old ≡ 128) }
-    ensures { (j : ℕ) → j < count → slice_index hs.new j ≡ handle_at t.now j }
+// The handles of the first instances are noted in hs, as numbers.
+fn note(t: &[u8], hs: &mut [u64])
+    requires { length hs.old * 512 ≤ length t.now }
+    ensures { (j : ℕ) → j < length hs.new → slice_index hs.new j ≡ handle_at t.now j }
 {
-    let mut i = 0;
-    while i < count {
-        hs[i] = number_at(t, i);
-        i += 1;
+    for (i, h) in hs.iter_mut().enumerate() {
+        *h = number_at(t, i);
     }
 }
 
@@ -70,12 +75,13 @@ fn ordered_ok(t: &[u8], count: usize, next: u64) -> bool
     requires { (count ≤ 128) × (count * 512 ≤ length t.now) }
     ensures { result ≡ (all (handle_below next) (instances_in count t.now) && handles_distinct (instances_in count t.now)) }
 {
-    let mut hs = [0u64; 128];
-    note(t, count, &mut hs);
-    if !distinct_handles::within(&hs, count, next) {
+    let mut numbers = [0; 128];
+    let hs = &mut numbers[..count];
+    note(t, hs);
+    if !distinct_handles::within(hs, next) {
         return false;
     }
-    distinct_handles::distinct(&hs, count)
+    distinct_handles::distinct(hs)
 }
 
 // Whether the handles of the first count instances are from 1 to below next, and distinct. A handle that differs modulo
@@ -85,10 +91,9 @@ fn handles_ok(t: &[u8], count: usize, next: u64) -> bool
     requires { count * 512 ≤ length t.now }
     ensures { result ≡ (all (handle_below next) (instances_in count t.now) && handles_distinct (instances_in count t.now)) }
 {
-    let mut met = [0u8; 1024];
-    let mut scanned = 0;
-    let mut i = 0;
-    while i < count {
+    let mut met = [false; 1024];
+    let mut scanned = 0usize;
+    for i in 0..count {
         let h = number_at(t, i);
         if h == 0 {
             return false;
@@ -97,17 +102,16 @@ fn handles_ok(t: &[u8], count: usize, next: u64) -> bool
             return false;
         }
         let r = (h % 1024) as usize;
-        if met[r] != 0 {
+        if met[r] {
             if (1280 < scanned) & (count <= 128) {
                 return ordered_ok(t, count, next);
             }
             if !is_unused(t, i, h) {
                 return false;
             }
-            scanned = std::num::wrapping_add_usize(scanned, i);
+            scanned = scanned.wrapping_add(i);
         }
-        met[r] = 1;
-        i += 1;
+        met[r] = true;
     }
     true
 }
@@ -117,14 +121,10 @@ fn records_ok(t: &[u8], count: usize) -> bool
     requires { count * 512 ≤ length t.now }
     ensures { result ≡ (kinds_ok count t.now && all instance_ok (instances_in count t.now)) }
 {
-    let mut k = 0;
-    while k < count {
-        let o = k * 512;
-        let e = o + 512;
-        if !instance_validity::record_ok(&t[o..e]) {
+    for k in 0..count {
+        if !instance_validity::record_ok(instance_decoding::record_at(t, k)) {
             return false;
         }
-        k += 1;
     }
     true
 }
@@ -154,14 +154,7 @@ pub fn used(t: &[u8], places: usize) -> usize
     requires { length t.now ≡ places * 512 }
     ensures { result ≡ used_in places t.now }
 {
-    let mut i = 0;
-    while i < places {
-        if number_at(t, i) == 0 {
-            return i;
-        }
-        i += 1;
-    }
-    i
+    first_numbered(t, places, 0)
 }
 
 // Whether a table that is lent alone is well formed: some head makes it so.
@@ -176,7 +169,7 @@ pub fn lone_table_ok(t: &[u8], places: usize) -> bool
 // ---- where an instance stands
 
 // The place of the key among the first count instances, or the place where its instance would go in.
-pub fn find_key(t: &[u8], count: usize, key: Guid) -> Found
+pub fn find_key(t: &[u8], count: usize, key: Guid) -> Result<usize, usize>
     requires { (count ≤ 128) × (count * 512 ≤ length t.now) × (rising instance_key (instances_in count t.now) ≡ true) }
     ensures { result ≡ found_in (map instance_key (instances_in count t.now)) (num key) }
 {
@@ -188,15 +181,7 @@ pub fn find_handle(t: &[u8], count: usize, h: InstanceHandle) -> usize
     requires { count * 512 ≤ length t.now }
     ensures { result ≡ place_of (has_handle h) (instances_in count t.now) }
 {
-    let n = h.0;
-    let mut i = 0;
-    while i < count {
-        if number_at(t, i) == n {
-            return i;
-        }
-        i += 1;
-    }
-    i
+    first_numbered(t, count, h.0)
 }
 
 // ---- the table changes. Each contract speaks of whatever list of instances the table is the layout of

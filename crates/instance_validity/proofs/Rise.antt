@@ -1,6 +1,7 @@
 -- GUIDs end to end that rise from one to the next rise.
 --     next                              the GUID at a place is below the one behind it
 --     next_high, next_low               the high halves decide that where they differ, else the low ones
+--     next_by                           that, as an `Option` says it
 --     rise_few, rise_next, rise_six     none or one, two and six of them
 --     rise_stop, rise_turn              the first ones do not rise, or do: then the rest decides
 use Prim.Native.Nat.{ℕ, zero, suc, ◌+◌, ◌-◌, ◌*◌, ◌^◌, ◌≤◌, ◌<◌}
@@ -13,6 +14,9 @@ use lib.Dec.{ltb}
 use lib.ListN.{drop}
 use lib.Seq.{drop-drop}
 use borrow.Author.Tests.{ltb-true, ltb-false, lt-ltb, le-ltb}
+use Rattle.std.specs.Prelude.{is_some, MatchOption}
+use Rattle.std.specs.declared.option.Option.{Option}
+use Rattle.std.specs.declared.option.Option.TheVariants.{None, Some}
 use Rattle.octets.specs.Bounds.{Bytes}
 use Rattle.octets.specs.Octets.{be}
 use Rattle.octets.proofs.BoundLaws.{be-lt}
@@ -73,6 +77,11 @@ module _ (s : List ℕ) where
   first : (n at : ℕ) → guids_in (suc n) (drop at s) ≡ guid_at s at ∷ guids_in n (drop (at + 16) s)
   unfolding read_rows
   first n at = rw (guid-part 16 at s (omega arith), drop-drop 16 at s)
+
+  -- what `next_beside` answers says so
+  pub next_by : (o : Option ℕ) (at : ℕ) (Q : ℕ → Type 0) → MatchOption o (next at ≡ false) (λ l. (next at ≡ true) × Q l) → next at ≡ is_some o
+  next_by None at Q h = h
+  next_by (Some l) at Q h = h.0
 
   pub rise_few : (n at : ℕ) → n ≤ 1 → rising num (guids_in n (drop at s)) ≡ true
   unfolding rising above read_rows

@@ -1,12 +1,12 @@
-// Whether the 512 bytes of an instance are well formed. Each function works on one record, lent as a slice of its own, so that
-// the offsets are the document's.
+// Whether the 512 bytes of an instance are well formed. Each function works on one record, so that the offsets are the
+// document's.
 //
 // Derives from instance_tracker.rs of ZeroDDS.
 // Copyright 2026 ZeroDDS Contributors. SPDX-License-Identifier: Apache-2.0. Changed: written anew in Rattle, with the
 // instance as bytes of a fixed layout.
 #![tactic(auto)]
 
-ghost use Rattle.std.specs.Prelude.{◌≡◌, true, ◌&&◌, ◌+◌, ◌*◌, ◌≤◌, ltb, length, drop};
+ghost use Rattle.std.specs.Prelude.{◌≡◌, true, false, ◌&&◌, ◌+◌, ◌*◌, ◌≤◌, ltb, length, drop, MatchOption};
 ghost use Rattle.octets.specs.Octets.{be};
 ghost use Rattle.model.specs.Guids.{num, less, guid_at, guids_in};
 ghost use Rattle.model.specs.InstanceRecord.{time_at, life_of, times_of, owner_of, holder_of, writer_set_of};
@@ -26,8 +26,7 @@ fn time_ok(s: &[u8], at: usize, present: bool) -> bool
 }
 
 // Each of the six times is valid.
-fn times_ok(s: &[u8], f: u16) -> bool
-    requires { length s.now ≡ 512 }
+fn times_ok(s: &[u8; 512], f: u16) -> bool
     ensures { result ≡ times_ok (times_of s.now f) }
 {
     if !time_ok(s, 44, f / 4096 % 2 == 1) {
@@ -49,8 +48,7 @@ fn times_ok(s: &[u8], f: u16) -> bool
 }
 
 // The kind is one of three, and the generations are not negative.
-fn life_ok(s: &[u8], f: u16) -> bool
-    requires { length s.now ≡ 512 }
+fn life_ok(s: &[u8; 512], f: u16) -> bool
     ensures { result ≡ (ltb f 49152 && life_ok (life_of s.now f)) }
 {
     let d = octets::get_u32(s, 28);
@@ -59,8 +57,7 @@ fn life_ok(s: &[u8], f: u16) -> bool
 }
 
 // An absent owner is zero.
-fn owner_ok(s: &[u8], f: u16) -> bool
-    requires { length s.now ≡ 512 }
+fn owner_ok(s: &[u8; 512], f: u16) -> bool
     ensures { result ≡ owner_ok (owner_of s.now f) }
 {
     if f / 128 % 2 == 1 {
@@ -73,8 +70,7 @@ fn owner_ok(s: &[u8], f: u16) -> bool
 }
 
 // A holder has at most 144 bytes, and zeros behind them; an absent one is zero.
-fn holder_ok(s: &[u8], f: u16) -> bool
-    requires { length s.now ≡ 512 }
+fn holder_ok(s: &[u8; 512], f: u16) -> bool
     ensures { result ≡ holder_ok (holder_of s.now f) }
 {
     let n = octets::get_u16(s, 26) as usize;
@@ -90,45 +86,26 @@ fn holder_ok(s: &[u8], f: u16) -> bool
     zeros::zero_tail(s, 112, 256)
 }
 
-// A GUID beside the one before it: whether it stands behind that one and, where it does, its low half.
-#[derive(Clone, Copy)]
-pub struct Next {
-    pub rises: bool,
-    pub low: u64,
-}
-
-// The GUID behind that of the 16 bytes from at, whose low half the caller has from the neighbour before. The next low half is
-// read in either branch, and not before them: so the compiler keeps the branches, and turns the bytes of a half round only
-// where its order is asked for.
-fn next_beside(s: &[u8], at: usize, low: u64) -> Next
+// The low half of the GUID behind that of the 16 bytes from at, where it stands behind that one; the caller has that one's low
+// half from the neighbour before. The next low half is read in either branch, and not before them: so the compiler keeps the
+// branches, and turns the bytes of a half round only where its order is asked for.
+fn next_beside(s: &[u8], at: usize, low: u64) -> Option<u64>
     requires { (at + 32 ≤ length s.now) × (low ≡ be 8 s.now (at + 8)) }
-    ensures { (result.rises ≡ less (guid_at s.now at) (guid_at s.now (at + 16))) × (result.rises ≡ true → result.low ≡ be 8 s.now (at + 24)) }
+    ensures { MatchOption result (less (guid_at s.now at) (guid_at s.now (at + 16)) ≡ false) (λ l. (less (guid_at s.now at) (guid_at s.now (at + 16)) ≡ true) × (l ≡ be 8 s.now (at + 24))) }
 {
     let a = octets::get_u64(s, at);
     let b = octets::get_u64(s, at + 16);
     if a != b {
         if b < a {
-            return Next {
-                rises: false,
-                low: 0,
-            };
+            return None;
         }
-        return Next {
-            rises: true,
-            low: octets::get_u64(s, at + 24),
-        };
+        return Some(octets::get_u64(s, at + 24));
     }
     let next = octets::get_u64(s, at + 24);
     if next <= low {
-        return Next {
-            rises: false,
-            low: 0,
-        };
+        return None;
     }
-    Next {
-        rises: true,
-        low: next,
-    }
+    Some(next)
 }
 
 // Whether the six GUIDs from at strictly rise.
@@ -136,24 +113,19 @@ fn six_rise(s: &[u8], at: usize) -> bool
     requires { at + 96 ≤ length s.now }
     ensures { result ≡ rising num (guids_in 6 (drop at s.now)) }
 {
-    let b = next_beside(s, at, octets::get_u64(s, at + 8));
-    if !b.rises {
+    let Some(b) = next_beside(s, at, octets::get_u64(s, at + 8)) else {
         return false;
-    }
-    let c = next_beside(s, at + 16, b.low);
-    if !c.rises {
+    };
+    let Some(c) = next_beside(s, at + 16, b) else {
         return false;
-    }
-    let d = next_beside(s, at + 32, c.low);
-    if !d.rises {
+    };
+    let Some(d) = next_beside(s, at + 32, c) else {
         return false;
-    }
-    let e = next_beside(s, at + 48, d.low);
-    if !e.rises {
+    };
+    let Some(e) = next_beside(s, at + 48, d) else {
         return false;
-    }
-    let f = next_beside(s, at + 64, e.low);
-    f.rises
+    };
+    next_beside(s, at + 64, e).is_some()
 }
 
 // Whether the n GUIDs from at strictly rise, one neighbour a turn.
@@ -164,10 +136,9 @@ fn few_rise(s: &[u8], from: usize, n: usize) -> bool
     let mut at = from;
     let mut left = n;
     while 1 < left {
-        let b = next_beside(s, at, octets::get_u64(s, at + 8));
-        if !b.rises {
+        let Some(_) = next_beside(s, at, octets::get_u64(s, at + 8)) else {
             return false;
-        }
+        };
         at += 16;
         left -= 1;
     }
@@ -175,8 +146,8 @@ fn few_rise(s: &[u8], from: usize, n: usize) -> bool
 }
 
 // The first n GUIDs of the writer set strictly rise. Five neighbours a turn, so that what a turn reads is read once.
-fn set_rises(s: &[u8], n: usize) -> bool
-    requires { (length s.now ≡ 512) × (n ≤ 16) }
+fn set_rises(s: &[u8; 512], n: usize) -> bool
+    requires { n ≤ 16 }
     ensures { result ≡ rising num (guids_in n (drop 256 s.now)) }
 {
     let mut at = 256;
@@ -192,8 +163,7 @@ fn set_rises(s: &[u8], n: usize) -> bool
 }
 
 // The writer set has at most 16 GUIDs, which strictly rise, and nil behind them.
-fn set_ok(s: &[u8], f: u16) -> bool
-    requires { length s.now ≡ 512 }
+fn set_ok(s: &[u8; 512], f: u16) -> bool
     ensures { result ≡ set_ok (writer_set_of s.now f) }
 {
     let n = (f % 32) as usize;
@@ -207,8 +177,7 @@ fn set_ok(s: &[u8], f: u16) -> bool
 }
 
 // Whether the record is well formed.
-pub fn record_ok(s: &[u8]) -> bool
-    requires { length s.now ≡ 512 }
+pub fn record_ok(s: &[u8; 512]) -> bool
     ensures { result ≡ record_ok s.now }
 {
     let f = octets::get_u16(s, 24);

@@ -25,19 +25,17 @@ use model::{Answer, Called, Head, JoinedCall, Sheet};
 // ---- a sample admitted
 
 // Code 48: what the sheet decides, then the call on the instances.
-fn admit(s: Sheet, head: Head, pens: &mut [u8], places: usize) -> Called
-    requires { TableFormed places head.instance_count head.next_handle.0 pens.old }
-    ensures { AdmitJudged places s head pens.old result pens.new }
+fn admit(s: Sheet, head: Head, pens: &mut [u8]) -> Called
+    requires { TableFormed head.places head.instance_count head.next_handle.0 pens.old }
+    ensures { AdmitJudged head.places s head pens.old result pens.new }
 {
     let number = call_codes::admit_refusal(s);
     if number != 0 {
         return answers::refused(number, head);
     }
-    let next = head.next_handle;
-    let r = admission::admit(s, pens, places, head.instance_count, next);
-    let a = r.answer;
-    let n = r.next_handle;
-    lent_state::with_instances(a, head, r.count, n)
+    let places = head.places as usize;
+    let r = admission::admit(s, pens, places, head.instance_count, head.next_handle);
+    lent_state::with_instances(r.answer, head, r.count, r.next_handle)
 }
 
 // ---- writers lost
@@ -46,11 +44,11 @@ fn admit(s: Sheet, head: Head, pens: &mut [u8], places: usize) -> Called
 fn with_list(a: Answer, count: u32, listed: u32) -> Answer
     ensures { result ≡ with_list a count listed }
 {
-    let due = a.next_due;
-    let mut r = answers::saying_due(a.yes, due);
-    r.count = count;
-    r.listed = listed;
-    r
+    Answer {
+        count,
+        listed,
+        ..answers::saying_due(a.yes, a.next_due)
+    }
 }
 
 // After a call on the tracker, the writers of a list are dropped from every instance: codes 7 and 18 for one after the other.
@@ -58,19 +56,16 @@ fn lose(called: Called, s: Sheet, pens: &mut [u8], out: &mut [u8], gone: &[u8]) 
     requires { Losable called.head.instance_count pens.old out.old × Listed gone.now }
     ensures { Loses s (gones_in gone.now) (instances_in called.head.instance_count pens.old) called pens.old out.old result pens.new out.new }
 {
-    let h = called.head;
-    let a = called.answer;
-    let t = s.time_1;
     let tally = instance_pass::lose_writers(
         pens,
         out,
-        h.instance_count as usize,
+        called.head.instance_count as usize,
         gone,
-        instance_fields::if_present(t),
+        instance_fields::if_present(s.time_1),
     );
     Called {
-        answer: with_list(a, tally.counted as u32, tally.listed as u32),
-        head: h,
+        answer: with_list(called.answer, tally.counted as u32, tally.listed as u32),
+        ..called
     }
 }
 
@@ -79,10 +74,9 @@ fn lose_writer(called: Called, s: Sheet, pens: &mut [u8], out: &mut [u8]) -> Cal
     requires { Losable called.head.instance_count pens.old out.old }
     ensures { Loses s (s.guid ∷ []) (instances_in called.head.instance_count pens.old) called pens.old out.old result pens.new out.new }
 {
-    let g = s.guid;
     let mut gone = [0u8; 16];
-    octets::put_u64(&mut gone, 0, g.hi);
-    octets::put_u64(&mut gone, 8, g.lo);
+    octets::put_u64(&mut gone, 0, s.guid.hi);
+    octets::put_u64(&mut gone, 8, s.guid.lo);
     lose(called, s, pens, out, &gone)
 }
 
@@ -120,9 +114,8 @@ fn lose_expired(
         × (rising num (gone_since before called.head.lost_count lost.now) ≡ true) }
     ensures { Loses s (gone_since before called.head.lost_count lost.now) (instances_in called.head.instance_count pens.old) called pens.old out.old result pens.new out.new }
 {
-    let h = called.head;
     let from = before as usize * 16;
-    let to = h.lost_count as usize * 16;
+    let to = called.head.lost_count as usize * 16;
     lose(called, s, pens, out, &lost[from..to])
 }
 
@@ -144,8 +137,7 @@ fn lapse(
         return answers::refused(number, head);
     }
     let r = writer_expiry::expire(s, head, writers, lost);
-    let told = r.answer;
-    if told.number != 0 { // refusal 12
+    if r.answer.number != 0 { // refusal 12
         return r;
     }
     lose_expired(r, s, pens, lost, out, head.lost_count)
@@ -162,14 +154,13 @@ pub fn joined_turn(
     writers: &mut [u8],
     lost: &mut [u8],
     out: &mut [u8],
-    places: usize,
 ) -> Called
-    requires { (places ≤ 128) × Entered places (lent_of head pens.old writers.old lost.old out.old) }
+    requires { (head.places ≤ 128) × Entered head.places (lent_of head pens.old writers.old lost.old out.old) }
     ensures { left_of result pens.new writers.new lost.new out.new
-        ≡ judged places (joined c) s (lent_of head pens.old writers.old lost.old out.old) }
+        ≡ judged head.places (joined c) s (lent_of head pens.old writers.old lost.old out.old) }
 {
     match c {
-        JoinedCall::Admit => admit(s, head, pens, places),
+        JoinedCall::Admit => admit(s, head, pens),
         JoinedCall::Lapse => lapse(s, head, pens, writers, lost, out),
         JoinedCall::Part => leave(false, s, head, pens, writers, out),
         JoinedCall::Depart => leave(true, s, head, pens, writers, out),

@@ -13,20 +13,19 @@ ghost use Rattle.call_laws.specs.Heads.{called, head_with};
 use model::{Answer, Called, Head, InstanceHandle};
 
 // Whether head and buffers are well formed, for the instance places that the head says.
-pub fn state_ok(head: Head, pens: &[u8], writers: &[u8], lost: &[u8], places: usize) -> bool
-    requires { (length pens.now ≡ places * 512) × (length writers.now ≡ 5120) × (length lost.now ≡ 4096)
-        × (head.places ≡ places) }
-    ensures { (out : List ℕ) → result ≡ well_formed places (lent_of head pens.now writers.now lost.now out) }
+pub fn state_ok(head: Head, pens: &[u8], writers: &[u8], lost: &[u8]) -> bool
+    requires { (length pens.now ≡ head.places * 512) × (length writers.now ≡ 5120) × (length lost.now ≡ 4096) }
+    ensures { (out : List ℕ) → result ≡ well_formed head.places (lent_of head pens.now writers.now lost.now out) }
 {
     if !writer_validity::head_ok(head) {
         return false;
     }
-    let next = head.next_handle;
-    if !instance_table::table_ok(pens, places, head.instance_count as usize, next.0) {
+    let places = head.places as usize;
+    let count = head.instance_count as usize;
+    if !instance_table::table_ok(pens, places, count, head.next_handle.0) {
         return false;
     }
-    let count = head.writer_count as usize;
-    if !writer_validity::writers_ok(head, writers, count) {
+    if !writer_validity::writers_ok(head, writers, head.writer_count as usize) {
         return false;
     }
     writer_validity::lost_ok(lost, head.lost_count as usize)
@@ -36,11 +35,12 @@ pub fn state_ok(head: Head, pens: &[u8], writers: &[u8], lost: &[u8], places: us
 pub fn with_instances(answer: Answer, head: Head, count: u32, next: InstanceHandle) -> Called
     ensures { result ≡ called answer (head_with head count next) }
 {
-    let mut h = head;
-    h.instance_count = count;
-    h.next_handle = next;
     Called {
-        answer: answer,
-        head: h,
+        answer,
+        head: Head {
+            instance_count: count,
+            next_handle: next,
+            ..head
+        },
     }
 }

@@ -2,9 +2,8 @@
 // short by it; it keeps no forger out.
 #![tactic(auto)]
 
-ghost use Rattle.std.specs.Prelude.{◌≡◌, ◌+◌, ◌*◌, ◌/◌, ◌%◌, ◌^◌, ◌<◌, ◌≤◌, length, slice_index};
-ghost use Rattle.octets.specs.Patch.{patch};
-ghost use Rattle.md5_digest.specs.Md5.{word, low_first, rotated, bit_length, initial, mixed, words, operation, steps, added, block, blocks, digest, md5_of};
+ghost use Rattle.std.specs.Prelude.{◌≡◌, ◌+◌, ◌*◌, ◌/◌, ◌<◌, ◌≤◌, length};
+ghost use Rattle.md5_digest.specs.Md5.{word, bit_length, initial, mixed, words, operation, steps, added, block, blocks, digest, md5_of};
 ghost use Rattle.md5_digest.specs.Tail.{tail_of};
 ghost use Rattle.md5_digest.specs.declared.Round.TheVariants.{First, Second, Third, Fourth};
 
@@ -27,52 +26,13 @@ pub enum Round {
 
 // ---- section 2: words of 32 bits
 
-// a + b, modulo 2^32.
-fn wrapping_add_u32(a: u32, b: u32) -> u32
-    ensures { result ≡ (a + b) % 2 ^ 32 }
-{
-    std::num::wrapping_add_u32(a, b)
-}
-
-// x rotated left by s bits.
-fn rotate_left_u32(x: u32, s: u32) -> u32
-    requires { (0 < s) × (s < 32) }
-    ensures { result ≡ rotated x s }
-{
-    (x << s) | (x >> (32 - s))
-}
-
-// A byte as a word.
-fn byte(bytes: &[u8], at: usize) -> u32
-    requires { at < length bytes.now }
-    ensures { (result ≡ slice_index bytes.now at) × (result < 256) }
-{
-    bytes[at] as u32
-}
-
 // The word from index at.
+#[tactic(auto, unfolding(crate::specs::Md5::word))]
 fn word(bytes: &[u8], at: usize) -> u32
     requires { at + 4 ≤ length bytes.now }
     ensures { result ≡ word bytes.now at }
 {
-    byte(bytes, at)
-        + byte(bytes, at + 1) * 0x100
-        + byte(bytes, at + 2) * 0x1_0000
-        + byte(bytes, at + 3) * 0x100_0000
-}
-
-// The k low-order bytes of v are written from at, the low-order one first; octets' `store` has the other order.
-fn store(bytes: &mut [u8], at: usize, k: usize, v: u64)
-    requires { at + k ≤ length bytes.old }
-    ensures { bytes.new ≡ patch bytes.old at k (low_first k v) }
-{
-    let mut i = 0;
-    let mut x = v;
-    while i < k {
-        bytes[at + i] = (x % 256) as u8;
-        x = x / 256;
-        i += 1;
-    }
+    u32::from_le_bytes([bytes[at], bytes[at + 1], bytes[at + 2], bytes[at + 3]])
 }
 
 // ---- sections 3.3 and 3.4: the buffer, and the blocks
@@ -107,11 +67,10 @@ fn operation(round: Round, x: &[u32; 16], r: Registers, k: usize, s: u32, t: u32
     ensures { result ≡ operation round x.now r k s t }
 {
     let f = mixed(round, r.b, r.c, r.d);
-    let all = wrapping_add_u32(wrapping_add_u32(wrapping_add_u32(r.a, f), x[k]), t);
-    let b = wrapping_add_u32(r.b, rotate_left_u32(all, s));
+    let all = r.a.wrapping_add(f).wrapping_add(x[k]).wrapping_add(t);
     Registers {
         a: r.d,
-        b: b,
+        b: r.b.wrapping_add(all.rotate_left(s)),
         c: r.b,
         d: r.c,
     }
@@ -122,11 +81,9 @@ fn words(bytes: &[u8], at: usize) -> [u32; 16]
     requires { at + 64 ≤ length bytes.now }
     ensures { result ≡ words 16 bytes.now at }
 {
-    let mut x = [0u32; 16];
-    let mut j = 0;
-    while j < 16 {
+    let mut x = [0; 16];
+    for j in 0..16 {
         x[j] = word(bytes, at + j * 4);
-        j += 1;
     }
     x
 }
@@ -227,15 +184,11 @@ fn fourth_round(x: &[u32; 16], r: Registers) -> Registers
 fn added(r: Registers, q: Registers) -> Registers
     ensures { result ≡ added r q }
 {
-    let a = wrapping_add_u32(q.a, r.a);
-    let b = wrapping_add_u32(q.b, r.b);
-    let c = wrapping_add_u32(q.c, r.c);
-    let d = wrapping_add_u32(q.d, r.d);
     Registers {
-        a: a,
-        b: b,
-        c: c,
-        d: d,
+        a: q.a.wrapping_add(r.a),
+        b: q.b.wrapping_add(r.b),
+        c: q.c.wrapping_add(r.c),
+        d: q.d.wrapping_add(r.d),
     }
 }
 
@@ -258,10 +211,8 @@ fn blocks(bytes: &[u8], n: usize, r: Registers) -> Registers
     ensures { result ≡ blocks bytes.now n r }
 {
     let mut q = r;
-    let mut i = 0;
-    while i < n {
+    for i in 0..n {
         q = block(bytes, i * 64, q);
-        i += 1;
     }
     q
 }
@@ -272,7 +223,7 @@ fn blocks(bytes: &[u8], n: usize, r: Registers) -> Registers
 fn bit_length(n: usize) -> u64
     ensures { result ≡ bit_length n }
 {
-    (n % 0x2000_0000_0000_0000) as u64 * 8
+    (n as u64).wrapping_mul(8)
 }
 
 // How many blocks the last bytes take, with their padding and the length: a second one where they leave no room for 9 bytes.
@@ -293,7 +244,7 @@ fn tail(message: &[u8]) -> [u8; 128]
     octets::copy(message, n - rest, &mut bytes, 0, rest);
     bytes[rest] = 0x80;
     let end = tail_blocks(rest) * 64 - 8;
-    store(&mut bytes, end, 8, bit_length(n));
+    bytes[end..end + 8].copy_from_slice(&bit_length(n).to_le_bytes());
     bytes
 }
 
@@ -302,10 +253,10 @@ fn digest(r: Registers) -> [u8; 16]
     ensures { result ≡ digest r }
 {
     let mut bytes = [0u8; 16];
-    store(&mut bytes, 0, 4, r.a as u64);
-    store(&mut bytes, 4, 4, r.b as u64);
-    store(&mut bytes, 8, 4, r.c as u64);
-    store(&mut bytes, 12, 4, r.d as u64);
+    bytes[0..4].copy_from_slice(&r.a.to_le_bytes());
+    bytes[4..8].copy_from_slice(&r.b.to_le_bytes());
+    bytes[8..12].copy_from_slice(&r.c.to_le_bytes());
+    bytes[12..16].copy_from_slice(&r.d.to_le_bytes());
     bytes
 }
 

@@ -1,11 +1,9 @@
 -- Section 2: the state of the two trackers ("the pen book"), how it lies in the head and the buffers, and the fresh one.
-use Rattle.std.specs.Prelude.{ℕ, ◌*◌, Bool, true, false, ◌||◌, cond, List, [], eqb, ℤ, pos, ◌-ℤ◌, length, replicate}
+use Rattle.std.specs.Prelude.{ℕ, ◌*◌, Bool, true, false, ◌||◌, cond, List, [], eqb, ℤ, pos, ◌-ℤ◌, length, replicate, Option, None}
 use Rattle.octets.specs.Lay.{lay}
 use Rattle.model.specs.declared.Guid.{Guid}
 use Rattle.model.specs.declared.Head.{Head}
 use Rattle.model.specs.declared.Instance.{Instance}
-use Rattle.model.specs.declared.LastWriter.{LastWriter}
-use Rattle.model.specs.declared.LastWriter.TheVariants.{Nobody}
 use Rattle.model.specs.declared.Writer.{Writer}
 use Rattle.model.specs.declared.WriterState.{WriterState}
 use Rattle.model.specs.declared.WriterState.TheVariants.{Unasserted, Alive, NotAlive, Departed}
@@ -23,6 +21,10 @@ pub record Lent : Type 0 where
   pub writers : List ℕ
   pub lost : List ℕ
   pub out : List ℕ
+
+-- the last writer whose class changed, where there was one
+abbrev pub LastWriter : Type 0
+LastWriter = Option Guid
 
 -- the state as records: instances and writers in rising order of their keys, Lost in order of expiry. Of each change field
 -- the acknowledged amount is kept, which is the count less the change
@@ -171,7 +173,7 @@ fresh_state =
       lost = [];
       acknowledged_alive = pos 0;
       acknowledged_not_alive = pos 0;
-      last_writer = Nobody;
+      last_writer = None;
       changes = 0;
     }
 
@@ -187,7 +189,7 @@ fresh places out =
         not_alive = 0;
         alive_change = pos 0;
         not_alive_change = pos 0;
-        last_writer = Nobody;
+        last_writer = None;
         changes = 0;
         places = places;
       };

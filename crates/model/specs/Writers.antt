@@ -1,7 +1,7 @@
 -- Section 4: the calls 32 to 40. Each turns the table of writers; counts, changes and last writer follow from the classes
 -- of the writers before and after (`movers`, `last_after`, and the counts of State.antt). Section 6's words on one writer
 -- are used beside section 4's names.
-use Rattle.std.specs.Prelude.{ℕ, ◌+◌, ◌%◌, ◌^◌, min, Bool, true, false, not, ◌&&◌, ◌||◌, cond, List, [], ◌∷◌, ◌++◌, map, eqb, leb, ltb, ℤ, pos, ◌+ℤ◌, ◌-ℤ◌, length}
+use Rattle.std.specs.Prelude.{ℕ, ◌+◌, ◌%◌, ◌^◌, min, Bool, true, false, not, ◌&&◌, ◌||◌, cond, List, [], ◌∷◌, ◌++◌, map, eqb, leb, ltb, ℤ, pos, ◌+ℤ◌, ◌-ℤ◌, length, None, Some}
 use Rattle.std.proofs.Math.Option.{Option, none, some}
 use Rattle.std.specs.Int.{w32}
 use Rattle.std.proofs.Common.{to_z}
@@ -12,14 +12,11 @@ use Rattle.model.specs.declared.ClockUse.{ClockUse}
 use Rattle.model.specs.declared.ClockUse.TheVariants.{NoClock, Clock, ClockAndLease}
 use Rattle.model.specs.declared.Guid.{Guid}
 use Rattle.model.specs.declared.InstanceHandle.{InstanceHandle}
-use Rattle.model.specs.declared.LastWriter.{LastWriter}
-use Rattle.model.specs.declared.LastWriter.TheVariants.{Nobody, Is}
 use Rattle.model.specs.declared.LivelinessChangedStatus.{LivelinessChangedStatus}
 use Rattle.model.specs.declared.LivelinessKind.{LivelinessKind}
 use Rattle.model.specs.declared.LivelinessKind.TheVariants.{Automatic, ManualByParticipant, ManualByTopic}
 use Rattle.model.specs.declared.LostUse.{LostUse}
 use Rattle.model.specs.declared.LostUse.TheVariants.{Leaves, Appends, Empties}
-use Rattle.model.specs.declared.MaybeDue.{MaybeDue}
 use Rattle.model.specs.declared.MaybeLease.{MaybeLease}
 use Rattle.model.specs.declared.Sheet.{Sheet}
 use Rattle.model.specs.declared.TrackerReport.{TrackerReport}
@@ -28,12 +25,12 @@ use Rattle.model.specs.declared.TrackerRule.{TrackerRule}
 use Rattle.model.specs.declared.Writer.{Writer}
 use Rattle.model.specs.declared.WriterState.{WriterState}
 use Rattle.model.specs.declared.WriterState.TheVariants.{Unasserted, Alive, NotAlive, Departed}
-use Rattle.model.specs.Answers.{silent, saying, saying_due, listing, reporting, no_due}
+use Rattle.model.specs.Answers.{silent, saying, saying_due, listing, reporting, no_due, Due}
 use Rattle.model.specs.Calls.{TrackerCall, matched, unmatched, lost_with_participant, writer_asserted, participant_asserted, expire, take_lost, take_status, acknowledge}
 use Rattle.model.specs.Guids.{same, same_prefix, guids_bytes}
 use Rattle.model.specs.Handles.{handle, from_guid}
 use Rattle.model.specs.InstanceCalls.{Turned, refused}
-use Rattle.model.specs.State.{State, Class, alive, not_alive, neither, class_of, writer_key, writer_places, lost_places, alive_count, not_alive_count}
+use Rattle.model.specs.State.{State, Class, alive, not_alive, neither, class_of, writer_key, writer_places, lost_places, alive_count, not_alive_count, LastWriter}
 use Rattle.model.specs.Tables.{find, pick, put, sift, is_some}
 use Rattle.model.specs.WellFormed.{within}
 use Rattle.model.specs.WriterRecord.{liveliness_numbered}
@@ -249,7 +246,7 @@ movers c s ws = map guid_in (pick (moves (writer_step c s ws)) (writers_begun c 
 -- section 6: the last writer is the greatest that changed class, where one did; movers rise, so it is their last
 unfoldable pub last_after : List Guid → LastWriter → LastWriter
 last_after [] last = last
-last_after (g ∷ gs) last = last_after gs (Is g)
+last_after (g ∷ gs) last = last_after gs (Some g)
 
 abbrev pub moved : List Guid → Bool
 moved [] = false
@@ -276,17 +273,18 @@ acknowledged_after c count part z = acknowledged_with (tracker_rule c).acknowled
 -- ---- answers
 
 -- when the next lease runs out
-abbrev pub sooner_of : Writer → MaybeDue → MaybeDue
-sooner_of w d = record { present = true; at = cond d.present (min (due_at w) d.at) (due_at w) }
+abbrev pub sooner_of : Writer → Due → Due
+sooner_of w None = Some (due_at w)
+sooner_of w (Some at) = Some (min (due_at w) at)
 
-unfoldable pub next_due : List Writer → MaybeDue
+unfoldable pub next_due : List Writer → Due
 next_due [] = no_due
 next_due (w ∷ ws) = cond (leased w) (sooner_of w (next_due ws)) (next_due ws)
 
 -- nil where there is no last writer
 abbrev pub publication : LastWriter → InstanceHandle
-publication Nobody = handle 0
-publication (Is g) = from_guid g
+publication None = handle 0
+publication (Some g) = from_guid g
 
 unfoldable pub status_of : State → LivelinessChangedStatus
 status_of st =

@@ -7,18 +7,18 @@
 #![tactic(auto)]
 
 // Sixteen bytes, most significant first: a key (the Rust's KeyHash) or a writer's GUID.
-#[derive(Clone, Copy)]
+#[derive(Clone, Copy, Debug, PartialEq, Eq, PartialOrd, Ord)]
 pub struct Guid {
     pub hi: u64,
     pub lo: u64,
 }
 
 // A handle is neither a count nor a code; 0 is nil.
-#[derive(Clone, Copy)]
+#[derive(Clone, Copy, Debug, PartialEq, Eq)]
 pub struct InstanceHandle(pub u64);
 
 // Time as a caller gives it and gets it.
-#[derive(Clone, Copy)]
+#[derive(Clone, Copy, Debug, PartialEq, Eq)]
 pub struct Time {
     pub sec: i32,
     pub nanosec: u32,
@@ -32,7 +32,7 @@ pub struct MaybeTime {
     pub nanosec: u32,
 }
 
-#[derive(Clone, Copy)]
+#[derive(Clone, Copy, Debug, PartialEq, Eq)]
 pub enum InstanceStateKind {
     Alive,
     NotAliveDisposed,
@@ -100,7 +100,7 @@ pub struct Instance {
     pub state: InstanceState,
 }
 
-#[derive(Clone, Copy)]
+#[derive(Clone, Copy, Debug, PartialEq, Eq)]
 pub enum LivelinessKind {
     Automatic,
     ManualByParticipant,
@@ -108,7 +108,7 @@ pub enum LivelinessKind {
 }
 
 // Where a writer stands. A departed one was lost with its participant and has not matched since.
-#[derive(Clone, Copy)]
+#[derive(Clone, Copy, Debug, PartialEq, Eq)]
 pub enum WriterState {
     Unasserted,
     Alive,
@@ -138,14 +138,8 @@ pub struct Writer {
     pub liveliness: Liveliness,
 }
 
-// The last writer whose class changed, where there was one.
-#[derive(Clone, Copy)]
-pub enum LastWriter {
-    Nobody,
-    Is(Guid),
-}
-
-// The part of the state that goes by value; `places` is the number of instance places.
+// The part of the state that goes by value; `last_writer` is the last writer whose class changed, `places` the number of
+// instance places.
 #[derive(Clone, Copy)]
 pub struct Head {
     pub instance_count: u32,
@@ -156,7 +150,7 @@ pub struct Head {
     pub not_alive: u32,
     pub alive_change: i32,
     pub not_alive_change: i32,
-    pub last_writer: LastWriter,
+    pub last_writer: Option<Guid>,
     pub changes: u64,
     pub places: u16,
 }
@@ -169,7 +163,7 @@ pub const LAST_TRACKER: u8 = 40;
 pub const LAST_JOINED: u8 = 51;
 
 // The calls on instances, in the order of their codes.
-#[derive(Clone, Copy)]
+#[derive(Clone, Copy, Debug, PartialEq, Eq)]
 pub enum InstanceCall {
     Register,
     EnsureRegisteredLimited,
@@ -196,7 +190,7 @@ pub enum InstanceCall {
 
 // How a call on instances reaches: by key, which may start an absent instance, also up to a limit; by handle; or as a call on
 // every instance.
-#[derive(Clone, Copy)]
+#[derive(Clone, Copy, Debug, PartialEq, Eq)]
 pub enum Reach {
     ByKey,
     StartingByKey,
@@ -206,7 +200,7 @@ pub enum Reach {
 }
 
 // Whether a call uses a field of its sheet: never, where its presence bit is set, always.
-#[derive(Clone, Copy)]
+#[derive(Clone, Copy, Debug, PartialEq, Eq)]
 pub enum FieldUse {
     Never,
     IfPresent,
@@ -215,7 +209,7 @@ pub enum FieldUse {
 
 // What a call on one instance answers: nothing, the handle, whether the instance is known, handle and samples, the fields for
 // a SampleInfo, whether a sample is accepted, whether an owner is released.
-#[derive(Clone, Copy)]
+#[derive(Clone, Copy, Debug, PartialEq, Eq)]
 pub enum Says {
     Nothing,
     Handle,
@@ -228,7 +222,7 @@ pub enum Says {
 
 // What a call on every instance reports of one: nothing, that it is left writerless, that its owner is cleared, by GUID or by
 // prefix, or that it is purged.
-#[derive(Clone, Copy)]
+#[derive(Clone, Copy, Debug, PartialEq, Eq)]
 pub enum Report {
     Nothing,
     Left,
@@ -251,7 +245,7 @@ pub struct Rule {
 }
 
 // The calls on writers, in the order of their codes.
-#[derive(Clone, Copy)]
+#[derive(Clone, Copy, Debug, PartialEq, Eq)]
 pub enum TrackerCall {
     Matched,
     Unmatched,
@@ -266,7 +260,7 @@ pub enum TrackerCall {
 
 // The columns of a call on writers, whose rows are `tracker_rule` in Writers. The clocks of the sheet that it uses: A, and B as
 // a lease by its bit.
-#[derive(Clone, Copy)]
+#[derive(Clone, Copy, Debug, PartialEq, Eq)]
 pub enum ClockUse {
     NoClock,
     Clock,
@@ -274,7 +268,7 @@ pub enum ClockUse {
 }
 
 // What it does to Lost: nothing, puts the writers that changed class behind it, or empties it.
-#[derive(Clone, Copy)]
+#[derive(Clone, Copy, Debug, PartialEq, Eq)]
 pub enum LostUse {
     Leaves,
     Appends,
@@ -282,7 +276,7 @@ pub enum LostUse {
 }
 
 // What it acknowledges of both counts: nothing, the whole, or the part that the sheet gives.
-#[derive(Clone, Copy)]
+#[derive(Clone, Copy, Debug, PartialEq, Eq)]
 pub enum AcknowledgeUse {
     Nothing,
     Whole,
@@ -290,7 +284,7 @@ pub enum AcknowledgeUse {
 }
 
 // What it answers: whether a class changed, that and when the next lease runs out, the list of Lost, the status, or nothing.
-#[derive(Clone, Copy)]
+#[derive(Clone, Copy, Debug, PartialEq, Eq)]
 pub enum TrackerReport {
     Moved,
     MovedAndDue,
@@ -310,7 +304,7 @@ pub struct TrackerRule {
 }
 
 // The joined calls, in the order of their codes.
-#[derive(Clone, Copy)]
+#[derive(Clone, Copy, Debug, PartialEq, Eq)]
 pub enum JoinedCall {
     Admit,
     Lapse,
@@ -348,7 +342,7 @@ pub struct SampleInfo {
     pub no_writers_generations: u32,
 }
 
-#[derive(Clone, Copy)]
+#[derive(Clone, Copy, Debug, PartialEq, Eq)]
 pub struct LivelinessChangedStatus {
     pub alive_count: u32,
     pub not_alive_count: u32,
@@ -357,14 +351,8 @@ pub struct LivelinessChangedStatus {
     pub last_publication_handle: InstanceHandle,
 }
 
-// When the next lease runs out, where one does.
-#[derive(Clone, Copy)]
-pub struct MaybeDue {
-    pub present: bool,
-    pub at: u64,
-}
-
-// What a call answers: the number of its refusal, or 0 and what the call has to say. All else is 0.
+// What a call answers: the number of its refusal, or 0 and what the call has to say. All else is 0. `next_due` is when the
+// next lease runs out, where one does.
 #[derive(Clone, Copy)]
 pub struct Answer {
     pub number: u8,
@@ -376,7 +364,7 @@ pub struct Answer {
     pub info: SampleInfo,
     pub count: u32,
     pub listed: u32,
-    pub next_due: MaybeDue,
+    pub next_due: Option<u64>,
     pub status: LivelinessChangedStatus,
 }
 
@@ -395,39 +383,39 @@ pub struct Allocated {
 }
 
 // The answers of the reads; a refusal carries its number.
-#[derive(Clone, Copy)]
+#[derive(Clone, Copy, Debug, PartialEq, Eq)]
 pub enum Decision {
     Refused(u8),
     Is(bool),
 }
 
-#[derive(Clone, Copy)]
+#[derive(Clone, Copy, Debug, PartialEq, Eq)]
 pub enum FoundHandle {
     Refused(u8),
     Missing,
     Is(InstanceHandle),
 }
 
-#[derive(Clone, Copy)]
+#[derive(Clone, Copy, Debug, PartialEq, Eq)]
 pub enum FoundTime {
     Refused(u8),
     Missing,
     Is(Time),
 }
 
-#[derive(Clone, Copy)]
+#[derive(Clone, Copy, Debug, PartialEq, Eq)]
 pub enum Listing {
     Refused(u8),
     Listed(u32),
 }
 
-#[derive(Clone, Copy)]
+#[derive(Clone, Copy, Debug, PartialEq, Eq)]
 pub enum StatusRead {
     Refused(u8),
     Is(LivelinessChangedStatus),
 }
 
-#[derive(Clone, Copy)]
+#[derive(Clone, Copy, Debug, PartialEq, Eq)]
 pub enum ChangesRead {
     Refused(u8),
     Is(u64),

@@ -1,4 +1,3 @@
--- Laws of signed numbers and of products.
+-- Laws of signed numbers.
 pub mod Signs
 pub mod Signed
-pub mod Products

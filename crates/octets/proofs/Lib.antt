@@ -1,6 +1,6 @@
 -- Laws of octets' definitions, and of its moves and scans.
 pub mod Laws
-pub mod SwapLaws
+pub mod Bytes
 pub mod FieldLaws
 pub mod BoundLaws
 pub mod PatchLaws

@@ -1,17 +1,14 @@
--- One turn of each loop that copies, moves or clears bytes, in the code's own form.
+-- One turn of each loop that moves bytes, in the code's own form.
 --     copy_turn             the next byte of another list
 --     move_down_turn        the next byte of the list itself, which is not written yet
 --     move_up_turn          the same from the other end
---     clear_turn            one zero more
 use mathlib.Core.Path.{◌≡◌, ◌∙◌}
-use mathlib.Core.List.{List, [], ◌∷◌, ◌++◌, append_assoc}
+use mathlib.Core.List.{List, ◌++◌, append_assoc}
 use Prim.Native.Nat.{ℕ, suc, ◌+◌, ◌-◌, ◌≤◌, ◌<◌}
 use native.Mathlib.Numerals.{add-one}
 use native.Mathlib.Omega.{arith}
-use lib.ListN.{length, get_or, set, take, drop, replicate, length-drop, length-replicate, get_or-append, replicate-append-replicate}
+use lib.ListN.{length, get_or, set, take, drop, length-drop, get_or-append}
 use lib.Seq.{set_at, take-suc, drop-cons, paste-suc, get_or-take, get_or-drop, get_or-append-add, paste, length_paste_head, length-take-le}
-use Rattle.octets.specs.Patch.{patch}
-use Rattle.octets.proofs.PatchLaws.{patch-patch, set-patch, length-patch}
 
 -- a list with a part pasted in, before that part and behind it
 module _ (d : List ℕ) (at : ℕ) (s : List ℕ) (n : ℕ) (hd : at + n ≤ length d) (hs : n ≤ length s) where
@@ -60,12 +57,3 @@ move_up_turn d to from n i h l hi hn =
     let hl : n - i ≤ length (drop (from + i) d) = simp length-drop (omega arith) in
     rw (get_or-paste-before d (to + i) (drop (from + i) d) (n - i) (omega arith) hl (from + (i - 1)) (omega arith), et, ef, en)
     (paste_down d (to + (i - 1)) (from + (i - 1)) (n - i) (omega arith) (omega arith))
-
-pub clear_turn : (d : List ℕ) (from i : ℕ) → from + i < length d
-    → set (patch d from i (replicate i 0)) (from + i) 0 ≡ patch d from (i + 1) (replicate (i + 1) 0)
-clear_turn d from i h =
-    let r : List ℕ = replicate i 0 in
-    let n : length (patch d from i r) ≡ length d = length-patch d from i r (omega arith) (length-replicate i 0) in
-    set-patch (patch d from i r) (from + i) 0 (omega arith)
-    ∙ patch-patch d from i 1 r (0 ∷ []) (omega arith) (length-replicate i 0)
-    ∙ rw (replicate-append-replicate {A = ℕ} i 1 0)

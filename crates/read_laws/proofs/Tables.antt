@@ -21,7 +21,7 @@ use Rattle.octets.specs.Octets.{be}
 use Rattle.octets.specs.Zeros.{all_zero}
 use Rattle.model.specs.declared.Head.{Head}
 use Rattle.model.specs.declared.Instance.{Instance}
-use Rattle.model.specs.declared.LastWriter.TheVariants.{Nobody}
+use Rattle.std.specs.Prelude.{None}
 use Rattle.model.specs.Call.{lent_of}
 use Rattle.model.specs.Handles.{handle}
 use Rattle.model.specs.InstanceRecord.{instance_of}
@@ -138,7 +138,7 @@ head_for places n =
       not_alive = 0;
       alive_change = pos 0;
       not_alive_change = pos 0;
-      last_writer = Nobody;
+      last_writer = None;
       changes = 0;
       places = places;
     }

@@ -1,5 +1,4 @@
 -- The laws of times, and what they are proved by.
-pub mod Gaps
 pub mod Differences
 pub mod Values
 pub mod EpochLaws

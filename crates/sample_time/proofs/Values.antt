@@ -1,8 +1,8 @@
 -- The nanosecond value of a time as a difference of naturals: nanoseconds since -2^31 seconds, less 2^31 × 10^9.
 --     seconds_are, nanos_are               the value of seconds alone, and of a time
 --     later_is, gap_is                     of two values
---     seconds_fit, nanos_fit, gap_fits     64 bits hold it
---     later_read, passes_read, gap_asked, gap_read     two values, as a function reads what others returned
+--     nanos_fit, gap_fits                  64 bits hold it
+--     gap_asked                            the same of two values, as a function reads what others returned
 use Prim.Native.Nat.{ℕ, ◌*◌, ◌^◌, ◌<◌}
 use mathlib.Core.Path.{◌≡◌, ap, ap₂, ◌∙◌}
 use native.Mathlib.Omega.{arith}
@@ -11,7 +11,7 @@ use lib.IntN.{ℤ, pos, sub_ℕ, ◌+ℤ◌, ◌*ℤ◌}
 use mir.Syntax.{w32, w64}
 use mir.Val.{Fits, SFits, of_z, to_z}
 use Rattle.model.specs.declared.MaybeTime.{MaybeTime}
-use Rattle.model.specs.Times.{billion, raised, time_value, gap, gap_passes, is_later}
+use Rattle.model.specs.Times.{billion, raised, time_value, gap, is_later}
 use Rattle.numbers.proofs.Signed.{fits_as, back, lowered}
 use Rattle.sample_time.specs.Clamped.{raised_nanos_of}
 use Rattle.sample_time.proofs.Differences.{sub-plus, sub-times, sub_order, sub-gap, sub_fits}
@@ -37,9 +37,6 @@ module _ (a b : MaybeTime) (p : a.sec < 2 ^ 32) (q : b.sec < 2 ^ 32) where
   pub gap_fits : a.nanosec < 2 ^ 32 → b.nanosec < 2 ^ 32 → SFits w64 (gap (time_value a) (time_value b))
   gap_fits m n = fits_as gap_is (sub_fits (raised_nanos_of b) (raised_nanos_of a) (omega arith) (omega arith))
 
-pub seconds_fit : (b : ℕ) → b < 2 ^ 32 → SFits w64 (to_z w32 b *ℤ pos billion)
-seconds_fit b h = fits_as (seconds_are b h) (sub_fits (raised b * billion) epoch (omega arith) (omega arith))
-
 pub nanos_fit : (t : MaybeTime) → t.sec < 2 ^ 32 → t.nanosec < 2 ^ 32 → SFits w64 (time_value t)
 nanos_fit t h m = fits_as (nanos_are t h) (sub_fits (raised_nanos_of t) epoch (omega arith) (omega arith))
 
@@ -49,20 +46,5 @@ read : (t : MaybeTime) → Fits w32 t.sec → Fits w32 t.nanosec → {z : ℤ} �
 read t p m e = back e (nanos_fit t p.fits m.fits)
 
 module _ (a b : MaybeTime) (p : Fits w32 a.sec) (m : Fits w32 a.nanosec) (q : Fits w32 b.sec) (n : Fits w32 b.nanosec) {y z : ℤ} (e : y ≡ time_value a) (f : z ≡ time_value b) where
-  pub later_read : is_later (to_z w64 (of_z w64 y)) (to_z w64 (of_z w64 z)) ≡ is_later (time_value a) (time_value b)
-  later_read = ap₂ is_later (read a p m e) (read b q n f)
-
-  pub passes_read : (separation : ℕ) → gap_passes (to_z w64 (of_z w64 y)) (to_z w64 (of_z w64 z)) separation ≡ gap_passes (time_value a) (time_value b) separation
-  passes_read s = ap₂ (λ (l k : ℤ). gap_passes l k s) (read a p m e) (read b q n f)
-
-  gaps_read : gap (to_z w64 (of_z w64 y)) (to_z w64 (of_z w64 z)) ≡ gap (time_value a) (time_value b)
-  gaps_read = ap₂ gap (read a p m e) (read b q n f)
-
-  fitting : SFits w64 (gap (time_value a) (time_value b))
-  fitting = gap_fits a b p.fits q.fits m.fits n.fits
-
   pub gap_asked : SFits w64 (gap (to_z w64 (of_z w64 y)) (to_z w64 (of_z w64 z)))
-  gap_asked = fits_as gaps_read fitting
-
-  pub gap_read : {g : ℤ} → g ≡ gap (to_z w64 (of_z w64 y)) (to_z w64 (of_z w64 z)) → to_z w64 (of_z w64 g) ≡ gap (time_value a) (time_value b)
-  gap_read h = back (h ∙ gaps_read) fitting
+  gap_asked = fits_as (ap₂ gap (read a p m e) (read b q n f)) (gap_fits a b p.fits q.fits m.fits n.fits)

@@ -14,12 +14,11 @@ ghost use Rattle.model.specs.Times.{time_value, gap, reaches, gap_passes, is_lat
 use model::MaybeTime;
 
 // Seconds and nanoseconds in one number, below zero before the epoch.
+#[tactic(auto, unfolding(model::specs::Times::time_value))]
 pub fn nanos(t: MaybeTime) -> i64
     ensures { result ≡ time_value t }
 {
-    let sec = t.sec;
-    let nanosec = t.nanosec;
-    (numbers::of_bits(sec) as i64) * 1_000_000_000 + (nanosec as i64)
+    i64::from(numbers::of_bits(t.sec)) * 1_000_000_000 + i64::from(t.nanosec)
 }
 
 // From one value to another; below zero where the other is earlier.
@@ -34,10 +33,7 @@ pub fn gap(from: i64, to: i64) -> i64
 pub fn reaches(gap: i64, nanoseconds: u64) -> bool
     ensures { result ≡ reaches gap nanoseconds }
 {
-    if gap < 0 {
-        return false;
-    }
-    nanoseconds <= gap as u64
+    0 <= gap && nanoseconds <= gap as u64
 }
 
 // The filter's test. A value of the past is a matter of order, and is not filtered.
@@ -45,10 +41,7 @@ pub fn gap_passes(last: i64, candidate: i64, separation: u64) -> bool
     requires { SFits w64 (gap last candidate) }
     ensures { result ≡ gap_passes last candidate separation }
 {
-    if candidate < last {
-        return true;
-    }
-    reaches(gap(last, candidate), separation)
+    candidate < last || reaches(gap(last, candidate), separation)
 }
 
 // The order's test.
@@ -62,56 +55,37 @@ pub fn is_later(last: i64, candidate: i64) -> bool
 pub fn elapsed(gap: i64) -> u64
     ensures { result ≡ elapsed gap }
 {
-    if gap < 0 { 0 } else { gap as u64 }
+    gap.max(0) as u64
 }
 
 // TIME_BASED_FILTER (DDS 1.4, 2.2.3.12).
+#[tactic(auto, unfolding(model::specs::Times::filter_admits))]
 pub fn filter_admits(last: MaybeTime, candidate: MaybeTime, separation: u64) -> bool
     ensures { result ≡ filter_admits last candidate separation }
 {
-    let present = last.present;
-    if !present {
-        return true;
-    }
-    let from = nanos(last);
-    let to = nanos(candidate);
-    gap_passes(from, to, separation)
+    !last.present || gap_passes(nanos(last), nanos(candidate), separation)
 }
 
 // DESTINATION_ORDER by source timestamp (DDS 1.4, 2.2.3.17).
+#[tactic(auto, unfolding(model::specs::Times::order_admits))]
 pub fn order_admits(last: MaybeTime, candidate: MaybeTime) -> bool
     ensures { result ≡ order_admits last candidate }
 {
-    let present = last.present;
-    if !present {
-        return true;
-    }
-    let from = nanos(last);
-    let to = nanos(candidate);
-    is_later(from, to)
+    !last.present || is_later(nanos(last), nanos(candidate))
 }
 
 // The owner's DEADLINE is missed (DDS 1.4, 2.2.3.9.2): its last sample is a deadline or more before now.
+#[tactic(auto, unfolding(model::specs::Times::deadline_missed))]
 pub fn deadline_missed(owner_at: MaybeTime, now: MaybeTime, deadline: u64) -> bool
     ensures { result ≡ deadline_missed owner_at «now» deadline }
 {
-    let present = owner_at.present;
-    if present {
-        return reaches(gap(nanos(owner_at), nanos(now)), deadline);
-    }
-    false
+    owner_at.present && reaches(gap(nanos(owner_at), nanos(now)), deadline)
 }
 
 // READER_DATA_LIFECYCLE's autopurge (DDS 1.4, 2.2.3.22): the delay has run out since. A delay of 2^64 - 1 never does.
+#[tactic(auto, unfolding(model::specs::Times::purge_due))]
 pub fn purge_due(since: MaybeTime, now: MaybeTime, delay: u64) -> bool
     ensures { result ≡ purge_due since «now» delay }
 {
-    let present = since.present;
-    if present {
-        if delay == 0xFFFF_FFFF_FFFF_FFFF {
-            return false;
-        }
-        return delay <= elapsed(gap(nanos(since), nanos(now)));
-    }
-    false
+    since.present && delay != u64::MAX && delay <= elapsed(gap(nanos(since), nanos(now)))
 }

@@ -4,9 +4,9 @@
 --     StandsAt                             a key stands at a place: all before it are less
 --     InsertsAt                            a key would go in at a place: all before it are less, all from there on greater
 --     lower_found, lower_missing           what is found, from the lower bound
---     key_found                            it is found At i where key i is it, as the keys rise
---     found_at                             At i says that it stands at i
---     found_missing                        Missing i says that it would go in at i
+--     key_found                            Ok i is found where key i is it, as the keys rise
+--     found_at                             Ok i says that it stands at i
+--     found_missing                        Err i says that it would go in at i
 --     told_place, told_lower                the place that is told either way is the lower bound
 --     number-le, insert-le                 of 128 keys at most: no record number above 127, no place to insert above 128
 use mathlib.Core.Path.{◌≡◌, refl, sym, ap}
@@ -19,8 +19,7 @@ use native.Mathlib.Omega.{arith}
 use lib.Dec.{ltb, eqb}
 use lib.ListN.{length, get_or}
 use borrow.Author.Tests.{lt-ltb, le-ltb, eq-eqb, ltb-true, ltb-false, eqb-true, eqb-false}
-use Rattle.tables.specs.declared.Found.{Found}
-use Rattle.tables.specs.declared.Found.TheVariants.{At, Missing}
+use Rattle.std.specs.Prelude.{Result, Ok, Err}
 use Rattle.tables.specs.Keys.{rising}
 use Rattle.tables.proofs.KeyLaws.{rising_pairs}
 use Rattle.tables.specs.Found.{lower_bound, found_in}
@@ -84,9 +83,9 @@ lower_unique (x ∷ ks) k (suc p) h b a =
 -- ---- what is found
 
 -- by the two tests at the lower bound
-found_step : (Q : Found → Type 0) (ks : List ℕ) (k : ℕ)
-    → (lower_bound ks k < length ks → get_or ks (lower_bound ks k) 0 ≡ k → Q (At (lower_bound ks k)))
-    → ((lower_bound ks k < length ks → get_or ks (lower_bound ks k) 0 ≡ k → ⊥) → Q (Missing (lower_bound ks k)))
+found_step : (Q : Result ℕ ℕ → Type 0) (ks : List ℕ) (k : ℕ)
+    → (lower_bound ks k < length ks → get_or ks (lower_bound ks k) 0 ≡ k → Q (Ok (lower_bound ks k)))
+    → ((lower_bound ks k < length ks → get_or ks (lower_bound ks k) 0 ≡ k → ⊥) → Q (Err (lower_bound ks k)))
     → Q (found_in ks k)
 unfolding found_in
 found_step Q ks k y n = each (ltb p (length ks)) (eqb (get_or ks p 0) k) refl refl
@@ -94,23 +93,23 @@ found_step Q ks k y n = each (ltb p (length ks)) (eqb (get_or ks p 0) k) refl re
     p : ℕ
     p = lower_bound ks k
 
-    each : (s t : Bool) → ltb p (length ks) ≡ s → eqb (get_or ks p 0) k ≡ t → Q (cond (s && t) (At p) (Missing p))
+    each : (s t : Bool) → ltb p (length ks) ≡ s → eqb (get_or ks p 0) k ≡ t → Q (cond (s && t) (Ok p) (Err p))
     each true true d e = y (ltb-true p (length ks) d) (eqb-true (get_or ks p 0) k e)
     each true false d e = n (λ l. eqb-false (get_or ks p 0) k e)
     each false t d e = n (λ l. let h : length ks ≤ p = ltb-false p (length ks) d in absurd (omega arith))
 
-pub found_at : (ks : List ℕ) (k i : ℕ) → found_in ks k ≡ At i → StandsAt ks k i
+pub found_at : (ks : List ℕ) (k i : ℕ) → found_in ks k ≡ Ok i → StandsAt ks k i
 found_at ks k i =
-    found_step (λ (r : Found). r ≡ At i → StandsAt ks k i) ks k
+    found_step (λ (r : Result ℕ ℕ). r ≡ Ok i → StandsAt ks k i) ks k
     (λ l e r.
     let q : lower_bound ks k ≡ i = cc in
     let s : StandsAt ks k (lower_bound ks k) = record { within = l; before = lower_before ks k; here = e } in
     rw q at s)
     (λ n r. let z : ◌≡◌ {A = ℕ} 0 1 = cc in absurd (omega arith))
 
-pub found_missing : (ks : List ℕ) (k i : ℕ) → rising ks ≡ true → found_in ks k ≡ Missing i → InsertsAt ks k i
+pub found_missing : (ks : List ℕ) (k i : ℕ) → rising ks ≡ true → found_in ks k ≡ Err i → InsertsAt ks k i
 found_missing ks k i h =
-    found_step (λ (r : Found). r ≡ Missing i → InsertsAt ks k i) ks k
+    found_step (λ (r : Result ℕ ℕ). r ≡ Err i → InsertsAt ks k i) ks k
     (λ l e r. let z : ◌≡◌ {A = ℕ} 0 1 = cc in absurd (omega arith))
     (λ n r. let q : lower_bound ks k ≡ i = cc in rw q at (place n))
   where
@@ -126,28 +125,28 @@ found_missing ks k i h =
               ⊎_elim (λ e. rw (← e) first) (λ q. omega (arith, rising_pairs ks h p j q m)) (eq-or-lt_of_le l);
         }
 
-pub lower_found : (ks : List ℕ) (k p : ℕ) → lower_bound ks k ≡ p → p < length ks → get_or ks p 0 ≡ k → found_in ks k ≡ At p
+pub lower_found : (ks : List ℕ) (k p : ℕ) → lower_bound ks k ≡ p → p < length ks → get_or ks p 0 ≡ k → found_in ks k ≡ Ok p
 unfolding found_in
 lower_found ks k p q l e = rw (q, lt-ltb p (length ks) l, eq-eqb (get_or ks p 0) k e)
 
-pub lower_missing : (ks : List ℕ) (k p : ℕ) → lower_bound ks k ≡ p → (p < length ks → get_or ks p 0 ≡ k → ⊥) → found_in ks k ≡ Missing p
-lower_missing ks k p q n = found_step (λ (r : Found). r ≡ Missing p) ks k (λ l e. absurd (n (rw q at l) (rw q at e))) (λ m. ap Missing q)
+pub lower_missing : (ks : List ℕ) (k p : ℕ) → lower_bound ks k ≡ p → (p < length ks → get_or ks p 0 ≡ k → ⊥) → found_in ks k ≡ Err p
+lower_missing ks k p q n = found_step (λ (r : Result ℕ ℕ). r ≡ Err p) ks k (λ l e. absurd (n (rw q at l) (rw q at e))) (λ m. ap Err q)
 
-pub key_found : (ks : List ℕ) (k i : ℕ) → rising ks ≡ true → i < length ks → get_or ks i 0 ≡ k → found_in ks k ≡ At i
+pub key_found : (ks : List ℕ) (k i : ℕ) → rising ks ≡ true → i < length ks → get_or ks i 0 ≡ k → found_in ks k ≡ Ok i
 key_found ks k i r l e =
     lower_found ks k i (lower_unique ks k i (omega arith) (λ j m. omega (arith, e, rising_pairs ks r j i m l)) (λ m. omega (arith, e))) l e
 
-abbrev pub told_place : Found → ℕ
-told_place (At i) = i
-told_place (Missing i) = i
+abbrev pub told_place : Result ℕ ℕ → ℕ
+told_place (Ok i) = i
+told_place (Err i) = i
 
 pub told_lower : (ks : List ℕ) (k : ℕ) → told_place (found_in ks k) ≡ lower_bound ks k
-told_lower ks k = found_step (λ (r : Found). told_place r ≡ lower_bound ks k) ks k (λ l e. refl) (λ n. refl)
+told_lower ks k = found_step (λ (r : Result ℕ ℕ). told_place r ≡ lower_bound ks k) ks k (λ l e. refl) (λ n. refl)
 
 -- document 02, request 3
 module _ (ks : List ℕ) (k i : ℕ) (most : length ks ≤ 128) where
-  pub number-le : found_in ks k ≡ At i → i ≤ 127
+  pub number-le : found_in ks k ≡ Ok i → i ≤ 127
   number-le f = omega (arith, (found_at ks k i f).within)
 
-  pub insert-le : rising ks ≡ true → found_in ks k ≡ Missing i → i ≤ 128
+  pub insert-le : rising ks ≡ true → found_in ks k ≡ Err i → i ≤ 128
   insert-le r f = omega (arith, (found_missing ks k i r f).within)

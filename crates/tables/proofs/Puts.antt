@@ -24,7 +24,7 @@ use lib.Seq.{length-take-le, get_or_at, set_at}
 use Rattle.model.specs.declared.Instance.{Instance}
 use Rattle.model.specs.Tables.{all, put, above, rising, sift, kept}
 use Rattle.model.specs.WellFormed.{handles_distinct, other_handle}
-use Rattle.tables.specs.declared.Found.TheVariants.{At, Missing}
+use Rattle.std.specs.Prelude.{Ok, Err}
 use Rattle.model.proofs.Tests.{both, split, lt-or-le}
 use Rattle.tables.proofs.KeyLaws.{rising_pairs}
 use Rattle.tables.specs.Found.{found_in}
@@ -90,29 +90,29 @@ module _ {A : Type 0} (key : A → ℕ) where
 
   module _ (xs : List A) (d : A) (r : rising key xs ≡ true) (k i : ℕ) where
     -- the place is one, and its record has the key
-    pub found_key : found_in (map key xs) k ≡ At i → (i < length xs) × (key (get_or xs i d) ≡ k)
+    pub found_key : found_in (map key xs) k ≡ Ok i → (i < length xs) × (key (get_or xs i d) ≡ k)
     found_key f =
         let p = found_at (map key xs) k i f in
         let l : i < length xs = omega (arith, p.within, length-map xs key) in
         (l, sym (get_key xs i d l) ∙ p.here)
 
-    pub found_only : found_in (map key xs) k ≡ At i → Only (keyed key k) xs i d
+    pub found_only : found_in (map key xs) k ≡ Ok i → Only (keyed key k) xs i d
     found_only f = only_key xs d r i k (found_key f).0 (found_key f).1
 
-    pub missing_inserts : found_in (map key xs) k ≡ Missing i → InsertsAt (map key xs) k i
+    pub missing_inserts : found_in (map key xs) k ≡ Err i → InsertsAt (map key xs) k i
     missing_inserts f = found_missing (map key xs) k i (rising-records key xs ∙ r) f
 
-    pub missing-nowhere : found_in (map key xs) k ≡ Missing i → Nowhere (keyed key k) xs d
+    pub missing-nowhere : found_in (map key xs) k ≡ Err i → Nowhere (keyed key k) xs d
     missing-nowhere f = nowhere_key xs d k i (missing_inserts f)
 
-    pub missing-le : found_in (map key xs) k ≡ Missing i → i ≤ length xs
+    pub missing-le : found_in (map key xs) k ≡ Err i → i ≤ length xs
     missing-le f = omega (arith, (missing_inserts f).within, length-map xs key)
 
-    pub missing-put : (y : A) → key y ≡ k → found_in (map key xs) k ≡ Missing i → put key y xs ≡ take i xs ++ y ∷ drop i xs
+    pub missing-put : (y : A) → key y ≡ k → found_in (map key xs) k ≡ Err i → put key y xs ≡ take i xs ++ y ∷ drop i xs
     missing-put y e f = put_inserts key xs y i (rw e (missing_inserts f))
 
     -- a record put in, and each taken through a function that acts on its key alone
-    module _ (f : A → Option A) (acts : (x : A) → keyed key k x ≡ false → f x ≡ some x) (m : found_in (map key xs) k ≡ Missing i) (y : A) (e : key y ≡ k) where
+    module _ (f : A → Option A) (acts : (x : A) → keyed key k x ≡ false → f x ≡ some x) (m : found_in (map key xs) k ≡ Err i) (y : A) (e : key y ≡ k) where
       pub missing-only : Only (keyed key k) (put key y xs) i d
       missing-only =
           rw (missing-put y e m) (only-insert (keyed key k) xs y d i (missing-le m) (missing-nowhere m) (eq-eqb (key y) k e))

@@ -22,7 +22,7 @@ use Rattle.model.specs.Tables.{find, put, above, rising as rising_by}
 use Rattle.model.proofs.GuidLaws.{guid-part}
 use Rattle.model.proofs.RowLaws.{read_last}
 use Rattle.model.proofs.Tests.{both}
-use Rattle.tables.specs.declared.Found.TheVariants.{At, Missing}
+use Rattle.std.specs.Prelude.{Ok, Err}
 use Rattle.tables.specs.Keys.{keys, leads, rising}
 use Rattle.tables.specs.Found.{found_in}
 use Rattle.tables.proofs.FoundLaws.{StandsAt, InsertsAt, found_at, found_missing}
@@ -125,7 +125,7 @@ module _ {A : Type 0} (key : A → ℕ) where
       (ap (λ (l : List A). x ∷ l) (put_inserts xs y i (inserts_tail (key x) (map key xs) (key y) i s)))
 
   -- where a key was found
-  module _ (xs : List A) (k i : ℕ) (f : found_in (map key xs) k ≡ At i) where
+  module _ (xs : List A) (k i : ℕ) (f : found_in (map key xs) k ≡ Ok i) where
     pub at_lt : i < length xs
     at_lt = omega (arith, (found_at (map key xs) k i f).within, length-map xs key)
 
@@ -136,7 +136,7 @@ module _ {A : Type 0} (key : A → ℕ) where
     put-at y e = put-stands xs y i (rw e (found_at (map key xs) k i f))
 
   -- where it was missing
-  module _ (xs : List A) (k i : ℕ) (r : rising_by key xs ≡ true) (f : found_in (map key xs) k ≡ Missing i) where
+  module _ (xs : List A) (k i : ℕ) (r : rising_by key xs ≡ true) (f : found_in (map key xs) k ≡ Err i) where
     place : InsertsAt (map key xs) k i
     place = found_missing (map key xs) k i (rising-records xs ∙ r) f
 

@@ -1,5 +1,6 @@
 -- The turns of the binary search and of the test that keys rise, in the code's own form.
 --     Bracket, bracket_start, bracket_up, bracket_down, bracket_end     lo and hi close in on the place of k
+--     mid_lt, mid_room, mid_key                                         what stands at the middle
 --     find_at, find_other, find-end                                     what is found at the lower bound
 --     rise_turn, rise_stop                                              one key more, and the first that does not rise
 --     record_le                                                         a record's bytes are within the table
@@ -7,7 +8,7 @@ use mathlib.Core.Path.{◌≡◌, refl, sym, ap, ◌∙◌}
 use mathlib.Core.Logic.{⊎_elim}
 use mathlib.Core.Bool.{Bool, true, false, ◌&&◌, and-false}
 use mathlib.Core.List.{List, [], ◌∷◌}
-use Prim.Native.Nat.{ℕ, zero, suc, ◌+◌, ◌-◌, ◌*◌, ◌≤◌, ◌<◌}
+use Prim.Native.Nat.{ℕ, zero, suc, ◌+◌, ◌-◌, ◌*◌, ◌/◌, ◌≤◌, ◌<◌}
 use native.Mathlib.Nat.{suc-mul, mul-le-mul_right, eq-or-lt_of_le}
 use native.Mathlib.Numerals.{add-one}
 use native.Mathlib.Omega.{arith}
@@ -16,7 +17,7 @@ use lib.ListN.{length, get_or}
 use borrow.Author.Tests.{eqb-true, eqb-false}
 use Rattle.model.specs.declared.Guid.{Guid}
 use Rattle.model.specs.Guids.{num, same, guid_at}
-use Rattle.tables.specs.declared.Found.TheVariants.{At, Missing}
+use Rattle.std.specs.Prelude.{Ok, Err}
 use Rattle.tables.specs.Keys.{keys, rising}
 use Rattle.tables.proofs.KeyLaws.{length-keys, get_or-keys, rising_snoc, rising-left, rising_pairs}
 use Rattle.tables.specs.Found.{lower_bound, found_in}
@@ -34,8 +35,8 @@ pub record Bracket (ks : List ℕ) (k lo hi : ℕ) : Type 0 where
   pub below : (i : ℕ) → i < lo → get_or ks i 0 < k
   pub above : (i : ℕ) → hi ≤ i → i < length ks → k ≤ get_or ks i 0
 
-pub bracket_start : (ks : List ℕ) (k n : ℕ) → length ks ≡ n → Bracket ks k 0 n
-bracket_start ks k n e =
+pub bracket_start : (ks : List ℕ) (k lo n : ℕ) → lo ≡ 0 → length ks ≡ n → Bracket ks k lo n
+bracket_start ks k lo n z e =
     record {
       lo_le = omega arith;
       hi_le = omega arith;
@@ -43,13 +44,25 @@ bracket_start ks k n e =
       above = λ i l m. absurd (omega arith);
     }
 
+-- the middle of a turn, as a place
+module _ (size count : ℕ) (t : List ℕ) {k lo hi : ℕ} (b : Bracket (keys size count t) k lo hi) (h : lo < hi) (m : ℕ) (e : m ≡ (lo + hi) / 2) where
+  pub mid_lt : m < count
+  mid_lt = omega (arith, length-keys size count t, b.hi_le)
+
+  pub mid_room : m * size + size ≤ count * size
+  mid_room = record_le size mid_lt
+
+  -- the key g that was read there
+  pub mid_key : (g : Guid) → g ≡ guid_at t (m * size) → get_or (keys size count t) ((lo + hi) / 2) 0 ≡ num g
+  mid_key g q = rw (← e) (get_or-keys size count t m mid_lt ∙ sym (ap num q))
+
 module _ {ks : List ℕ} {k lo hi : ℕ} (r : rising ks ≡ true) (b : Bracket ks k lo hi) (m : ℕ) (lm : lo ≤ m) (mh : m < hi) where
   -- the keys are in order around m
   at_most : (i j : ℕ) → i ≤ j → j < length ks → get_or ks i 0 ≤ get_or ks j 0
   at_most i j l h = ⊎_elim (λ e. rw e (omega arith)) (λ q. omega (arith, rising_pairs ks r i j q h)) (eq-or-lt_of_le l)
 
-  pub bracket_up : get_or ks m 0 < k → Bracket ks k (m + 1) hi
-  bracket_up c =
+  pub bracket_up : (p : ℕ) → p ≡ m + 1 → get_or ks m 0 < k → Bracket ks k p hi
+  bracket_up p e c =
       record {
         lo_le = omega arith;
         hi_le = b.hi_le;
@@ -75,15 +88,15 @@ module _ (size count : ℕ) (t : List ℕ) (key : Guid) (place : ℕ) (e : place
   read : (g : Guid) → g ≡ guid_at t (place * size) → place < count → get_or (keys size count t) place 0 ≡ num g
   read g q h = get_or-keys size count t place h ∙ sym (ap num q)
 
-  pub find_at : (g : Guid) → g ≡ guid_at t (place * size) → place < count → same g key ≡ true → At place ≡ found_in (keys size count t) (num key)
+  pub find_at : (g : Guid) → g ≡ guid_at t (place * size) → place < count → same g key ≡ true → Ok place ≡ found_in (keys size count t) (num key)
   find_at g q h s =
       sym (lower_found (keys size count t) (num key) place (sym e) (omega (arith, length-keys size count t)) (read g q h ∙ eqb-true (num g) (num key) s))
 
-  pub find_other : (g : Guid) → g ≡ guid_at t (place * size) → place < count → same g key ≡ false → Missing place ≡ found_in (keys size count t) (num key)
+  pub find_other : (g : Guid) → g ≡ guid_at t (place * size) → place < count → same g key ≡ false → Err place ≡ found_in (keys size count t) (num key)
   find_other g q h s =
       sym (lower_missing (keys size count t) (num key) place (sym e) (λ l z. eqb-false (num g) (num key) s (sym (read g q h) ∙ z)))
 
-  pub find-end : count ≤ place → Missing place ≡ found_in (keys size count t) (num key)
+  pub find-end : count ≤ place → Err place ≡ found_in (keys size count t) (num key)
   find-end h = sym (lower_missing (keys size count t) (num key) place (sym e) (λ l z. omega (arith, length-keys size count t)))
 
 -- ---- keys that rise

@@ -9,13 +9,6 @@ ghost use Rattle.tables.specs.Gaps.{opened, closed};
 
 use model::Guid;
 
-// Where a key was looked for: the place of its record, or the place where its record would go in.
-#[derive(Clone, Copy)]
-pub enum Found {
-    At(usize),
-    Missing(usize),
-}
-
 // Whether the keys of the first count records rise.
 pub fn keys_rise(t: &[u8], size: usize, count: usize) -> bool
     requires { (16 ≤ size) × (count * size ≤ length t.now) }
@@ -25,19 +18,18 @@ pub fn keys_rise(t: &[u8], size: usize, count: usize) -> bool
         return true;
     }
     let mut last = guid::guid_at(t, 0);
-    let mut i = 1;
-    while i < count {
+    for i in 1..count {
         let next = guid::guid_at(t, i * size);
         if !guid::is_less(last, next) {
             return false;
         }
         last = next;
-        i += 1;
     }
     true
 }
 
-// How many of the first count records stand before the key: a binary search, in 16 bits, as there are 128 at most.
+// How many of the first count records stand before the key: a binary search, in 16 bits, as there are 128 at most. By hand,
+// since the records lie in bytes at a size that only the caller knows, and std's searches are over slices of elements.
 pub fn lower_bound(t: &[u8], size: usize, count: usize, key: Guid) -> usize
     requires { (16 ≤ size) × (count ≤ 128) × (count * size ≤ length t.now) × (rising (keys size count t.now) ≡ true) }
     ensures { result ≡ lower_bound (keys size count t.now) (num key) }
@@ -46,27 +38,27 @@ pub fn lower_bound(t: &[u8], size: usize, count: usize, key: Guid) -> usize
     let mut hi = count as u16;
     while lo < hi {
         let mid = (lo + hi) / 2;
-        if guid::is_less(guid::guid_at(t, mid as usize * size), key) {
+        if guid::is_less(guid::guid_at(t, usize::from(mid) * size), key) {
             lo = mid + 1;
         } else {
             hi = mid;
         }
     }
-    lo as usize
+    usize::from(lo)
 }
 
-// The place of the key among the first count records.
-pub fn find(t: &[u8], size: usize, count: usize, key: Guid) -> Found
+// The place of the key among the first count records, or where its record would go in.
+pub fn find(t: &[u8], size: usize, count: usize, key: Guid) -> Result<usize, usize>
     requires { (16 ≤ size) × (count ≤ 128) × (count * size ≤ length t.now) × (rising (keys size count t.now) ≡ true) }
     ensures { result ≡ found_in (keys size count t.now) (num key) }
 {
     let place = lower_bound(t, size, count, key);
     if place < count {
         if guid::is_same(guid::guid_at(t, place * size), key) {
-            return Found::At(place);
+            return Ok(place);
         }
     }
-    Found::Missing(place)
+    Err(place)
 }
 
 // The records from place at on move up by one place. The record there is left for the caller to write over.

@@ -21,86 +21,68 @@ fn main(rt: HostRuntime) -> io::Result<()> {
     purge_before_epoch(&rt)
 }
 
-// A case's name, and the colon after it.
-fn name(rt: &impl Print, text: &str) -> io::Result<()> {
-    print!(rt; "{text}: ")
-}
-
-// The hash of a text.
-fn hash(rt: &impl Print, text: &str) -> io::Result<()> {
-    print!(rt; "fnv_1a ")?;
-    name(rt, text)?;
-    println!(rt; "{:016x}", instance_handle::fnv_1a(text.as_bytes()))
+// The hash of each text.
+fn hashes(rt: &impl Print, texts: &[&str]) -> io::Result<()> {
+    for text in texts {
+        println!(rt;
+            "fnv_1a {text}: {:016x}",
+            instance_handle::fnv_1a(text.as_bytes())
+        )?;
+    }
+    Ok(())
 }
 
 // The empty text and the parts of "foobar".
 fn fnv_prefixes(rt: &impl Print) -> io::Result<()> {
-    hash(rt, "")?;
-    hash(rt, "f")?;
-    hash(rt, "fo")?;
-    hash(rt, "foo")?;
-    hash(rt, "foob")?;
-    hash(rt, "fooba")?;
-    hash(rt, "foobar")
+    hashes(rt, &["", "f", "fo", "foo", "foob", "fooba", "foobar"])
 }
 
 // Single letters.
 fn fnv_letters(rt: &impl Print) -> io::Result<()> {
-    hash(rt, "a")?;
-    hash(rt, "b")?;
-    hash(rt, "c")?;
-    hash(rt, "d")?;
-    hash(rt, "e")
+    hashes(rt, &["a", "b", "c", "d", "e"])
 }
 
 // The parts of "chongo", and the whole line that it begins.
 fn fnv_chongo(rt: &impl Print) -> io::Result<()> {
-    hash(rt, "ch")?;
-    hash(rt, "cho")?;
-    hash(rt, "chon")?;
-    hash(rt, "chong")?;
-    hash(rt, "chongo")?;
-    hash(rt, "chongo was here!")
+    hashes(
+        rt,
+        &["ch", "cho", "chon", "chong", "chongo", "chongo was here!"],
+    )
 }
 
 // A GUID whose bytes hash to 0, which is nil; and the counter at nil, at its start and at its end.
 fn handles(rt: &impl Print) -> io::Result<()> {
-    name(rt, "from_guid d56bb95342870836 0")?;
     let guid = Guid {
         hi: 0xd56b_b953_4287_0836,
         lo: 0,
     };
     let handle = instance_handle::from_guid(guid);
-    println!(rt; "{}", handle.0)?;
-    allocation(rt, 0)?;
-    allocation(rt, 1)?;
-    allocation(rt, 0xFFFF_FFFF_FFFF_FFFF)
+    println!(rt; "from_guid {:016x} {}: {}", guid.hi, guid.lo, handle.0)?;
+    for counter in [0, 1, u64::MAX] {
+        allocation(rt, counter)?;
+    }
+    Ok(())
 }
 
 // The handle given at a counter, and the counter after it.
 fn allocation(rt: &impl Print, counter: u64) -> io::Result<()> {
-    print!(rt; "allocate_step {counter}")?;
-    name(rt, "")?;
     let step = instance_handle::allocate_step(counter);
-    let handle = step.handle;
-    println!(rt; "{}, then {}", handle.0, step.counter)
+    println!(rt;
+        "allocate_step {counter}: {}, then {}",
+        step.handle.0, step.counter
+    )
 }
 
 // A decision, as yes or no.
 fn decision(rt: &impl Print, text: &str, yes: bool) -> io::Result<()> {
-    name(rt, text)?;
-    if yes {
-        println!(rt; "yes")
-    } else {
-        println!(rt; "no")
-    }
+    println!(rt; "{text}: {}", if yes { "yes" } else { "no" })
 }
 
 // A time that is there.
 fn time(sec: i32, nanosec: u32) -> MaybeTime {
     MaybeTime {
         present: true,
-        sec: numbers::bits_of(sec),
+        sec: sec.cast_unsigned(),
         nanosec,
     }
 }

@@ -6,9 +6,9 @@ use std::io;
 
 // Every group of cases.
 fn main(rt: HostRuntime) -> io::Result<()> {
-    allocation(&rt, 0)?;
-    allocation(&rt, 1)?;
-    allocation(&rt, 0xFFFF_FFFF_FFFF_FFFF)?;
+    for counter in [0, 1, u64::MAX] {
+        allocation(&rt, counter)?;
+    }
     no_instance(&rt)?;
     two_instances(&rt)?;
     small_table(&rt)?;
@@ -18,10 +18,11 @@ fn main(rt: HostRuntime) -> io::Result<()> {
 
 // The handle that an allocator at the counter gives, and the counter after it.
 fn allocation(rt: &impl Print, counter: u64) -> io::Result<()> {
-    print!(rt; "allocate at {counter}")?;
     let step = handle_allocator::allocate_at(counter);
-    let handle = step.handle;
-    println!(rt; ": {}, then {}", handle.0, step.counter)
+    println!(rt;
+        "allocate at {counter}: {}, then {}",
+        step.handle.0, step.counter
+    )
 }
 
 // The table is empty.
@@ -54,7 +55,7 @@ fn wrong_length(rt: &impl Print) -> io::Result<()> {
 // Refusal 3.
 fn wrong_form(rt: &impl Print) -> io::Result<()> {
     let mut pens = [0u8; 65536];
-    octets::put_u8(&mut pens, 65535, 1);
+    pens[65535] = 1;
     walk(rt, "a byte behind the records", &pens, 1)
 }
 
@@ -69,16 +70,14 @@ fn registered(pens: &mut [u8]) {
 fn fresh(pens: &mut [u8]) -> Head {
     let mut writers = [0u8; 5120];
     let mut lost = [0u8; 4096];
-    let called = dcps::fresh(pens, &mut writers, &mut lost);
-    let head = called.head;
-    head
+    dcps::fresh(pens, &mut writers, &mut lost).head
 }
 
 // The sheet of a register (code 1) of the key.
 fn sheet_of(key: u64) -> [u8; 256] {
     let mut sheet = [0u8; 256];
     octets::put_u64(&mut sheet, 8, key);
-    octets::put_u8(&mut sheet, 81, 1);
+    sheet[81] = 1;
     sheet
 }
 
@@ -93,19 +92,15 @@ fn register(head: Head, key: u64, pens: &mut [u8]) -> Head {
 fn call(head: Head, key: u64, pens: &mut [u8], writers: &mut [u8], lost: &mut [u8]) -> Head {
     let sheet = sheet_of(key);
     let mut out = [0u8; 4096];
-    let called = dcps::call(head, &sheet, pens, writers, lost, &mut out);
-    let after = called.head;
-    after
+    dcps::call(head, &sheet, pens, writers, lost, &mut out).head
 }
 
 // So many steps of a walker from the table's start.
 fn walk(rt: &impl Print, name: &str, pens: &[u8], steps: u64) -> io::Result<()> {
     let mut position = 0;
-    let mut i = 0;
-    while i < steps {
+    for _ in 0..steps {
         print!(rt; "{name}")?;
         position = step(rt, pens, position)?;
-        i += 1;
     }
     Ok(())
 }
@@ -114,16 +109,14 @@ fn walk(rt: &impl Print, name: &str, pens: &[u8], steps: u64) -> io::Result<()> 
 fn step(rt: &impl Print, pens: &[u8], position: usize) -> io::Result<usize> {
     print!(rt; " at {position}")?;
     let walked = instance_walker::step_at(pens, position);
-    let found = walked.found;
-    answer(rt, found)?;
+    answer(rt, walked.found)?;
     Ok(walked.position)
 }
 
 // The last position that there is.
 fn last_position(rt: &impl Print, pens: &[u8]) -> io::Result<()> {
     print!(rt; "two instances at 2^64-1")?;
-    let found = instance_walker::handle_at(pens, 0xFFFF_FFFF_FFFF_FFFF);
-    answer(rt, found)
+    answer(rt, instance_walker::handle_at(pens, usize::MAX))
 }
 
 // What a walker gives.

@@ -21,8 +21,7 @@ fn acknowledge_ok(acknowledges: AcknowledgeUse, s: Sheet, head: Head) -> bool
     ensures { (pens writers lost : List ℕ) → result ≡ acknowledgeable_with acknowledges s (held_by head pens writers lost) }
 {
     match acknowledges {
-        AcknowledgeUse::Nothing => true,
-        AcknowledgeUse::Whole => true,
+        AcknowledgeUse::Nothing | AcknowledgeUse::Whole => true,
         AcknowledgeUse::Part => writer_status::acknowledge_ok(s, head),
     }
 }

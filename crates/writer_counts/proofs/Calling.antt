@@ -13,16 +13,15 @@ use lib.ListN.{length, take, drop, get_or, length-map}
 use Rattle.octets.specs.Lay.{lay}
 use Rattle.model.specs.declared.Called.{Called}
 use Rattle.model.specs.declared.Head.{Head}
-use Rattle.model.specs.declared.LastWriter.{LastWriter}
 use Rattle.model.specs.declared.Sheet.{Sheet}
 use Rattle.model.specs.declared.TrackerCall.{TrackerCall}
 use Rattle.model.specs.declared.Writer.{Writer}
 use Rattle.model.specs.InstanceRecord.{bit}
-use Rattle.model.specs.State.{Class, alive, not_alive, neither, class_of, is_alive_class, is_not_alive_class, counts_alive, counts_not_alive, alive_count, not_alive_count, writers_in, writer_key}
+use Rattle.model.specs.State.{Class, alive, not_alive, neither, class_of, is_alive_class, is_not_alive_class, counts_alive, counts_not_alive, alive_count, not_alive_count, writers_in, writer_key, LastWriter}
 use Rattle.model.specs.Tables.{pick}
 use Rattle.model.specs.Writers.{guid_in, movers, writers_after, tracker_call}
 use Rattle.model.specs.WriterRecord.{writer_of, writer_bytes}
-use Rattle.tables.specs.declared.Found.{Found}
+use Rattle.std.specs.Prelude.{Result}
 use Rattle.tables.specs.Found.{found_in}
 use Rattle.tables.specs.Keys.{keys, rising}
 use Rattle.tables.proofs.RecordLaws.{rising-records}
@@ -43,7 +42,7 @@ module _ (head : Head) (w : List ℕ) (good : Good head w) where
   pub find-rises : rising (keys 40 head.writer_count w) ≡ true
   find-rises = ap rising (keys_are head.writer_count w) ∙ rising-records writer_key ws ∙ good.ready.rises
 
-  pub found_in_lem : (k : ℕ) (f : Found) → found_in (keys 40 head.writer_count w) k ≡ f → found_in (map writer_key ws) k ≡ f
+  pub found_in_lem : (k : ℕ) (f : Result ℕ ℕ) → found_in (keys 40 head.writer_count w) k ≡ f → found_in (map writer_key ws) k ≡ f
   found_in_lem k f e = ap (λ (z : List ℕ). found_in z k) (sym (keys_are head.writer_count w)) ∙ e
 
   pub at_place : (i : ℕ) (x : Writer) → i < head.writer_count → x ≡ writer_of (take 40 (drop (i * 40) w)) → x ≡ get_or ws i x

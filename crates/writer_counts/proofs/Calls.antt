@@ -31,7 +31,7 @@ use Rattle.model.specs.WellFormed.{clock_ok}
 use Rattle.model.specs.WriterRecord.{writer_of, writer_bytes, state_number}
 use Rattle.model.specs.Writers.{assertion, asserted, is_tracked, unmatched_from, lost_as, departed, matched_writer, match_asserts, moves, guid_in, movers, writers_after, tracker_call}
 use Rattle.model.proofs.Fits.{FitsGuid}
-use Rattle.tables.specs.declared.Found.TheVariants.{At, Missing}
+use Rattle.std.specs.Prelude.{Ok, Err}
 use Rattle.tables.specs.Found.{found_in}
 use Rattle.tables.specs.Gaps.{opened, closed}
 use Rattle.tables.specs.Keys.{keys}
@@ -120,26 +120,26 @@ module _ (s : Sheet) (head : Head) (w : List ℕ) (bytes : Bytes w) (held : Writ
 
   -- ---- where the GUID was missing
 
-  unmatched-missing : (i : ℕ) → found_in (keys 40 n w) (num s.guid) ≡ Missing i → (r : Called) → r ≡ called_by head n (still_tally head) → Turns Unmatched s head w r w
+  unmatched-missing : (i : ℕ) → found_in (keys 40 n w) (num s.guid) ≡ Err i → (r : Called) → r ≡ called_by head n (still_tally head) → Turns Unmatched s head w r w
   unmatched-missing i f r e pens lost =
       single-missing Unmatched s unmatched_from head w held.long g (unmatched-after s ws) (unmatched_who s ws) (λ p l. unmatched-plain s _)
-      (missing_lacks s.guid ws i g.ready.rises (departed s.guid) (found_in_lem head w g (num s.guid) (Missing i) f)) r e pens lost
+      (missing_lacks s.guid ws i g.ready.rises (departed s.guid) (found_in_lem head w g (num s.guid) (Err i) f)) r e pens lost
 
-  lost-missing : (i : ℕ) → found_in (keys 40 n w) (num s.guid) ≡ Missing i → (r : Called) → r ≡ called_by head n (still_tally head) → Turns LostWithParticipant s head w r w
+  lost-missing : (i : ℕ) → found_in (keys 40 n w) (num s.guid) ≡ Err i → (r : Called) → r ≡ called_by head n (still_tally head) → Turns LostWithParticipant s head w r w
   lost-missing i f r e pens lost =
       single-missing LostWithParticipant s lost_from head w held.long g (lost-after s ws) (lost_who s ws) (λ p l. lost-plain s _)
-      (missing_lacks s.guid ws i g.ready.rises (departed s.guid) (found_in_lem head w g (num s.guid) (Missing i) f)) r e pens lost
+      (missing_lacks s.guid ws i g.ready.rises (departed s.guid) (found_in_lem head w g (num s.guid) (Err i) f)) r e pens lost
 
-  pub leave_missing : (lost : Bool) (i : ℕ) → found_in (keys 40 n w) (num s.guid) ≡ Missing i → (r : Called) → r ≡ called_by head n (still_tally head) →
+  pub leave_missing : (lost : Bool) (i : ℕ) → found_in (keys 40 n w) (num s.guid) ≡ Err i → (r : Called) → r ≡ called_by head n (still_tally head) →
       Turns (leaving lost) s head w r w
   leave_missing true i f r e = lost-missing i f r e
   leave_missing false i f r e = unmatched-missing i f r e
 
   -- ---- where it was found
 
-  module _ (i : ℕ) (f : found_in (keys 40 n w) (num s.guid) ≡ At i) where
-    found : found_in (map writer_key ws) (num s.guid) ≡ At i
-    found = found_in_lem head w g (num s.guid) (At i) f
+  module _ (i : ℕ) (f : found_in (keys 40 n w) (num s.guid) ≡ Ok i) where
+    found : found_in (map writer_key ws) (num s.guid) ≡ Ok i
+    found = found_in_lem head w g (num s.guid) (Ok i) f
 
     pub place_of : i < n
     place_of = omega (arith, at_lt writer_key ws (num s.guid) i found, g.size)
@@ -205,9 +205,9 @@ module _ (s : Sheet) (head : Head) (w : List ℕ) (bytes : Bytes w) (held : Writ
 
   -- ---- a match of a GUID that has none
 
-  module _ (i : ℕ) (f : found_in (keys 40 n w) (num s.guid) ≡ Missing i) (fits : FitsGuid s.guid) (used : all clock_ok (clocks_used_by Matched s) ≡ true) where
-    nowhere : found_in (map writer_key ws) (num s.guid) ≡ Missing i
-    nowhere = found_in_lem head w g (num s.guid) (Missing i) f
+  module _ (i : ℕ) (f : found_in (keys 40 n w) (num s.guid) ≡ Err i) (fits : FitsGuid s.guid) (used : all clock_ok (clocks_used_by Matched s) ≡ true) where
+    nowhere : found_in (map writer_key ws) (num s.guid) ≡ Err i
+    nowhere = found_in_lem head w g (num s.guid) (Err i) f
 
     pub first-within : i ≤ n
     first-within = within s head w bytes held.long g fits used i nowhere

@@ -1,19 +1,25 @@
 -- The signed changes of a turn, over plain variables.
+--     acknowledged_read what was acknowledged, read back from its bits
 --     changed           the change that is returned, read back from its bits
 --     settled           the head that is put together
-use Prim.Native.Nat.{ℕ, ◌+◌, ◌≤◌, ◌%◌, ◌^◌}
+use Prim.Native.Nat.{ℕ, ◌+◌, ◌≤◌, ◌<◌, ◌%◌, ◌^◌}
 use mathlib.Core.Bool.{true}
 use mathlib.Core.Path.{◌≡◌, ap, ◌∙◌}
 use lib.IntN.{ℤ, pos, ◌-ℤ◌}
 use mir.Facts.{to_z-of_z}
-use mir.Syntax.{w32}
+use mir.Syntax.{w32, w64}
 use mir.Val.{SFits, of_z, to_z}
 use Rattle.model.specs.declared.Head.{Head}
 use Rattle.model.specs.WellFormed.{within}
-use Rattle.numbers.proofs.Signs.{change_fits}
+use Rattle.numbers.proofs.Signs.{change_fits, difference_fits}
 use Rattle.numbers.proofs.Signed.{back}
 use Rattle.writer_pass.specs.declared.Tally.{Tally}
 use Rattle.writer_counts.specs.Turns.{settled_head}
+
+pub acknowledged_read : (count : ℕ) (change a : ℤ) → count < 2 ^ 32 → SFits w32 change → a ≡ pos count -ℤ to_z w32 (of_z w32 change) →
+    to_z w64 (of_z w64 a) ≡ pos count -ℤ change
+acknowledged_read count change a h f e =
+    back (e ∙ ap (λ (z : ℤ). pos count -ℤ z) (to_z-of_z f)) (difference_fits count change h f)
 
 pub changed : (count after : ℕ) (change r : ℤ) → SFits w32 change → after ≤ 128 → within (pos count -ℤ change) ≡ true →
     r ≡ pos after -ℤ (pos count -ℤ to_z w32 (of_z w32 change)) → to_z w32 (of_z w32 r) ≡ pos after -ℤ (pos count -ℤ change)

@@ -33,7 +33,7 @@ use Rattle.model.specs.WriterRecord.{writer_bytes}
 use Rattle.model.specs.Writers.{assertion, asserted, has_guid, is_tracked, lease_on, matched_as, matched_from, matched_writer, match_asserts, guid_in, tracker_late, tracker_call}
 use Rattle.model.proofs.Fits.{FitsGuid, FitsWriter}
 use Rattle.model.proofs.Tests.{both}
-use Rattle.tables.specs.declared.Found.TheVariants.{At, Missing}
+use Rattle.std.specs.Prelude.{Ok, Err}
 use Rattle.tables.specs.Found.{found_in}
 use Rattle.tables.specs.Gaps.{opened}
 use Rattle.tables.proofs.GapLaws.{opened-lay}
@@ -137,7 +137,7 @@ module _ (s : Sheet) (head : Head) (w : List ℕ) (bytes : Bytes w) (long : leng
         not_alive = ap not_alive_count e ∙ q;
       }
 
-  module _ (i : ℕ) (x : Writer) (found : found_in (map writer_key ws) (num s.guid) ≡ At i) (read : x ≡ get_or ws i x) where
+  module _ (i : ℕ) (x : Writer) (found : found_in (map writer_key ws) (num s.guid) ≡ Ok i) (read : x ≡ get_or ws i x) where
     inside : i < length ws
     inside = at_lt writer_key ws (num s.guid) i found
 
@@ -184,7 +184,7 @@ module _ (s : Sheet) (head : Head) (w : List ℕ) (bytes : Bytes w) (long : leng
     pub asserts-there : match_asserts s ws ≡ (automatic s && not (is_tracked x.liveliness.state))
     asserts-there = rw there
 
-  module _ (i : ℕ) (found : found_in (map writer_key ws) (num s.guid) ≡ Missing i) where
+  module _ (i : ℕ) (found : found_in (map writer_key ws) (num s.guid) ≡ Err i) where
     pub absent : find (has_guid s.guid) ws ≡ none
     absent = find_none writer_key ws (num s.guid) i good.ready.rises found
 

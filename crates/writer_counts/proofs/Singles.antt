@@ -21,17 +21,16 @@ use Rattle.octets.specs.Patch.{patch}
 use Rattle.model.specs.declared.Called.{Called}
 use Rattle.model.specs.declared.Guid.{Guid}
 use Rattle.model.specs.declared.Head.{Head}
-use Rattle.model.specs.declared.LastWriter.{LastWriter}
 use Rattle.model.specs.declared.Sheet.{Sheet}
 use Rattle.model.specs.declared.TrackerCall.{TrackerCall}
 use Rattle.model.specs.declared.Writer.{Writer}
 use Rattle.model.specs.Guids.{num}
 use Rattle.model.specs.InstanceRecord.{bit}
-use Rattle.model.specs.State.{Class, alive, not_alive, neither, class_of, is_alive_class, is_not_alive_class, counts_alive, counts_not_alive, alive_count, not_alive_count, writers_in, writers_of, writer_key}
+use Rattle.model.specs.State.{Class, alive, not_alive, neither, class_of, is_alive_class, is_not_alive_class, counts_alive, counts_not_alive, alive_count, not_alive_count, writers_in, writers_of, writer_key, LastWriter}
 use Rattle.model.specs.Tables.{pick, sift, kept, rising as rising_by}
 use Rattle.model.specs.WriterRecord.{writer_bytes}
 use Rattle.model.specs.Writers.{has_guid, same_class, moves, guid_in, last_after, departed, movers, writers_after, tracker_call}
-use Rattle.tables.specs.declared.Found.TheVariants.{At, Missing}
+use Rattle.std.specs.Prelude.{Ok, Err}
 use Rattle.tables.specs.Found.{found_in}
 use Rattle.tables.proofs.FoundLaws.{StandsAt, InsertsAt, found_at, found_missing}
 use Rattle.tables.proofs.GapLaws.{closed-lay}
@@ -54,7 +53,7 @@ abbrev pub Lacks : Guid → List Writer → Type 0
 Lacks g ws = All (λ (w : Writer). has_guid g w ≡ false) ws
 
 module _ (g : Guid) (ws : List Writer) (i : ℕ) (r : rising_by writer_key ws ≡ true) where
-  pub missing_lacks : (d : Writer) → found_in (map writer_key ws) (num g) ≡ Missing i → Lacks g ws
+  pub missing_lacks : (d : Writer) → found_in (map writer_key ws) (num g) ≡ Err i → Lacks g ws
   missing_lacks d f =
       let p : InsertsAt (map writer_key ws) (num g) i = found_missing (map writer_key ws) (num g) i (rising-records writer_key ws ∙ r) f in
       all_from (λ (w : Writer). has_guid g w ≡ false) d ws
@@ -64,7 +63,7 @@ module _ (g : Guid) (ws : List Writer) (i : ℕ) (r : rising_by writer_key ws �
       (λ m. omega (arith, p.behind j m (omega (arith, length-map ws writer_key)), get-map ws j d l))
       (lt-or-le j i)))
 
-  module _ (d : Writer) (f : found_in (map writer_key ws) (num g) ≡ At i) where
+  module _ (d : Writer) (f : found_in (map writer_key ws) (num g) ≡ Ok i) where
     place : StandsAt (map writer_key ws) (num g) i
     place = found_at (map writer_key ws) (num g) i f
 
@@ -189,7 +188,7 @@ module _ (c : TrackerCall) (s : Sheet) (f : Writer → Option Writer) (head : He
       turn-settles c s head pens w lost ws [] (still_tally head) head.writer_count (after ∙ sift_lacks s.guid f ws l)
       (who ∙ ap (map guid_in) (pick_lacks s.guid f ws l)) t.counts t.moved t.newest (sym good.size) (plain pens lost) r w e laid
 
-  module _ (i : ℕ) (found : found_in (map writer_key ws) (num s.guid) ≡ At i) (x : Writer) (read : x ≡ get_or ws i x) where
+  module _ (i : ℕ) (found : found_in (map writer_key ws) (num s.guid) ≡ Ok i) (x : Writer) (read : x ≡ get_or ws i x) where
     inside : i < length ws
     inside = below s.guid ws i good.ready.rises x found
 

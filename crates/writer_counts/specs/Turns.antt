@@ -1,9 +1,8 @@
 -- The head after a turn of the writers, and the tallies of turns.
-use Rattle.std.specs.Prelude.{ℕ, ◌+◌, ◌-◌, ◌%◌, ◌^◌, ◌≤◌, true, not, cond, ◌≡◌, eqb, pos, ◌-ℤ◌}
+use Rattle.std.specs.Prelude.{ℕ, ◌+◌, ◌-◌, ◌%◌, ◌^◌, ◌≤◌, true, not, cond, ◌≡◌, eqb, pos, ◌-ℤ◌, Some}
 use Rattle.model.specs.declared.Called.{Called}
 use Rattle.model.specs.declared.Guid.{Guid}
 use Rattle.model.specs.declared.Head.{Head}
-use Rattle.model.specs.declared.LastWriter.TheVariants.{Is}
 use Rattle.model.specs.declared.Writer.{Writer}
 use Rattle.model.specs.Answers.{saying}
 use Rattle.model.specs.State.{class_of, is_alive_class, is_not_alive_class}
@@ -45,7 +44,7 @@ still_tally h = record { counts = record { alive = h.alive; not_alive = h.not_al
 
 -- one writer's class changes
 abbrev pub shifted_tally : ℕ → ℕ → Guid → Tally
-shifted_tally alive not_alive g = record { counts = record { alive = alive; not_alive = not_alive }; moved = 1; last = Is g }
+shifted_tally alive not_alive g = record { counts = record { alive = alive; not_alive = not_alive }; moved = 1; last = Some g }
 
 -- a writer is taken out
 abbrev pub gone_tally : Head → Writer → Tally

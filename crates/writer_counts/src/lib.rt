@@ -10,7 +10,7 @@ ghost use Rattle.model.specs.State.{class_of, is_alive_class, is_not_alive_class
 ghost use Rattle.model.specs.WellFormed.{within};
 ghost use Rattle.writer_counts.specs.Turns.{CountsFit, settled_head, called_by, still_tally, shifted_tally, gone_tally, departs_tally};
 
-use model::{Called, Guid, Head, LastWriter, Writer};
+use model::{Called, Guid, Head, Writer};
 use writer_pass::{Counts, Tally};
 
 // The change of a count that was `count` with `change`, and is `after`: what was acknowledged of it stays.
@@ -27,27 +27,17 @@ pub fn settle_head(head: Head, writer_count: u32, lost_count: u32, tally: Tally)
     requires { CountsFit head tally }
     ensures { result ≡ settled_head head writer_count lost_count tally }
 {
-    let counts = tally.counts;
-    let last = tally.last;
-    let alive = counts.alive;
-    let not_alive = counts.not_alive;
-    let instance_count = head.instance_count;
-    let next_handle = head.next_handle;
-    let alive_change = change_after(head.alive, head.alive_change, alive);
-    let not_alive_change = change_after(head.not_alive, head.not_alive_change, not_alive);
-    let changes = numbers::wrapping_add_u64(head.changes, tally.moved as u64);
+    let Counts { alive, not_alive } = tally.counts;
     Head {
-        instance_count: instance_count,
-        next_handle: next_handle,
-        writer_count: writer_count,
-        lost_count: lost_count,
-        alive: alive,
-        not_alive: not_alive,
-        alive_change: alive_change,
-        not_alive_change: not_alive_change,
-        last_writer: last,
-        changes: changes,
-        places: head.places,
+        writer_count,
+        lost_count,
+        alive,
+        not_alive,
+        alive_change: change_after(head.alive, head.alive_change, alive),
+        not_alive_change: change_after(head.not_alive, head.not_alive_change, not_alive),
+        last_writer: tally.last,
+        changes: head.changes.wrapping_add(u64::from(tally.moved)),
+        ..head
     }
 }
 
@@ -56,24 +46,23 @@ pub fn called(head: Head, writer_count: u32, tally: Tally) -> Called
     requires { CountsFit head tally }
     ensures { result ≡ called_by head writer_count tally }
 {
-    let a = answers::saying(tally.moved != 0);
-    let h = settle_head(head, writer_count, head.lost_count, tally);
-    Called { answer: a, head: h }
+    Called {
+        answer: answers::saying(tally.moved != 0),
+        head: settle_head(head, writer_count, head.lost_count, tally),
+    }
 }
 
 // The tally of a turn that changes no class.
 pub fn still(head: Head) -> Tally
     ensures { result ≡ still_tally head }
 {
-    let last = head.last_writer;
-    let counts = Counts {
-        alive: head.alive,
-        not_alive: head.not_alive,
-    };
     Tally {
-        counts: counts,
+        counts: Counts {
+            alive: head.alive,
+            not_alive: head.not_alive,
+        },
         moved: 0,
-        last: last,
+        last: head.last_writer,
     }
 }
 
@@ -81,14 +70,10 @@ pub fn still(head: Head) -> Tally
 fn shifted(alive: u32, not_alive: u32, guid: Guid) -> Tally
     ensures { result ≡ shifted_tally alive not_alive guid }
 {
-    let counts = Counts {
-        alive: alive,
-        not_alive: not_alive,
-    };
     Tally {
-        counts: counts,
+        counts: Counts { alive, not_alive },
         moved: 1,
-        last: LastWriter::Is(guid),
+        last: Some(guid),
     }
 }
 
@@ -98,14 +83,11 @@ pub fn gone(head: Head, w: Writer) -> Tally
         × (is_not_alive_class (class_of w.liveliness.state) ≡ true → 1 ≤ head.not_alive) }
     ensures { result ≡ gone_tally head w }
 {
-    let l = w.liveliness;
-    let s = l.state;
-    let g = w.guid;
-    if writer_effects::counts_alive(s) {
-        return shifted(head.alive - 1, head.not_alive, g);
+    if writer_effects::counts_alive(w.liveliness.state) {
+        return shifted(head.alive - 1, head.not_alive, w.guid);
     }
-    if writer_effects::counts_not_alive(s) {
-        return shifted(head.alive, head.not_alive - 1, g);
+    if writer_effects::counts_not_alive(w.liveliness.state) {
+        return shifted(head.alive, head.not_alive - 1, w.guid);
     }
     still(head)
 }
@@ -115,11 +97,8 @@ pub fn departs(head: Head, w: Writer) -> Tally
     requires { (is_alive_class (class_of w.liveliness.state) ≡ true → 1 ≤ head.alive) × (head.not_alive ≤ 128) }
     ensures { result ≡ departs_tally head w }
 {
-    let l = w.liveliness;
-    let s = l.state;
-    let g = w.guid;
-    if writer_effects::counts_alive(s) {
-        return shifted(head.alive - 1, head.not_alive + 1, g);
+    if writer_effects::counts_alive(w.liveliness.state) {
+        return shifted(head.alive - 1, head.not_alive + 1, w.guid);
     }
     still(head)
 }

@@ -9,7 +9,7 @@ ghost use Rattle.std.specs.Prelude.{◌&&◌, ◌≡◌};
 ghost use Rattle.std.proofs.Math.Option.{none, some};
 ghost use Rattle.model.specs.State.{class_of, is_alive_class, is_not_alive_class};
 ghost use Rattle.model.specs.Writers.{is_tracked, is_not_alive, is_automatic, covers_kind, has_guid, lease_on, matched_as, matched_writer, with_state, covers, renews, departed};
-ghost use Rattle.writer_effects.specs.Acts.{assertion_of, class_number};
+ghost use Rattle.writer_effects.specs.Acts.{assertion_of};
 
 use model::{Guid, Liveliness, LivelinessKind, MaybeLease, Sheet, Writer, WriterState};
 
@@ -26,61 +26,35 @@ pub struct Assertion {
 pub fn is_tracked(s: WriterState) -> bool
     ensures { result ≡ is_tracked s }
 {
-    match s {
-        WriterState::Unasserted => true,
-        WriterState::Alive => true,
-        WriterState::NotAlive => true,
-        WriterState::Departed => false,
-    }
+    !matches!(s, WriterState::Departed)
 }
 
 // Whether a state is not alive, and not departed.
 fn is_not_alive(s: WriterState) -> bool
     ensures { result ≡ is_not_alive s }
 {
-    match s {
-        WriterState::Unasserted => false,
-        WriterState::Alive => false,
-        WriterState::NotAlive => true,
-        WriterState::Departed => false,
-    }
-}
-
-// The number of a state's class: 0 neither, 1 alive, 2 not alive, with departed.
-fn class_number(s: WriterState) -> u8
-    ensures { result ≡ class_number (class_of s) }
-{
-    match s {
-        WriterState::Unasserted => 0,
-        WriterState::Alive => 1,
-        WriterState::NotAlive => 2,
-        WriterState::Departed => 2,
-    }
+    matches!(s, WriterState::NotAlive)
 }
 
 // Whether a state is counted as alive.
 pub fn counts_alive(s: WriterState) -> bool
     ensures { result ≡ is_alive_class (class_of s) }
 {
-    class_number(s) == 1
+    matches!(s, WriterState::Alive)
 }
 
 // Whether a state is counted as not alive.
 pub fn counts_not_alive(s: WriterState) -> bool
     ensures { result ≡ is_not_alive_class (class_of s) }
 {
-    class_number(s) == 2
+    matches!(s, WriterState::NotAlive | WriterState::Departed)
 }
 
 // Whether a kind is automatic.
 pub fn is_automatic(k: LivelinessKind) -> bool
     ensures { result ≡ is_automatic k }
 {
-    match k {
-        LivelinessKind::Automatic => true,
-        LivelinessKind::ManualByParticipant => false,
-        LivelinessKind::ManualByTopic => false,
-    }
+    matches!(k, LivelinessKind::Automatic)
 }
 
 // Whether an assertion by a participant covers a kind.
@@ -98,66 +72,42 @@ fn covers_kind(k: LivelinessKind, manual: bool) -> bool
 fn names(a: Assertion, w: Writer) -> bool
     ensures { result ≡ (a.named && has_guid a.guid w) }
 {
-    let g = w.guid;
-    let named = a.guid;
-    if a.named {
-        return guid::is_same(g, named);
-    }
-    false
+    a.named && guid::is_same(w.guid, a.guid)
 }
 
 // Whether the assertion covers the writer: it names it, or covers its kind at the same prefix.
+#[tactic(auto, unfolding(model::specs::Writers::covers))]
 pub fn covers(a: Assertion, w: Writer) -> bool
     ensures { result ≡ covers (assertion_of a) w }
 {
-    if names(a, w) {
-        return true;
-    }
-    let l = w.liveliness;
-    let k = l.kind;
-    let g = w.guid;
-    let named = a.guid;
-    if guid::same_prefix(g, named) {
-        return covers_kind(k, a.manual);
-    }
-    false
+    names(a, w) || guid::same_prefix(w.guid, a.guid) && covers_kind(w.liveliness.kind, a.manual)
 }
 
 // Whether the assertion acts on the writer: it is later than the last, or equal and the writer not yet not alive.
+#[tactic(auto, unfolding(model::specs::Writers::renews))]
 pub fn renews(a: Assertion, w: Writer) -> bool
     ensures { result ≡ renews (assertion_of a) w }
 {
-    let l = w.liveliness;
-    let s = l.state;
-    if !is_tracked(s) {
-        return false;
-    }
-    if w.liveliness.last_assertion < a.clock {
-        return true;
-    }
-    if w.liveliness.last_assertion == a.clock {
-        return !is_not_alive(s);
-    }
-    false
+    let Liveliness {
+        state,
+        last_assertion,
+        ..
+    } = w.liveliness;
+    is_tracked(state)
+        && (last_assertion < a.clock || last_assertion == a.clock && !is_not_alive(state))
 }
 
 // The writer with another state and last assertion.
 pub fn with_state(w: Writer, state: WriterState, last: u64) -> Writer
     ensures { result ≡ with_state state last w }
 {
-    let guid = w.guid;
-    let l = w.liveliness;
-    let kind = l.kind;
-    let lease = l.lease;
-    let liveliness = Liveliness {
-        kind: kind,
-        state: state,
-        lease: lease,
-        last_assertion: last,
-    };
     Writer {
-        guid: guid,
-        liveliness: liveliness,
+        liveliness: Liveliness {
+            state,
+            last_assertion: last,
+            ..w.liveliness
+        },
+        ..w
     }
 }
 
@@ -182,18 +132,14 @@ fn lease_on(sheet: Sheet) -> MaybeLease
 fn matched_as(sheet: Sheet, state: WriterState, last: u64) -> Writer
     ensures { result ≡ matched_as sheet state last }
 {
-    let guid = sheet.guid;
-    let kind = writer_record::kind_numbered(sheet.kind);
-    let lease = lease_on(sheet);
-    let liveliness = Liveliness {
-        kind: kind,
-        state: state,
-        lease: lease,
-        last_assertion: last,
-    };
     Writer {
-        guid: guid,
-        liveliness: liveliness,
+        guid: sheet.guid,
+        liveliness: Liveliness {
+            kind: writer_record::kind_numbered(sheet.kind),
+            state,
+            lease: lease_on(sheet),
+            last_assertion: last,
+        },
     }
 }
 
@@ -209,10 +155,8 @@ pub fn first_matched(sheet: Sheet) -> Writer
 pub fn matched_again(sheet: Sheet, w: Writer) -> Writer
     ensures { result ≡ matched_writer sheet (some w) }
 {
-    let l = w.liveliness;
-    let s = l.state;
-    if is_tracked(s) {
-        matched_as(sheet, s, w.liveliness.last_assertion)
+    if is_tracked(w.liveliness.state) {
+        matched_as(sheet, w.liveliness.state, w.liveliness.last_assertion)
     } else {
         matched_as(sheet, WriterState::NotAlive, 0)
     }
@@ -222,18 +166,16 @@ pub fn matched_again(sheet: Sheet, w: Writer) -> Writer
 pub fn departed(guid: Guid) -> Writer
     ensures { result ≡ departed guid }
 {
-    let lease = MaybeLease {
-        present: false,
-        nanos: 0,
-    };
-    let liveliness = Liveliness {
-        kind: LivelinessKind::Automatic,
-        state: WriterState::Departed,
-        lease: lease,
-        last_assertion: 0,
-    };
     Writer {
-        guid: guid,
-        liveliness: liveliness,
+        guid,
+        liveliness: Liveliness {
+            kind: LivelinessKind::Automatic,
+            state: WriterState::Departed,
+            lease: MaybeLease {
+                present: false,
+                nanos: 0,
+            },
+            last_assertion: 0,
+        },
     }
 }

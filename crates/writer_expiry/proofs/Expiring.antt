@@ -18,7 +18,6 @@ use Rattle.octets.specs.Zeros.{all_zero}
 use Rattle.model.specs.declared.Called.{Called}
 use Rattle.model.specs.declared.Guid.{Guid}
 use Rattle.model.specs.declared.Head.{Head}
-use Rattle.model.specs.declared.LastWriter.{LastWriter}
 use Rattle.model.specs.declared.Sheet.{Sheet}
 use Rattle.model.specs.declared.TrackerCall.TheVariants.{Expire}
 use Rattle.model.specs.declared.Writer.{Writer}
@@ -27,7 +26,7 @@ use Rattle.model.specs.declared.WriterState.TheVariants.{Unasserted, Alive, NotA
 use Rattle.model.specs.Answers.{refused_with, saying_due}
 use Rattle.model.specs.Guids.{guid_of, guid_bytes, guids_in}
 use Rattle.model.specs.InstanceRecord.{bit}
-use Rattle.model.specs.State.{class_of, is_alive_class, is_not_alive_class, counts_alive, counts_not_alive, alive_count, not_alive_count, state_of, writers_in, writers_of, lost_of}
+use Rattle.model.specs.State.{class_of, is_alive_class, is_not_alive_class, counts_alive, counts_not_alive, alive_count, not_alive_count, state_of, writers_in, writers_of, lost_of, LastWriter}
 use Rattle.model.specs.Tables.{pick}
 use Rattle.model.specs.WellFormed.{lost_ok}
 use Rattle.model.specs.WriterRecord.{writer_bytes}

@@ -2,12 +2,11 @@
 use Rattle.std.specs.Prelude.{ℕ, ◌+◌, ◌-◌, true, ◌≡◌, List}
 use Rattle.model.specs.declared.Called.{Called}
 use Rattle.model.specs.declared.Head.{Head}
-use Rattle.model.specs.declared.LastWriter.{LastWriter}
 use Rattle.model.specs.declared.Sheet.{Sheet}
 use Rattle.model.specs.declared.TrackerCall.TheVariants.{Expire, TakeLost}
 use Rattle.model.specs.Call.{list_in}
 use Rattle.model.specs.InstanceCalls.{Turned}
-use Rattle.model.specs.State.{lost_of, writers_in}
+use Rattle.model.specs.State.{lost_of, writers_in, LastWriter}
 use Rattle.model.specs.WellFormed.{counts_ok}
 use Rattle.model.specs.Writers.{tracker_call}
 use Rattle.writer_pass.specs.declared.Tally.{Tally}

@@ -13,22 +13,21 @@ ghost use Rattle.writer_pass.specs.Passes.{dues_of};
 ghost use Rattle.writer_counts.specs.WriterCalls.{WritersFormed};
 ghost use Rattle.writer_expiry.specs.Losing.{expiry_tally, Expires, Takes};
 
-use model::{Called, Head, LastWriter, Sheet};
+use model::{Called, Guid, Head, Sheet};
 use writer_pass::{Counts, Dues, Tally};
 
 // The tally of an expiry: so many alive writers are not alive now.
-fn tally_of(head: Head, gone: u32, last: LastWriter) -> Tally
+fn tally_of(head: Head, gone: u32, last: Option<Guid>) -> Tally
     requires { (gone ≤ head.alive) × (head.not_alive + gone ≤ 128) }
     ensures { result ≡ expiry_tally head gone last }
 {
-    let counts = Counts {
-        alive: head.alive - gone,
-        not_alive: head.not_alive + gone,
-    };
     Tally {
-        counts: counts,
+        counts: Counts {
+            alive: head.alive - gone,
+            not_alive: head.not_alive + gone,
+        },
         moved: gone,
-        last: last,
+        last,
     }
 }
 
@@ -44,16 +43,21 @@ fn expire_within(
         × (dues ≡ dues_of sheet.a (writers_in head.writer_count writers.old)) × (head.lost_count + dues.gone ≤ 256) }
     ensures { Expires sheet head writers.old lost.old result writers.new lost.new }
 {
-    let count = head.writer_count as usize;
-    let n = head.lost_count;
-    let gone = dues.gone;
-    let next = dues.next;
-    let was = head.last_writer;
-    let last = writer_pass::declare(writers, count, sheet.a, lost, n as usize, gone, was);
-    let tally = tally_of(head, gone, last);
-    let h = writer_counts::settle_head(head, head.writer_count, n + gone, tally);
-    let a = answers::saying_due(gone != 0, next);
-    Called { answer: a, head: h }
+    let last = writer_pass::declare(
+        writers,
+        head.writer_count as usize,
+        sheet.a,
+        lost,
+        head.lost_count as usize,
+        dues.gone,
+        head.last_writer,
+    );
+    let tally = tally_of(head, dues.gone, last);
+    let lost_count = head.lost_count + dues.gone;
+    Called {
+        answer: answers::saying_due(dues.gone != 0, dues.next),
+        head: writer_counts::settle_head(head, head.writer_count, lost_count, tally),
+    }
 }
 
 // Code 37: every alive writer whose lease has run out at the clock becomes not alive.
@@ -61,8 +65,7 @@ pub fn expire(sheet: Sheet, head: Head, writers: &mut [u8], lost: &mut [u8]) -> 
     requires { WritersFormed head writers.old × (length lost.old ≡ 4096) × (lost_ok head.lost_count lost.old ≡ true) }
     ensures { Expires sheet head writers.old lost.old result writers.new lost.new }
 {
-    let count = head.writer_count as usize;
-    let dues = writer_pass::find_dues(writers, count, sheet.a);
+    let dues = writer_pass::find_dues(writers, head.writer_count as usize, sheet.a);
     if 256 < head.lost_count + dues.gone {
         return answers::refused(12, head);
     }
@@ -74,13 +77,11 @@ pub fn take_lost(sheet: Sheet, head: Head, lost: &mut [u8], out: &mut [u8]) -> C
     requires { (length lost.old ≡ 4096) × (lost_ok head.lost_count lost.old ≡ true) × (length out.old ≡ 4096) }
     ensures { Takes sheet head lost.old out.old result lost.new out.new }
 {
-    let n = head.lost_count;
-    let size = n as usize * 16;
+    let size = head.lost_count as usize * 16;
     octets::copy(lost, 0, out, 0, size);
     octets::clear(lost, 0, size);
-    let a = answers::listing(n);
-    let alive = head.alive_change;
-    let not_alive = head.not_alive_change;
-    let h = writer_status::with_changes(head, 0, alive, not_alive);
-    Called { answer: a, head: h }
+    Called {
+        answer: answers::listing(head.lost_count),
+        head: writer_status::with_changes(head, 0, head.alive_change, head.not_alive_change),
+    }
 }

@@ -6,7 +6,7 @@
 // and the departed writers as ordered records in lent bytes.
 #![tactic(auto)]
 
-ghost use Rattle.std.specs.Prelude.{true, false, cond, ◌≡◌, ◌+◌, ◌-◌, ◌*◌, ◌<◌, take, drop};
+ghost use Rattle.std.specs.Prelude.{true, false, cond, ◌≡◌, ◌+◌, ◌-◌, ◌*◌, ◌<◌, take, drop, Ok, Err};
 ghost use Rattle.octets.specs.Patch.{patch};
 ghost use Rattle.model.specs.declared.TrackerCall.TheVariants.{Matched, Unmatched, LostWithParticipant, WriterAsserted, ParticipantAsserted};
 ghost use Rattle.model.specs.Guids.{num};
@@ -15,15 +15,13 @@ ghost use Rattle.model.specs.Tables.{all};
 ghost use Rattle.model.specs.WellFormed.{clock_ok};
 ghost use Rattle.model.specs.WriterRecord.{writer_of, writer_bytes};
 ghost use Rattle.model.specs.Writers.{departed};
-ghost use Rattle.tables.specs.declared.Found.TheVariants.{At, Missing};
 ghost use Rattle.tables.specs.Found.{found_in};
 ghost use Rattle.tables.specs.Gaps.{closed};
 ghost use Rattle.tables.specs.Keys.{keys};
 ghost use Rattle.writer_counts.specs.Turns.{CountsFit, called_by, still_tally, gone_tally, departs_tally};
 ghost use Rattle.writer_counts.specs.WriterCalls.{WritersFormed, Turns, leaving, Passable, assertion_on, automatic, asserted_table, asserted_tally};
 
-use model::{Called, Head, Sheet};
-use tables::Found;
+use model::{Called, Head, Sheet, WriterState};
 use writer_effects::Assertion;
 use writer_pass::Counts;
 
@@ -33,12 +31,11 @@ fn assert_on(head: Head, writers: &mut [u8], count: u32, a: Assertion) -> Called
     ensures { (writers.new ≡ asserted_table a count writers.old)
         × (result ≡ called_by head count (asserted_tally head a count writers.old)) }
 {
-    let last = head.last_writer;
     let counts = Counts {
         alive: head.alive,
         not_alive: head.not_alive,
     };
-    let tally = writer_pass::assert_writers(writers, count as usize, a, counts, last);
+    let tally = writer_pass::assert_writers(writers, count as usize, a, counts, head.last_writer);
     writer_counts::called(head, count, tally)
 }
 
@@ -47,9 +44,8 @@ pub fn writer_asserted(sheet: Sheet, head: Head, writers: &mut [u8]) -> Called
     requires { WritersFormed head writers.old }
     ensures { Turns WriterAsserted sheet head writers.old result writers.new }
 {
-    let guid = sheet.guid;
     let a = Assertion {
-        guid: guid,
+        guid: sheet.guid,
         named: true,
         manual: true,
         clock: sheet.a,
@@ -62,9 +58,8 @@ pub fn participant_asserted(sheet: Sheet, head: Head, writers: &mut [u8]) -> Cal
     requires { WritersFormed head writers.old }
     ensures { Turns ParticipantAsserted sheet head writers.old result writers.new }
 {
-    let guid = sheet.guid;
     let a = Assertion {
-        guid: guid,
+        guid: sheet.guid,
         named: false,
         manual: sheet.manual,
         clock: sheet.a,
@@ -77,8 +72,7 @@ fn kept(head: Head) -> Called
     requires { CountsFit head (still_tally head) }
     ensures { result ≡ called_by head head.writer_count (still_tally head) }
 {
-    let tally = writer_counts::still(head);
-    writer_counts::called(head, head.writer_count, tally)
+    writer_counts::called(head, head.writer_count, writer_counts::still(head))
 }
 
 // The writer at place i is taken out.
@@ -88,21 +82,17 @@ fn removed(head: Head, writers: &mut [u8], i: usize) -> Called
         × (result ≡ called_by head (head.writer_count - 1) (gone_tally head (writer_of (take 40 (drop (i * 40) writers.old))))) }
 {
     let w = writer_record::writer_at(writers, i);
-    let count = head.writer_count;
-    tables::close_gap(writers, 40, i, count as usize);
-    let tally = writer_counts::gone(head, w);
-    writer_counts::called(head, count - 1, tally)
+    tables::close_gap(writers, 40, i, head.writer_count as usize);
+    writer_counts::called(head, head.writer_count - 1, writer_counts::gone(head, w))
 }
 
 // Code 33 at the place of the writer's record: it is taken out unless it departed.
 fn unmatched_at(sheet: Sheet, head: Head, writers: &mut [u8], i: usize) -> Called
-    requires { WritersFormed head writers.old × (found_in (keys 40 head.writer_count writers.old) (num sheet.guid) ≡ At i) }
+    requires { WritersFormed head writers.old × (found_in (keys 40 head.writer_count writers.old) (num sheet.guid) ≡ Ok i) }
     ensures { Turns Unmatched sheet head writers.old result writers.new }
 {
     let w = writer_record::writer_at(writers, i);
-    let l = w.liveliness;
-    let s = l.state;
-    if writer_effects::is_tracked(s) {
+    if writer_effects::is_tracked(w.liveliness.state) {
         return removed(head, writers, i);
     }
     kept(head)
@@ -115,29 +105,27 @@ fn departed_at(head: Head, writers: &mut [u8], i: usize) -> Called
         × (result ≡ called_by head head.writer_count (departs_tally head (writer_of (take 40 (drop (i * 40) writers.old))))) }
 {
     let w = writer_record::writer_at(writers, i);
-    let g = w.guid;
-    writer_record::put_writer(writers, i, writer_effects::departed(g));
-    let tally = writer_counts::departs(head, w);
-    writer_counts::called(head, head.writer_count, tally)
+    writer_record::put_writer(writers, i, writer_effects::departed(w.guid));
+    writer_counts::called(head, head.writer_count, writer_counts::departs(head, w))
 }
 
 // Code 34 at the place of the writer's record: an unasserted one is taken out, any other departs.
 fn lost_at(sheet: Sheet, head: Head, writers: &mut [u8], i: usize) -> Called
-    requires { WritersFormed head writers.old × (found_in (keys 40 head.writer_count writers.old) (num sheet.guid) ≡ At i) }
+    requires { WritersFormed head writers.old × (found_in (keys 40 head.writer_count writers.old) (num sheet.guid) ≡ Ok i) }
     ensures { Turns LostWithParticipant sheet head writers.old result writers.new }
 {
     let w = writer_record::writer_at(writers, i);
-    let l = w.liveliness;
-    let s = l.state;
-    if writer_record::state_number(s) == 0 {
-        return removed(head, writers, i);
+    match w.liveliness.state {
+        WriterState::Unasserted => removed(head, writers, i),
+        WriterState::Alive | WriterState::NotAlive | WriterState::Departed => {
+            departed_at(head, writers, i)
+        }
     }
-    departed_at(head, writers, i)
 }
 
 // Codes 33 and 34 at the place of the writer's record.
 fn leave_at(lost: bool, sheet: Sheet, head: Head, writers: &mut [u8], i: usize) -> Called
-    requires { WritersFormed head writers.old × (found_in (keys 40 head.writer_count writers.old) (num sheet.guid) ≡ At i) }
+    requires { WritersFormed head writers.old × (found_in (keys 40 head.writer_count writers.old) (num sheet.guid) ≡ Ok i) }
     ensures { Turns (leaving lost) sheet head writers.old result writers.new }
 {
     if lost {
@@ -152,11 +140,9 @@ pub fn leave(lost: bool, sheet: Sheet, head: Head, writers: &mut [u8]) -> Called
     requires { WritersFormed head writers.old }
     ensures { Turns (leaving lost) sheet head writers.old result writers.new }
 {
-    let guid = sheet.guid;
-    let count = head.writer_count as usize;
-    match tables::find(writers, 40, count, guid) {
-        Found::At(i) => leave_at(lost, sheet, head, writers, i),
-        Found::Missing(_) => kept(head),
+    match tables::find(writers, 40, head.writer_count as usize, sheet.guid) {
+        Ok(i) => leave_at(lost, sheet, head, writers, i),
+        Err(_) => kept(head),
     }
 }
 
@@ -166,32 +152,27 @@ fn match_asserts(sheet: Sheet, head: Head, writers: &mut [u8], count: u32) -> Ca
     ensures { (writers.new ≡ cond (automatic sheet) (asserted_table (assertion_on true false sheet) count writers.old) writers.old)
         × (result ≡ called_by head count (cond (automatic sheet) (asserted_tally head (assertion_on true false sheet) count writers.old) (still_tally head))) }
 {
-    let guid = sheet.guid;
-    let k = writer_record::kind_numbered(sheet.kind);
-    if writer_effects::is_automatic(k) {
+    if writer_effects::is_automatic(writer_record::kind_numbered(sheet.kind)) {
         let a = Assertion {
-            guid: guid,
+            guid: sheet.guid,
             named: true,
             manual: false,
             clock: sheet.a,
         };
         return assert_on(head, writers, count, a);
     }
-    let tally = writer_counts::still(head);
-    writer_counts::called(head, count, tally)
+    writer_counts::called(head, count, writer_counts::still(head))
 }
 
 // Code 32 at the place of the writer's record: a tracked one takes kind and lease, a departed one comes back.
 fn match_again(sheet: Sheet, head: Head, writers: &mut [u8], i: usize) -> Called
     requires { WritersFormed head writers.old × (all clock_ok (clocks_used_by Matched sheet) ≡ true)
-        × (found_in (keys 40 head.writer_count writers.old) (num sheet.guid) ≡ At i) }
+        × (found_in (keys 40 head.writer_count writers.old) (num sheet.guid) ≡ Ok i) }
     ensures { Turns Matched sheet head writers.old result writers.new }
 {
     let w = writer_record::writer_at(writers, i);
     writer_record::put_writer(writers, i, writer_effects::matched_again(sheet, w));
-    let l = w.liveliness;
-    let s = l.state;
-    if writer_effects::is_tracked(s) { // it asserts nothing
+    if writer_effects::is_tracked(w.liveliness.state) { // it asserts nothing
         return kept(head);
     }
     match_asserts(sheet, head, writers, head.writer_count)
@@ -200,7 +181,7 @@ fn match_again(sheet: Sheet, head: Head, writers: &mut [u8], i: usize) -> Called
 // Code 32 where the GUID has no record: it goes in at place i, or every place is taken.
 fn match_first(sheet: Sheet, head: Head, writers: &mut [u8], i: usize) -> Called
     requires { WritersFormed head writers.old × (all clock_ok (clocks_used_by Matched sheet) ≡ true)
-        × (found_in (keys 40 head.writer_count writers.old) (num sheet.guid) ≡ Missing i) }
+        × (found_in (keys 40 head.writer_count writers.old) (num sheet.guid) ≡ Err i) }
     ensures { Turns Matched sheet head writers.old result writers.new }
 {
     let count = head.writer_count;
@@ -217,10 +198,8 @@ pub fn matched(sheet: Sheet, head: Head, writers: &mut [u8]) -> Called
     requires { WritersFormed head writers.old × (all clock_ok (clocks_used_by Matched sheet) ≡ true) }
     ensures { Turns Matched sheet head writers.old result writers.new }
 {
-    let guid = sheet.guid;
-    let count = head.writer_count as usize;
-    match tables::find(writers, 40, count, guid) {
-        Found::At(i) => match_again(sheet, head, writers, i),
-        Found::Missing(i) => match_first(sheet, head, writers, i),
+    match tables::find(writers, 40, head.writer_count as usize, sheet.guid) {
+        Ok(i) => match_again(sheet, head, writers, i),
+        Err(i) => match_first(sheet, head, writers, i),
     }
 }

@@ -16,14 +16,13 @@ use Rattle.octets.specs.Bounds.{Bytes}
 use Rattle.octets.specs.Lay.{lay, All}
 use Rattle.octets.specs.Patch.{patch}
 use Rattle.model.specs.declared.Guid.{Guid}
-use Rattle.model.specs.declared.LastWriter.{LastWriter}
-use Rattle.model.specs.declared.LastWriter.TheVariants.{Is}
+use Rattle.std.specs.Prelude.{Some}
 use Rattle.model.specs.declared.Writer.{Writer}
 use Rattle.model.specs.declared.WriterState.{WriterState}
 use Rattle.model.specs.declared.WriterState.TheVariants.{Unasserted, Alive, NotAlive, Departed}
 use Rattle.model.specs.Guids.{num, prefix}
 use Rattle.model.specs.InstanceRecord.{bit}
-use Rattle.model.specs.State.{class_of, is_alive_class, is_not_alive_class, counts_alive, counts_not_alive, alive_count, not_alive_count, writers_in, writer_key}
+use Rattle.model.specs.State.{class_of, is_alive_class, is_not_alive_class, counts_alive, counts_not_alive, alive_count, not_alive_count, writers_in, writer_key, LastWriter}
 use Rattle.model.specs.Tables.{pick, rising}
 use Rattle.model.specs.Writers.{asserted, with_state, guid_in, last_after}
 use Rattle.model.specs.WriterRecord.{writer_of, writer_bytes}
@@ -69,8 +68,8 @@ left-others a (w ∷ ws) o = (other_prefix (assertion_of a) w o.0, left-others a
 raise_each : (st : WriterState) (x y k k₂ m m₂ n : ℕ) (g : Guid) (l : LastWriter) → k ≡ bit (is_alive_class (class_of st)) + x → k₂ ≡ bit (is_not_alive_class (class_of st)) + y →
     m ≡ 1 + x → m₂ ≡ 0 + y →
     cond {A = Tally} (is_alive_class (class_of st)) record { counts = record { alive = k; not_alive = k₂ }; moved = n; last = l }
-    record { counts = record { alive = k + 1; not_alive = cond (is_not_alive_class (class_of st)) (k₂ - 1) k₂ }; moved = n + 1; last = Is g }
-    ≡ record { counts = record { alive = m; not_alive = m₂ }; moved = cond (differs st Alive) (n + 1) n; last = cond (differs st Alive) (Is g) l }
+    record { counts = record { alive = k + 1; not_alive = cond (is_not_alive_class (class_of st)) (k₂ - 1) k₂ }; moved = n + 1; last = Some g }
+    ≡ record { counts = record { alive = m; not_alive = m₂ }; moved = cond (differs st Alive) (n + 1) n; last = cond (differs st Alive) (Some g) l }
 raise_each Unasserted x y k k₂ m m₂ n g l p q u v =
     let e : k + 1 ≡ m = omega arith in
     let f : k₂ ≡ m₂ = omega arith in
@@ -93,7 +92,7 @@ pub raise_told : (xs ys : List Writer) (w v : Writer) (n : ℕ) (l : LastWriter)
     ≡ record {
       counts = counts_of (xs ++ v ∷ ys);
       moved = cond (differs w.liveliness.state v.liveliness.state) (n + 1) n;
-      last = cond (differs w.liveliness.state v.liveliness.state) (Is w.guid) l;
+      last = cond (differs w.liveliness.state v.liveliness.state) (Some w.guid) l;
     }
 unfolding alive_count not_alive_count
 raise_told xs ys w v n l e =
@@ -223,7 +222,7 @@ module _ (a : Assertion) (last : LastWriter) (t₀ : List ℕ) (count from : ℕ
           ≡ record {
             counts = counts_of (map f (take i ws) ++ f w ∷ drop (suc i) ws);
             moved = cond (shifts_by f w) (length (pick (shifts_by f) (take i ws)) + 1) (length (pick (shifts_by f) (take i ws)));
-            last = cond (shifts_by f w) (Is w.guid) (last_after (map guid_in (pick (shifts_by f) (take i ws))) last);
+            last = cond (shifts_by f w) (Some w.guid) (last_after (map guid_in (pick (shifts_by f) (take i ws))) last);
           }
       next =
           rw (

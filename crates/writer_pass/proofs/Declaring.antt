@@ -18,11 +18,10 @@ use Rattle.octets.proofs.LayLaws.{rows_append, length-rows}
 use Rattle.octets.specs.Patch.{patch}
 use Rattle.octets.proofs.PatchLaws.{patch-at, length-patch}
 use Rattle.model.specs.declared.Guid.{Guid}
-use Rattle.model.specs.declared.LastWriter.{LastWriter}
-use Rattle.model.specs.declared.LastWriter.TheVariants.{Is}
+use Rattle.std.specs.Prelude.{Some}
 use Rattle.model.specs.declared.Writer.{Writer}
 use Rattle.model.specs.Guids.{guid_at, guid_of, guid_bytes, guids_in}
-use Rattle.model.specs.State.{writers_in, lost_of}
+use Rattle.model.specs.State.{writers_in, lost_of, LastWriter}
 use Rattle.model.specs.Tables.{pick}
 use Rattle.model.specs.Writers.{is_alive_state, leased, due_at, expires, expired, guid_in, last_after}
 use Rattle.model.specs.WriterRecord.{writer_of, writer_bytes}
@@ -127,7 +126,7 @@ module _ (t₀ : List ℕ) (count clock : ℕ) (lost₀ : List ℕ) (n : ℕ) (l
           length (pick (expires clock) (take (i + 1) ws)) ≡ cond y (length (pick (expires clock) (take i ws)) + 1) (length (pick (expires clock) (take i ws)))
       count_more y p = ap (λ (l : List Writer). length (pick (expires clock) l)) one ∙ count_snoc (expires clock) (take i ws) w ∙ rw p
 
-      newer : (y : Bool) → expires clock w ≡ y → last_after (gone clock (i + 1) ws) last ≡ cond y (Is w.guid) newest
+      newer : (y : Bool) → expires clock w ≡ y → last_after (gone clock (i + 1) ws) last ≡ cond y (Some w.guid) newest
       newer true p =
           ap (λ (l : List Guid). last_after l last) (more true p) ∙ last_snoc (gone clock i ws) true w.guid last
       newer false p =
@@ -146,7 +145,7 @@ module _ (t₀ : List ℕ) (count clock : ℕ) (lost₀ : List ℕ) (n : ℕ) (l
       declaring_room p = omega (arith, d.place, d.long, long₀, room, part, count_more true p)
 
       pub declared : expires clock w ≡ true → (t' lost' : List ℕ) (r : LastWriter) → t' ≡ patch t (i * 40) 40 (writer_bytes (lapsed w)) →
-          lost' ≡ patch lost (at * 16) 16 (guid_bytes w.guid) → r ≡ Is w.guid → Declaring t₀ count clock lost₀ n last t' lost' r (at + 1) (i + 1)
+          lost' ≡ patch lost (at * 16) 16 (guid_bytes w.guid) → r ≡ Some w.guid → Declaring t₀ count clock lost₀ n last t' lost' r (at + 1) (i + 1)
       unfolding expired
       declared p t' lost' r u q v =
           let xs : List Guid = guids_in n lost₀ ++ gone clock i ws in

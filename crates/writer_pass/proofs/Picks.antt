@@ -23,13 +23,12 @@ use Rattle.octets.specs.Bounds.{Bytes}
 use Rattle.octets.proofs.BoundLaws.{be-lt}
 use Rattle.octets.specs.Lay.{All}
 use Rattle.model.specs.declared.Guid.{Guid}
-use Rattle.model.specs.declared.LastWriter.{LastWriter}
-use Rattle.model.specs.declared.LastWriter.TheVariants.{Is}
+use Rattle.std.specs.Prelude.{Some}
 use Rattle.model.specs.declared.MaybeLease.{MaybeLease}
 use Rattle.model.specs.declared.Writer.{Writer}
 use Rattle.model.specs.InstanceRecord.{bit}
 use Rattle.model.specs.Layout.{read_rows}
-use Rattle.model.specs.State.{Class, alive, not_alive, neither, writers_in}
+use Rattle.model.specs.State.{Class, alive, not_alive, neither, writers_in, LastWriter}
 use Rattle.model.specs.Tables.{pick, all}
 use Rattle.model.specs.WellFormed.{lease_ok, clock_ok, is_departed, only_state, writer_ok}
 use Rattle.model.specs.Writers.{same_class, last_after}
@@ -132,11 +131,11 @@ same_self alive = refl
 same_self not_alive = refl
 same_self neither = refl
 
-pub last_snoc : (gs : List Guid) (b : Bool) (g : Guid) (last : LastWriter) → last_after (gs ++ cond b (g ∷ []) []) last ≡ cond b (Is g) (last_after gs last)
+pub last_snoc : (gs : List Guid) (b : Bool) (g : Guid) (last : LastWriter) → last_after (gs ++ cond b (g ∷ []) []) last ≡ cond b (Some g) (last_after gs last)
 unfolding last_after
 last_snoc [] true g last = refl
 last_snoc [] false g last = refl
-last_snoc (h ∷ gs) b g last = last_snoc gs b g (Is h)
+last_snoc (h ∷ gs) b g last = last_snoc gs b g (Some h)
 
 pub writers_fit : (n : ℕ) (t : List ℕ) → Bytes t → All FitsWriter (writers_in n t)
 unfolding read_rows writer_of

@@ -6,10 +6,9 @@
 // in lent bytes.
 #![tactic(auto)]
 
-ghost use Rattle.std.specs.Prelude.{true, false, not, ◌&&◌, cond, ◌++◌, map, ◌≡◌, ◌+◌, ◌-◌, ◌*◌, ◌≤◌, ◌<◌, ◌^◌, length, take, drop};
+ghost use Rattle.std.specs.Prelude.{true, false, not, ◌&&◌, cond, ◌++◌, map, ◌≡◌, ◌+◌, ◌-◌, ◌*◌, ◌≤◌, ◌<◌, ◌^◌, length, take, drop, Some};
 ghost use Rattle.octets.specs.Lay.{lay};
 ghost use Rattle.octets.specs.Patch.{patch};
-ghost use Rattle.model.specs.declared.LastWriter.TheVariants.{Is};
 ghost use Rattle.model.specs.declared.WriterState.TheVariants.{Alive};
 ghost use Rattle.model.specs.Guids.{num, prefix, guid_bytes, guids_in};
 ghost use Rattle.model.specs.State.{writer_key, counts_alive, counts_not_alive, writers_in, lost_of};
@@ -20,7 +19,7 @@ ghost use Rattle.writer_record.specs.Records.{lapsed};
 ghost use Rattle.writer_effects.specs.Acts.{assertion_of};
 ghost use Rattle.writer_pass.specs.Passes.{writer_in, Bounded, Sound, acts, counts_of, raised, tally_of, soonest, dues_with, dues_of};
 
-use model::{Guid, LastWriter, MaybeDue, Writer, WriterState};
+use model::{Guid, Writer, WriterState};
 use writer_effects::Assertion;
 
 // How many writers are of each class that is counted.
@@ -35,24 +34,21 @@ pub struct Counts {
 pub struct Tally {
     pub counts: Counts,
     pub moved: u32,
-    pub last: LastWriter,
+    pub last: Option<Guid>,
 }
 
 // How many writers expire, and when the next lease of the others runs out.
 #[derive(Clone, Copy)]
 pub struct Dues {
     pub gone: u32,
-    pub next: MaybeDue,
+    pub next: Option<u64>,
 }
 
 // Whether an assertion covers the writer and acts on it.
 fn asserts(a: Assertion, w: Writer) -> bool
     ensures { result ≡ acts a w }
 {
-    if writer_effects::covers(a, w) {
-        return writer_effects::renews(a, w);
-    }
-    false
+    writer_effects::covers(a, w) && writer_effects::renews(a, w)
 }
 
 // One less, where it is so.
@@ -60,7 +56,7 @@ fn one_less(yes: bool, n: u32) -> u32
     requires { yes ≡ true → 1 ≤ n }
     ensures { result ≡ cond yes (n - 1) n }
 {
-    if yes { n - 1 } else { n }
+    n - u32::from(yes)
 }
 
 // The tally once w, which is not among the alive ones, is: it moves to them from the class that it was of.
@@ -68,19 +64,14 @@ fn raise(tally: Tally, w: Writer) -> Tally
     requires { (tally.counts.alive ≤ 128) × (tally.moved ≤ 128) × (counts_not_alive w ≡ true → 1 ≤ tally.counts.not_alive) × (counts_alive w ≡ false) }
     ensures { result ≡ raised tally w }
 {
-    let l = w.liveliness;
-    let s = l.state;
-    let g = w.guid;
-    let c = tally.counts;
-    let not_alive = one_less(writer_effects::counts_not_alive(s), c.not_alive);
-    let counts = Counts {
-        alive: c.alive + 1,
-        not_alive: not_alive,
-    };
+    let was_not = writer_effects::counts_not_alive(w.liveliness.state);
     Tally {
-        counts: counts,
+        counts: Counts {
+            alive: tally.counts.alive + 1,
+            not_alive: one_less(was_not, tally.counts.not_alive),
+        },
         moved: tally.moved + 1,
-        last: LastWriter::Is(g),
+        last: Some(w.guid),
     }
 }
 
@@ -96,9 +87,7 @@ fn assert_at(t: &mut [u8], i: usize, w: Writer, a: Assertion) -> bool
     }
     let v = writer_effects::with_state(w, WriterState::Alive, a.clock);
     writer_record::put_writer(t, i, v);
-    let l = w.liveliness;
-    let s = l.state;
-    !writer_effects::counts_alive(s)
+    !writer_effects::counts_alive(w.liveliness.state)
 }
 
 // The least GUID of the prefix of g.
@@ -118,49 +107,35 @@ pub fn assert_writers(
     count: usize,
     a: Assertion,
     counts: Counts,
-    last: LastWriter,
+    last: Option<Guid>,
 ) -> Tally
     requires { Sound count t.old × (rising writer_key (writers_in count t.old) ≡ true) × (counts ≡ counts_of (writers_in count t.old)) }
     ensures { (t.new ≡ lay writer_bytes 40 (length t.old) (map (asserted (assertion_of a)) (writers_in count t.old)))
         × (result ≡ tally_of (asserted (assertion_of a)) last (writers_in count t.old)) }
 {
-    let named = a.guid;
     let mut tally = Tally {
-        counts: counts,
+        counts,
         moved: 0,
-        last: last,
+        last,
     };
-    let mut i = tables::lower_bound(t, 40, count, first_of(named));
-    while i < count {
+    let from = tables::lower_bound(t, 40, count, first_of(a.guid));
+    for i in from..count {
         let w = writer_record::writer_at(t, i);
-        let g = w.guid;
-        if !guid::same_prefix(g, named) {
+        if !guid::same_prefix(w.guid, a.guid) {
             return tally;
         }
         if assert_at(t, i, w, a) { // most assertions move none, and then the tally is not copied
             tally = raise(tally, w);
         }
-        i += 1;
     }
     tally
 }
 
 // The earlier of a lease that runs out at `due` and one that is due.
-fn sooner_of(due: u64, d: MaybeDue) -> MaybeDue
+fn sooner_of(due: u64, d: Option<u64>) -> Option<u64>
     ensures { result ≡ soonest due d }
 {
-    if d.present {
-        if d.at <= due {
-            return MaybeDue {
-                present: true,
-                at: d.at,
-            };
-        }
-    }
-    MaybeDue {
-        present: true,
-        at: due,
-    }
+    Some(d.map_or(due, |at| due.min(at)))
 }
 
 // The dues with a writer more, whose lease runs out at `due`.
@@ -187,20 +162,13 @@ pub fn find_dues(t: &[u8], count: usize, clock: u64) -> Dues
     requires { Sound count t.now }
     ensures { result ≡ dues_of clock (writers_in count t.now) }
 {
-    let none = MaybeDue {
-        present: false,
-        at: 0,
-    };
     let mut d = Dues {
         gone: 0,
-        next: none,
+        next: None,
     };
-    let mut i = count;
-    while 0 < i {
-        i -= 1;
+    for i in (0..count).rev() {
         if writer_record::leased_at(t, i) {
-            let due = writer_record::due_at(t, i);
-            d = dues_with(d, due, clock);
+            d = dues_with(d, writer_record::due_at(t, i), clock);
         }
     }
     d
@@ -211,24 +179,21 @@ fn expires_at(t: &[u8], i: usize, clock: u64) -> bool
     requires { (i * 40 + 40 ≤ length t.now) × Bounded (writer_in t.now i) }
     ensures { result ≡ expires clock (writer_in t.now i) }
 {
-    if writer_record::leased_at(t, i) {
-        return writer_record::due_at(t, i) <= clock;
-    }
-    false
+    writer_record::leased_at(t, i) && writer_record::due_at(t, i) <= clock
 }
 
 // The writer of record i becomes not alive, and its GUID goes to Lost at place `at`; it is the last writer then.
-fn declare_at(t: &mut [u8], i: usize, lost: &mut [u8], at: usize) -> LastWriter
+fn declare_at(t: &mut [u8], i: usize, lost: &mut [u8], at: usize) -> Option<Guid>
     requires { (i * 40 + 40 ≤ length t.old) × (at * 16 + 16 ≤ length lost.old)
         × (writer_bytes (writer_in t.old i) ≡ take 40 (drop (i * 40) t.old)) × (is_alive_state (writer_in t.old i).liveliness.state ≡ true) }
     ensures { (t.new ≡ patch t.old (i * 40) 40 (writer_bytes (lapsed (writer_in t.old i))))
         × (lost.new ≡ patch lost.old (at * 16) 16 (guid_bytes (writer_in t.old i).guid))
-        × (result ≡ Is (writer_in t.old i).guid) }
+        × (result ≡ Some (writer_in t.old i).guid) }
 {
     let g = guid::guid_at(t, i * 40);
     writer_record::expire_at(t, i);
     guid::put_guid(lost, at * 16, g);
-    LastWriter::Is(g)
+    Some(g)
 }
 
 // Those of the first count writers that expire at the clock become not alive, and their GUIDs go to Lost, behind the n that
@@ -240,8 +205,8 @@ pub fn declare(
     lost: &mut [u8],
     n: usize,
     gone: u32,
-    last: LastWriter,
-) -> LastWriter
+    last: Option<Guid>,
+) -> Option<Guid>
     requires { Sound count t.old × (length lost.old ≡ 4096) × (lost_of (guids_in n lost.old) ≡ lost.old)
         × (gone ≡ length (pick (expires clock) (writers_in count t.old))) × (n + gone ≤ 256) }
     ensures { (t.new ≡ lay writer_bytes 40 (length t.old) (map (expired clock) (writers_in count t.old)))
@@ -253,12 +218,9 @@ pub fn declare(
     }
     let mut newest = last;
     let mut at = n;
-    let mut i = 0;
-    while i < count {
-        let place = i;
-        i += 1;
-        if expires_at(t, place, clock) {
-            newest = declare_at(t, place, lost, at);
+    for i in 0..count {
+        if expires_at(t, i, clock) {
+            newest = declare_at(t, i, lost, at);
             at += 1;
         }
     }

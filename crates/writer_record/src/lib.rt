@@ -8,7 +8,6 @@
 
 ghost use Rattle.std.specs.Prelude.{true, ◌≡◌, ◌+◌, ◌*◌, ◌/◌, ◌%◌, ◌≤◌, ◌<◌, ◌^◌, length, take, drop};
 ghost use Rattle.octets.specs.Patch.{patch};
-ghost use Rattle.model.specs.InstanceRecord.{bit};
 ghost use Rattle.model.specs.WriterRecord.{liveliness_number, liveliness_numbered, state_number, state_numbered, writer_of, writer_flags, writer_bytes};
 ghost use Rattle.model.specs.Writers.{is_alive_state, leased, due_at};
 ghost use Rattle.writer_record.specs.Records.{writer_from, lapsed};
@@ -42,43 +41,24 @@ fn state_numbered(n: u8) -> WriterState
 fn kind_number(k: LivelinessKind) -> u8
     ensures { (result ≡ liveliness_number k) × (result < 3) }
 {
-    match k {
-        LivelinessKind::Automatic => 0,
-        LivelinessKind::ManualByParticipant => 1,
-        LivelinessKind::ManualByTopic => 2,
-    }
+    k as u8
 }
 
 // The number of a state.
 pub fn state_number(s: WriterState) -> u8
     ensures { (result ≡ state_number s) × (result < 4) }
 {
-    match s {
-        WriterState::Unasserted => 0,
-        WriterState::Alive => 1,
-        WriterState::NotAlive => 2,
-        WriterState::Departed => 3,
-    }
-}
-
-// A flag as a bit.
-fn bit_of(b: bool) -> u8
-    ensures { (result ≡ bit b) × (result < 2) }
-{
-    if b { 1 } else { 0 }
+    s as u8
 }
 
 // The byte of kind, state and lease present.
+#[tactic(auto, using(crate::proofs::Laws::flag_byte), unfolding(model::specs::WriterRecord::writer_flags))]
 fn flags_of(w: Writer) -> u8
     ensures { result ≡ writer_flags w }
 {
-    let l = w.liveliness;
-    let k = l.kind;
-    let s = l.state;
-    let p = w.liveliness.lease.present;
-    let kind = kind_number(k);
-    let state = state_number(s);
-    let lease = bit_of(p);
+    let kind = kind_number(w.liveliness.kind);
+    let state = state_number(w.liveliness.state);
+    let lease = u8::from(w.liveliness.lease.present);
     ((kind * 4 + state) * 2 + lease) * 8
 }
 
@@ -86,25 +66,22 @@ fn flags_of(w: Writer) -> u8
 fn writer_from(guid: Guid, flags: u8, nanos: u64, last: u64) -> Writer
     ensures { result ≡ writer_from guid flags nanos last }
 {
-    let k = kind_numbered(flags / 64);
-    let s = state_numbered(flags / 16 % 4);
-    let lease = MaybeLease {
-        present: flags / 8 % 2 == 1,
-        nanos: nanos,
-    };
-    let l = Liveliness {
-        kind: k,
-        state: s,
-        lease: lease,
-        last_assertion: last,
-    };
     Writer {
-        guid: guid,
-        liveliness: l,
+        guid,
+        liveliness: Liveliness {
+            kind: kind_numbered(flags / 64),
+            state: state_numbered(flags / 16 % 4),
+            lease: MaybeLease {
+                present: flags / 8 % 2 == 1,
+                nanos,
+            },
+            last_assertion: last,
+        },
     }
 }
 
 // The writer of a record's bytes.
+#[tactic(auto, unfolding(model::specs::WriterRecord::writer_of))]
 pub fn read_writer(r: &[u8]) -> Writer
     requires { length r.now ≡ 40 }
     ensures { result ≡ writer_of r.now }
@@ -114,8 +91,7 @@ pub fn read_writer(r: &[u8]) -> Writer
     let flags = octets::get_u8(r, 16);
     let nanos = octets::get_u64(r, 24);
     let last = octets::get_u64(r, 32);
-    let guid = Guid { hi: hi, lo: lo };
-    writer_from(guid, flags, nanos, last)
+    writer_from(Guid { hi, lo }, flags, nanos, last)
 }
 
 // The writer of record i of a table.
@@ -123,9 +99,7 @@ pub fn writer_at(t: &[u8], i: usize) -> Writer
     requires { i * 40 + 40 ≤ length t.now }
     ensures { result ≡ writer_of (take 40 (drop (i * 40) t.now)) }
 {
-    let from = i * 40;
-    let end = from + 40;
-    read_writer(&t[from..end])
+    read_writer(&t[i * 40..i * 40 + 40])
 }
 
 // Whether the writer of record i is alive and has a lease, which its byte of flags tells.

@@ -1,28 +1,42 @@
--- Places of GUIDs in a set: what the loops of the code keep, and what they come to.
---     passed-le, passed_on, passed_here, passed-end       a scan, turn by turn
---     shifted_start, shifted_step, shifted_end            the loop that makes room
---     closed_start, closed-step, closed-end               the loop that closes a gap
---     found_by, empty_members                             membership by the scan
+-- Places of GUIDs in a set, and what the steps of the code come to.
+--     place_is, found_at, found_nowhere                   a scan
+--     room_made, gap_closed                               room for one more, and a gap closed
+--     has_any, empty_members                              membership
 --     place_few, with_old, with_room, with_new            a GUID put in at its place
 --     without_none, without_found                         a GUID taken out
 use Prim.Native.Nat.{ℕ, zero, suc, ◌+◌, ◌-◌, ◌≤◌, ◌<◌}
-use mathlib.Core.Bool.{Bool, true, false, cond, ◌||◌}
+use mathlib.Core.Bool.{Bool, true, false, cond, not, ◌||◌}
 use mathlib.Core.Path.{◌≡◌, refl, sym, ap, ◌∙◌}
 use mathlib.Core.List.{List, [], ◌∷◌, ◌++◌, append_assoc, append-nil}
 use native.Mathlib.Omega.{arith}
-use native.Mathlib.Numerals.{add-one}
-use borrow.Author.Tests.{lt-ltb, le-ltb, ltb-true, ltb-false, ne_eqb}
+use borrow.Author.Tests.{ltb-true, ltb-false, ne_eqb}
 use lib.Dec.{ltb, eqb}
-use lib.ListN.{length, take, drop, get_or, set, replicate, length-append, length-drop, get_or-append, drop_of_length-le, take-append-drop}
-use lib.Seq.{drop-cons, take-suc, set_at, get_or-take, length-take-le, append_snoc, take_all, get_or-append-add, get_or-drop, drop-append-le, take-append-le, take-append-add}
+use borrow.Rule.Slice.PartMut.{put_mid, mid_of}
+use Rattle.std.proofs.Common.{Option, Some, None, unwrap_or}
+use Rattle.std.proofs.lemmas.Slice.{between_is, put_mid-rotated}
+use Rattle.std.specs.List.{list_any, position_or_len}
+use lib.ListN.{length, take, drop, get_or, set, replicate, length-append, length-drop, drop_of_length-le}
+use lib.Seq.{drop-cons, set_at, get_or-take, length-take-le, take_all, drop-append-le, take-append-le, take-append-add}
 use Rattle.model.specs.declared.Guid.{Guid}
 use Rattle.model.specs.declared.WriterSet.{WriterSet}
 use Rattle.model.specs.Guids.{less, same, nil}
 use Rattle.model.specs.Sets.{members, set_of, has, insert, remove, is_empty}
-use Rattle.writer_set.specs.Places.{Sound, padded, stops_at, passed, inserted_at, removed_at}
+use Rattle.writer_set.specs.Places.{Sound, padded, inserted_at, removed_at}
 use Rattle.writer_set.proofs.SetLaws.{sound-size}
 
 -- ---- a scan
+
+-- what a scan for g stops at, where it looks for its place and where it looks for itself
+abbrev pub not_less : Guid → Guid → Bool
+not_less g x = not (less x g)
+
+abbrev pub is : Guid → Guid → Bool
+is g x = same x g
+
+-- how many stand before the first of which stop holds
+unfoldable pub passed : (Guid → Bool) → List Guid → ℕ
+passed stop [] = 0
+passed stop (x ∷ xs) = cond (stop x) 0 (suc (passed stop xs))
 
 module _ (stop : Guid → Bool) where
   pub passed-le : (s : List Guid) → passed stop s ≤ length s
@@ -34,138 +48,87 @@ module _ (stop : Guid → Bool) where
       by true h = omega arith
       by false h = omega arith
 
-  module _ (s : List Guid) (k : ℕ) where
-    pub passed_on : k < length s → stop (get_or s k nil) ≡ false → passed stop (drop k s) ≡ 1 + passed stop (drop (k + 1) s)
-    unfolding passed
-    passed_on h e = rw (drop-cons s k nil h, e, add-one) (omega arith)
+  -- as std counts them
+  pub passed-is : (s : List Guid) → position_or_len stop s ≡ passed stop s
+  unfolding passed
+  passed-is [] = refl
+  passed-is (x ∷ xs) = by (stop x) (passed-is xs)
+    where
+      by : (b : Bool) → position_or_len stop xs ≡ passed stop xs → cond (not b) (1 + position_or_len stop xs) 0 ≡ cond b 0 (suc (passed stop xs))
+      by true h = refl
+      by false h = omega arith
 
-    pub passed_here : k < length s → stop (get_or s k nil) ≡ true → passed stop (drop k s) ≡ 0
-    unfolding passed
-    passed_here h e = rw (drop-cons s k nil h, e)
+  module _ (s : List Guid) (r : Option ℕ) (e : r ≡ cond (ltb (position_or_len stop s) (length s)) (Some (position_or_len stop s)) None) where
+    scanned : r ≡ cond (ltb (passed stop s) (length s)) (Some (passed stop s)) None
+    scanned = rw (passed-is s) at e
 
-    pub passed-end : length s ≤ k → passed stop (drop k s) ≡ 0
-    unfolding passed
-    passed-end h = rw (drop_of_length-le s h)
+    -- the place, or else the length
+    pub place_is : (n : ℕ) → n ≡ length s → unwrap_or r n ≡ position_or_len stop s
+    place_is n f = rw (scanned, f, passed-is s) (by (ltb (passed stop s) (length s)) refl)
+      where
+        by : (b : Bool) → ltb (passed stop s) (length s) ≡ b → unwrap_or (cond b (Some (passed stop s)) None) (length s) ≡ passed stop s
+        by true q = refl
+        by false q = omega (arith, passed-le s, ltb-false (passed stop s) (length s) q)
 
--- ---- room for one more
+    pub found_at : (p : ℕ) → r ≡ Some p → (p ≡ passed stop s) × (p < length s)
+    found_at p f = by (ltb (passed stop s) (length s)) refl (rw scanned at f)
+      where
+        by : (b : Bool) → ltb (passed stop s) (length s) ≡ b → cond b (Some (passed stop s)) None ≡ Some p → (p ≡ passed stop s) × (p < length s)
+        by true q h = let same : passed stop s ≡ p = cc in (sym same, omega (arith, ltb-true (passed stop s) (length s) q))
+        by false q h = cc
 
--- a store at the seam
-seam_set : (l q : List Guid) (p : ℕ) (g : Guid) → p < length l → set (take (p + 1) l ++ q) p g ≡ take p l ++ (g ∷ q)
-seam_set l q p g h =
-    rw (add-one, take-suc l p nil, append_snoc) (set_at (take p l) (get_or l p nil) q g p (length-take-le p l (omega arith)))
+    pub found_nowhere : r ≡ None → length s ≤ passed stop s
+    found_nowhere f = by (ltb (passed stop s) (length s)) refl (rw scanned at f)
+      where
+        by : (b : Bool) → ltb (passed stop s) (length s) ≡ b → cond b (Some (passed stop s)) None ≡ None → length s ≤ passed stop s
+        by true q h = cc
+        by false q h = ltb-false (passed stop s) (length s) q
 
--- up to k as it was, and from k + 1 one on
-abbrev pub shifted : List Guid → ℕ → List Guid
-shifted l k = take (k + 1) l ++ drop k (take 15 l)
-
-module _ (l : List Guid) (size : length l ≡ 16) where
-  pub shifted_start : l ≡ shifted l 15
-  shifted_start =
-      rw (take_all 16 l (omega arith), drop_of_length-le (take 15 l) {i = 15} (omega (arith, length-take-le 15 l (omega arith))))
-      (sym (append-nil l))
-
-  shifted_at : (k : ℕ) → k < 15 → get_or (shifted l (k + 1)) k nil ≡ get_or l k nil
-  shifted_at k h =
-      get_or-append (take (k + 1 + 1) l) (drop (k + 1) (take 15 l)) nil k
-      (omega (arith, length-take-le (k + 1 + 1) l (omega arith))) ∙ get_or-take (k + 1 + 1) l k nil (omega arith)
-
-  shifted_on : (k : ℕ) → k < 15 → set (shifted l (k + 1)) (k + 1) (get_or l k nil) ≡ shifted l k
-  shifted_on k h =
-      let tail : drop k (take 15 l) ≡ get_or l k nil ∷ drop (k + 1) (take 15 l) =
-      rw (drop-cons (take 15 l) k nil (omega (arith, length-take-le 15 l (omega arith))), get_or-take 15 l k nil h, add-one) in
-      seam_set l (drop (k + 1) (take 15 l)) (k + 1) (get_or l k nil) (omega arith) ∙ rw tail
-
-  pub shifted_step : (r : List Guid) (k : ℕ) → 0 < k → k < 16 → r ≡ shifted l k → set r k (get_or r (k - 1) nil) ≡ shifted l (k - 1)
-  shifted_step r k a h e =
-      let q : k - 1 + 1 ≡ k = omega arith in
-      let e' : r ≡ shifted l (k - 1 + 1) = rw q e in
-      let v : get_or r (k - 1) nil ≡ get_or l (k - 1) nil = rw e' (shifted_at (k - 1) (omega arith)) in
-      let s : set (shifted l (k - 1 + 1)) (k - 1 + 1) (get_or l (k - 1) nil) ≡ shifted l (k - 1) = shifted_on (k - 1) (omega arith) in cc
-
-  pub shifted_end : (p : ℕ) (g : Guid) → p < 16 → set (shifted l p) p g ≡ inserted_at l p g
-  shifted_end p g h = seam_set l (drop p (take 15 l)) p g (omega arith)
-
--- ---- a gap closed
-
--- from p to k one back, and from k as it was
-abbrev gap : List Guid → ℕ → ℕ → List Guid
-gap l p k = take p l ++ drop (p + 1) (take (k + 1) l)
-
-abbrev pub closed : List Guid → ℕ → ℕ → List Guid
-closed l p k = gap l p k ++ drop k l
+-- ---- room for one more, and a gap closed
 
 module _ (l : List Guid) (p : ℕ) (size : length l ≡ 16) (below : p < 16) where
-  length-gap : (k : ℕ) → p ≤ k → k < 16 → length (gap l p k) ≡ k
-  length-gap k a h =
-      omega (arith, length-append (take p l) (drop (p + 1) (take (k + 1) l)), length-take-le p l (omega arith), length-drop (p + 1) (take (k + 1) l), length-take-le (k + 1) l (omega arith))
+  -- the places from p on turned up by one, and g put in
+  pub room_made : (k n : ℕ) (g : Guid) (ys : List Guid) → 16 ≤ p + k
+      → ys ≡ drop n (mid_of p k l) ++ take n (mid_of p k l) → n + 1 ≡ 16 - p → set (put_mid p k l ys) p g ≡ inserted_at l p g
+  room_made k n g ys h e f =
+      let d : List Guid = drop p l in
+      let long : length d ≡ suc n = omega (arith, length-drop p l) in
+      let part : mid_of p k l ≡ d = take_all k d (omega arith) in
+      let none : drop k d ≡ [] = drop_of_length-le d (omega arith) in
+      let last : drop n d ≡ get_or d n nil ∷ [] = rw (drop-cons d n nil (omega arith), drop_of_length-le d {i = suc n} (omega arith)) in
+      let turned : ys ≡ get_or d n nil ∷ take n d = e ∙ rw (part, last) in
+      let up : take n d ≡ drop p (take 15 l) = ap (λ (i : ℕ). take i d) (omega arith) ∙ between_is l p 15 in
+      rw (turned, none) (set_at (take p l) (get_or d n nil) (take n d ++ []) g p (length-take-le p l (omega arith)) ∙ rw (append-nil (take n d), up))
 
-  pub closed_start : l ≡ closed l p p
-  closed_start =
-      rw (drop_of_length-le (take (p + 1) l) {i = p + 1} (omega (arith, length-take-le (p + 1) l (omega arith))), append-nil)
-      (sym (take-append-drop p l))
-
-  closed_at : (k : ℕ) → p ≤ k → k < 15 → get_or (closed l p k) (k + 1) nil ≡ get_or l (k + 1) nil
-  closed_at k a h =
-      let e : length (gap l p k) ≡ k = length-gap k a (omega arith) in
-      rw e at (get_or-append-add (gap l p k) (drop k l) 1 nil) ∙ get_or-drop k l 1 nil
-
-  -- a store at the place where the closed part ends
-  closed-set : (k : ℕ) (v : Guid) → p ≤ k → k < 16 → set (closed l p k) k v ≡ gap l p k ++ (v ∷ drop (suc k) l)
-  closed-set k v a h =
-      rw (drop-cons l k nil (omega arith)) (set_at (gap l p k) (get_or l k nil) (drop (suc k) l) v k (length-gap k a h))
-
-  closed_on : (k : ℕ) → p ≤ k → k < 15 → set (closed l p k) k (get_or l (k + 1) nil) ≡ closed l p (k + 1)
-  closed_on k a h =
-      let v : Guid = get_or l (k + 1) nil in
-      let more : take (k + 1 + 1) l ≡ take (k + 1) l ++ v ∷ [] = rw (add-one (k + 1)) (take-suc l (k + 1) nil (omega arith)) in
-      let grown : gap l p (k + 1) ≡ gap l p k ++ v ∷ [] =
-      rw (more, drop-append-le (p + 1) (take (k + 1) l) (v ∷ []) (omega (arith, length-take-le (k + 1) l (omega arith))))
-      (sym (append_assoc (take p l) (drop (p + 1) (take (k + 1) l)) (v ∷ []))) in
-      closed-set k v a (omega arith) ∙ rw (grown, append_snoc, add-one k)
-
-  pub closed-step : (r : List Guid) (k : ℕ) → p ≤ k → k < 15 → r ≡ closed l p k → set r k (get_or r (k + 1) nil) ≡ closed l p (k + 1)
-  closed-step r k a h e =
-      let v : get_or r (k + 1) nil ≡ get_or l (k + 1) nil = rw e (closed_at k a h) in rw (v, e) (closed_on k a h)
-
-  pub closed-end : set (closed l p 15) 15 nil ≡ removed_at l p
-  closed-end =
-      closed-set 15 nil (omega arith) (omega arith)
-      ∙ rw (take_all 16 l (omega arith), drop_of_length-le l {i = 16} (omega arith), add-one) (append_assoc (take p l) (drop (suc p) l) (nil ∷ []))
+  -- turned down by one, and nil put in behind
+  pub gap_closed : (k : ℕ) (ys : List Guid) → 16 ≤ p + k
+      → ys ≡ drop 1 (mid_of p k l) ++ take 1 (mid_of p k l) → set (put_mid p k l ys) 15 nil ≡ removed_at l p
+  gap_closed k ys h e =
+      let size_left : length (take p l ++ drop (suc p) l) ≡ 15 =
+      omega (arith, length-append (take p l) (drop (suc p) l), length-take-le p l (omega arith), length-drop (suc p) l) in
+      rw (put_mid-rotated p k l ys nil (omega arith) (omega arith) e)
+      (set_at (take p l ++ drop (suc p) l) (get_or l p nil) [] nil 15 size_left ∙ append_assoc (take p l) (drop (suc p) l) (nil ∷ []))
 
 -- ---- membership
 
-ltb-suc : (m n : ℕ) → ltb (suc m) (suc n) ≡ ltb m n
-ltb-suc m n = by (ltb m n) refl
-  where
-    by : (b : Bool) → ltb m n ≡ b → ltb (suc m) (suc n) ≡ b
-    by true e = lt-ltb (suc m) (suc n) (omega (arith, ltb-true m n e))
-    by false e = le-ltb (suc m) (suc n) (omega (arith, ltb-false m n e))
-
-pub has-passed : (g : Guid) (s : List Guid) → ltb (passed (stops_at false g) s) (length s) ≡ has g s
-unfolding has passed
-has-passed g [] = refl
-has-passed g (x ∷ xs) = by (same x g) (has-passed g xs)
-  where
-    by : (b : Bool) → ltb (passed (stops_at false g) xs) (length xs) ≡ has g xs → ltb (cond b 0 (suc (passed (stops_at false g) xs))) (suc (length xs)) ≡ b || has g xs
-    by true h = lt-ltb 0 (suc (length xs)) (omega arith)
-    by false h = ltb-suc (passed (stops_at false g) xs) (length xs) ∙ h
+pub has_any : (g : Guid) (s : List Guid) → list_any (is g) s ≡ has g s
+unfolding has
+has_any g [] = refl
+has_any g (x ∷ xs) = ap (λ (b : Bool). same x g || b) (has_any g xs)
 
 pub length-members : (w : WriterSet) → length w.items ≡ 16 → w.len ≤ 16 → length (members w) ≡ w.len
 length-members w size few = length-take-le w.len w.items (omega arith)
 
-pub found_by : (w : WriterSet) (g : Guid) (p : ℕ) → length w.items ≡ 16 → w.len ≤ 16 → p ≡ passed (stops_at false g) (members w) → ltb p w.len ≡ has g (members w)
-found_by w g p size few e = rw e (rw (length-members w size few) at (has-passed g (members w)))
-
 -- ---- a GUID put in
 
 -- at its place where another stands there, not at all where it stands there itself
-insert_new : (g : Guid) (s : List Guid) → (passed (stops_at true g) s < length s → same (get_or s (passed (stops_at true g) s) nil) g ≡ false) → insert g s ≡ take (passed (stops_at true g) s) s ++ (g ∷ drop (passed (stops_at true g) s) s)
+insert_new : (g : Guid) (s : List Guid) → (passed (not_less g) s < length s → same (get_or s (passed (not_less g) s) nil) g ≡ false) → insert g s ≡ take (passed (not_less g) s) s ++ (g ∷ drop (passed (not_less g) s) s)
 unfolding insert passed
 insert_new g [] h = refl
 insert_new g (x ∷ xs) h = by (λ on. insert_new g xs on) (less x g) refl
   where
     p : List Guid → ℕ
-    p l = passed (stops_at true g) l
+    p l = passed (not_less g) l
 
     by : ((p xs < length xs → same (get_or xs (p xs) nil) g ≡ false) → insert g xs ≡ take (p xs) xs ++ (g ∷ drop (p xs) xs)) → (b : Bool) → less x g ≡ b → insert g (x ∷ xs) ≡ take (p (x ∷ xs)) (x ∷ xs) ++ (g ∷ drop (p (x ∷ xs)) (x ∷ xs))
     by ih true e =
@@ -173,15 +136,15 @@ insert_new g (x ∷ xs) h = by (λ on. insert_new g xs on) (less x g) refl
         rw (e, ih on)
     by ih false e = let no : same x g ≡ false = (rw e at h) (omega arith) in rw (e, no)
 
-insert-old : (g : Guid) (s : List Guid) → passed (stops_at true g) s < length s → same (get_or s (passed (stops_at true g) s) nil) g ≡ true → insert g s ≡ s
+insert-old : (g : Guid) (s : List Guid) → passed (not_less g) s < length s → same (get_or s (passed (not_less g) s) nil) g ≡ true → insert g s ≡ s
 unfolding insert passed
 insert-old g [] l h = absurd (omega arith)
 insert-old g (x ∷ xs) l h = by (λ l' h'. insert-old g xs l' h') (less x g) refl
   where
-    by : (passed (stops_at true g) xs < length xs → same (get_or xs (passed (stops_at true g) xs) nil) g ≡ true → insert g xs ≡ xs) → (b : Bool) → less x g ≡ b → insert g (x ∷ xs) ≡ x ∷ xs
+    by : (passed (not_less g) xs < length xs → same (get_or xs (passed (not_less g) xs) nil) g ≡ true → insert g xs ≡ xs) → (b : Bool) → less x g ≡ b → insert g (x ∷ xs) ≡ x ∷ xs
     by ih true e =
-        let l' : suc (passed (stops_at true g) xs) < suc (length xs) = rw e at l in
-        let h' : same (get_or xs (passed (stops_at true g) xs) nil) g ≡ true = rw e at h in
+        let l' : suc (passed (not_less g) xs) < suc (length xs) = rw e at l in
+        let h' : same (get_or xs (passed (not_less g) xs) nil) g ≡ true = rw e at h in
         rw (e, ih (omega arith) h')
     by ih false e = let yes : same x g ≡ true = rw e at h in rw (e, yes)
 
@@ -208,17 +171,17 @@ insert_pads s l g p e h m =
     let left : 16 - length (take p s ++ (g ∷ drop p s)) ≡ k = omega arith in
     rw (front, back, left) (sym (append_assoc (take p s) (g ∷ drop p s) (replicate k nil)))
 
-module _ (w : WriterSet) (g : Guid) (p : ℕ) (size : length w.items ≡ 16) (sound : Sound w) (at : p ≡ passed (stops_at true g) (members w)) where
+module _ (w : WriterSet) (g : Guid) (p : ℕ) (size : length w.items ≡ 16) (sound : Sound w) (at : p ≡ passed (not_less g) (members w)) where
   long : length (members w) ≡ w.len
   long = length-members w size sound.few
 
   pub place_few : p ≤ w.len
-  place_few = omega (arith, passed-le (stops_at true g) (members w), long)
+  place_few = omega (arith, passed-le (not_less g) (members w), long)
 
   pub with_old : p < w.len → same (get_or w.items p nil) g ≡ true → w ≡ set_of (insert g (members w))
   unfolding set_of
   with_old h e =
-      let e' : same (get_or (members w) (passed (stops_at true g) (members w)) nil) g ≡ true =
+      let e' : same (get_or (members w) (passed (not_less g) (members w)) nil) g ≡ true =
       rw (← at, get_or-take w.len w.items p nil h) e in
       let kept : insert g (members w) ≡ members w = insert-old g (members w) (omega (arith, long)) e' in
       let z : w.items ≡ padded (members w) = sound.nils in
@@ -251,26 +214,26 @@ module _ (w : WriterSet) (g : Guid) (p : ℕ) (size : length w.items ≡ 16) (so
 
 -- ---- a GUID taken out
 
-remove_found : (g : Guid) (s : List Guid) → passed (stops_at false g) s < length s → remove g s ≡ take (passed (stops_at false g) s) s ++ drop (suc (passed (stops_at false g) s)) s
+remove_found : (g : Guid) (s : List Guid) → passed (is g) s < length s → remove g s ≡ take (passed (is g) s) s ++ drop (suc (passed (is g) s)) s
 unfolding remove passed
 remove_found g [] h = refl
 remove_found g (x ∷ xs) h = by (λ h'. remove_found g xs h') (same x g) refl
   where
     p : List Guid → ℕ
-    p l = passed (stops_at false g) l
+    p l = passed (is g) l
 
     by : (p xs < length xs → remove g xs ≡ take (p xs) xs ++ drop (suc (p xs)) xs) → (b : Bool) → same x g ≡ b → remove g (x ∷ xs) ≡ take (p (x ∷ xs)) (x ∷ xs) ++ drop (suc (p (x ∷ xs))) (x ∷ xs)
     by ih true e = rw e
     by ih false e = let h' : suc (p xs) < suc (length xs) = rw e at h in rw (e, ih (omega arith))
 
-remove_none : (g : Guid) (s : List Guid) → length s ≤ passed (stops_at false g) s → remove g s ≡ s
+remove_none : (g : Guid) (s : List Guid) → length s ≤ passed (is g) s → remove g s ≡ s
 unfolding remove passed
 remove_none g [] h = refl
 remove_none g (x ∷ xs) h = by (λ h'. remove_none g xs h') (same x g) refl
   where
-    by : (length xs ≤ passed (stops_at false g) xs → remove g xs ≡ xs) → (b : Bool) → same x g ≡ b → remove g (x ∷ xs) ≡ x ∷ xs
+    by : (length xs ≤ passed (is g) xs → remove g xs ≡ xs) → (b : Bool) → same x g ≡ b → remove g (x ∷ xs) ≡ x ∷ xs
     by ih true e = let h' : suc (length xs) ≤ 0 = rw e at h in absurd (omega arith)
-    by ih false e = let h' : suc (length xs) ≤ suc (passed (stops_at false g) xs) = rw e at h in rw (e, ih (omega arith))
+    by ih false e = let h' : suc (length xs) ≤ suc (passed (is g) xs) = rw e at h in rw (e, ih (omega arith))
 
 nils_more : (m : ℕ) (a : Guid) → replicate m a ++ a ∷ [] ≡ replicate (suc m) a
 nils_more zero a = refl
@@ -286,7 +249,7 @@ remove_pads s l p e h m =
     let left : 16 - length (take p s ++ drop (suc p) s) ≡ suc k = omega arith in
     rw (front, back, left, ← nils_more k nil) (simp append_assoc)
 
-module _ (w : WriterSet) (g : Guid) (p : ℕ) (size : length w.items ≡ 16) (sound : Sound w) (at : p ≡ passed (stops_at false g) (members w)) where
+module _ (w : WriterSet) (g : Guid) (p : ℕ) (size : length w.items ≡ 16) (sound : Sound w) (at : p ≡ passed (is g) (members w)) where
   all-long : length (members w) ≡ w.len
   all-long = length-members w size sound.few
 

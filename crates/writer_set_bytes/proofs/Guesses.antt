@@ -8,7 +8,7 @@ use borrow.Author.Tests.{eqb-true}
 use lib.ListN.{length}
 use Rattle.model.specs.declared.Guid.{Guid}
 use Rattle.model.specs.Guids.{num, same, guid_at}
-use Rattle.tables.specs.declared.Found.TheVariants.{At}
+use Rattle.std.specs.Prelude.{Ok}
 use Rattle.tables.specs.Found.{found_in}
 use Rattle.tables.specs.Keys.{keys}
 use Rattle.tables.proofs.FoundLaws.{key_found}
@@ -17,7 +17,7 @@ use Rattle.writer_set_bytes.specs.Lists.{Listed}
 use Rattle.writer_set_bytes.proofs.Starts.{keys_rise_lem}
 
 pub guess_found : (gone : List ℕ) → Listed gone → (g : Guid) (j : ℕ) → j < length gone / 16 → (there : Guid) → there ≡ guid_at gone (j * 16) → same there g ≡ true →
-    At j ≡ found_in (keys 16 (length gone / 16) gone) (num g)
+    Ok j ≡ found_in (keys 16 (length gone / 16) gone) (num g)
 guess_found gone listed g j h there at e =
     let n : ℕ = length gone / 16 in
     sym

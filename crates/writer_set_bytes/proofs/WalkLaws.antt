@@ -1,17 +1,17 @@
 -- A set and a list walked side by side.
---     stands-end, stands_at             where a GUID of the list stands, as it was told
+--     stands_at, compared               where a GUID of the list stands, as it was told
 --     on_turned                         one turn, from where it stands
 --     Walking                           what holds while the first i of the set and the first j of the list are passed
 --     walking_start, walking_turn       before the first; one turn more
 --     walking_less                      a turn leaves less of the two
 --     walking_end                       all are passed, and nil is put behind those that stay
-use Prim.Native.Nat.{ℕ, zero, suc, ◌+◌, ◌-◌, ◌*◌, ◌/◌, ◌≤◌, ◌<◌}
-use mathlib.Core.Bool.{Bool, true, false}
+use Prim.Native.Nat.{ℕ, zero, suc, ◌+◌, ◌-◌, ◌*◌, ◌/◌, ◌^◌, ◌≤◌, ◌<◌}
+use mathlib.Core.Bool.{true}
 use mathlib.Core.List.{List, [], ◌∷◌, ◌++◌, append-nil, append_assoc}
 use mathlib.Core.Logic.{◌⊎◌, inl, inr, ⊎_elim}
 use mathlib.Core.Path.{◌≡◌, refl, sym, ap, ◌∙◌}
 use native.Mathlib.Omega.{arith}
-use borrow.Author.Tests.{lt-ltb, le-ltb, ltb-true, ltb-false, eqb-true, eqb-false}
+use borrow.Author.Tests.{lt-ltb, ltb-true, ltb-false, eqb-true, eqb-false}
 use lib.Dec.{ltb}
 use lib.ListN.{length, take, drop, replicate, length-append, length-drop, take-append-drop}
 use lib.Seq.{drop_at, drop-drop, drop-length, length-take-le}
@@ -28,8 +28,10 @@ use Rattle.model.proofs.RowLaws.{length_read, read_cons, drop_read}
 use Rattle.model.proofs.Tests.{both, split}
 use Rattle.writer_set.specs.Places.{padded}
 use Rattle.writer_set.proofs.SetLaws.{length-padded}
-use Rattle.writer_set_bytes.specs.declared.Beside.{Beside}
-use Rattle.writer_set_bytes.specs.declared.Beside.TheVariants.{Before, Same, Behind}
+use Rattle.std.proofs.lemmas.Bool.Decides.{nat_tests}
+use Rattle.std.specs.Ordering.{nat_cmp, ordering_then}
+use Rattle.std.specs.declared.cmp.Ordering.{Ordering}
+use Rattle.std.specs.declared.cmp.Ordering.TheVariants.{Less, Equal, Greater}
 use Rattle.writer_set_bytes.specs.declared.Walk.{Walk}
 use Rattle.writer_set_bytes.specs.Others.{others}
 use Rattle.writer_set_bytes.specs.Lists.{gones_in, Listed}
@@ -41,26 +43,13 @@ zeros n = replicate n 0
 
 -- ---- one turn
 
-pub stands-end : (gone : List ℕ) (j : ℕ) (g : Guid) → length gone / 16 ≤ j → Behind ≡ beside_at gone j g
-stands-end gone j g h = rw (le-ltb j (length gone / 16) h)
-
-pub stands_at : (gone : List ℕ) (j : ℕ) (g a : Guid) (r : Beside) → j < length gone / 16 → a ≡ guid_at gone (j * 16) → r ≡ standing a g → r ≡ beside_at gone j g
+pub stands_at : (gone : List ℕ) (j : ℕ) (g a : Guid) (r : Ordering) → j < length gone / 16 → a ≡ guid_at gone (j * 16) → r ≡ standing a g → r ≡ beside_at gone j g
 stands_at gone j g a r h e q = rw (lt-ltb j (length gone / 16) h, ← e) q
 
-pub stand_same : (a g : Guid) (b : Bool) → b ≡ same a g → b ≡ true → Same ≡ standing a g
-stand_same a g b e h = let q : same a g ≡ true = sym e ∙ h in rw q
-
-pub stand_before : (a g : Guid) (b c : Bool) → b ≡ same a g → b ≡ false → c ≡ less a g → c ≡ true → Before ≡ standing a g
-stand_before a g b c e h f k =
-    let q : same a g ≡ false = sym e ∙ h in
-    let r : less a g ≡ true = sym f ∙ k in
-    rw (q, r)
-
-pub stand_behind : (a g : Guid) (b c : Bool) → b ≡ same a g → b ≡ false → c ≡ less a g → c ≡ false → Behind ≡ standing a g
-stand_behind a g b c e h f k =
-    let q : same a g ≡ false = sym e ∙ h in
-    let r : less a g ≡ false = sym f ∙ k in
-    rw (q, r)
+-- of two GUIDs the upper halves decide, then the lower ones
+pub compared : (a g : Guid) → a.lo < 2 ^ 64 → g.lo < 2 ^ 64 → ordering_then (nat_cmp a.hi g.hi) (nat_cmp a.lo g.lo) ≡ standing a g
+unfolding num
+compared a g p q = grind (arith, nat_tests)
 
 pub stay_stood : (d : List ℕ) (i k : ℕ) (g : Guid) → Bytes d → k ≡ i → i * 16 + 16 ≤ length d → g ≡ guid_at d (i * 16) → d ≡ patch d (k * 16) 16 (guid_bytes g)
 stay_stood d i k g b e h q =
@@ -70,18 +59,18 @@ stay_stood d i k g b e h q =
     ∙ guid_forth (take 16 (drop (i * 16) d)) (bytes_take 16 (drop (i * 16) d) (bytes_drop (i * 16) d b)) n in
     rw (e, w) (sym (rw (← drop-drop 16 (i * 16) d, take-append-drop 16 (drop (i * 16) d)) (take-append-drop (i * 16) d)))
 
-pub stay_turned : (w : Walk) (set set' : List ℕ) {g : Guid} → set' ≡ patch set (w.k * 16) 16 (guid_bytes g) → g ≡ guid_at set (w.i * 16) → set' ≡ stayed Behind w set
+pub stay_turned : (w : Walk) (set set' : List ℕ) {g : Guid} → set' ≡ patch set (w.k * 16) 16 (guid_bytes g) → g ≡ guid_at set (w.i * 16) → set' ≡ stayed Greater w set
 stay_turned w set set' e q = e ∙ ap (λ (x : Guid). patch set (w.k * 16) 16 (guid_bytes x)) q
 
-pub on_turned : (gone set set' : List ℕ) (w r : Walk) (g : Guid) (b v : Beside) → g ≡ guid_at set (w.i * 16) → b ≡ beside_at gone w.j g → b ≡ v →
+pub on_turned : (gone set set' : List ℕ) (w r : Walk) (g : Guid) (b v : Ordering) → g ≡ guid_at set (w.i * 16) → b ≡ beside_at gone w.j g → b ≡ v →
     r ≡ walked v w → set' ≡ stayed v w set →
     (r ≡ walked (beside_at gone w.j (guid_at set (w.i * 16))) w) × (set' ≡ stayed (beside_at gone w.j (guid_at set (w.i * 16))) w set)
 on_turned gone set set' w r g b v e q f x y = rw (← e, ← q, f) (x, y)
 
 -- by where the GUID of the list stands
-beside_cases : (P : Beside → Type 0) (gone : List ℕ) (j : ℕ) (g : Guid) → (j < length gone / 16 → num (guid_at gone (j * 16)) < num g → P Before) →
-    (j < length gone / 16 → num g ≡ num (guid_at gone (j * 16)) → P Same) →
-    ((length gone / 16 ≤ j) ⊎ ((j < length gone / 16) × (num g < num (guid_at gone (j * 16)))) → P Behind) → P (beside_at gone j g)
+beside_cases : (P : Ordering → Type 0) (gone : List ℕ) (j : ℕ) (g : Guid) → (j < length gone / 16 → num (guid_at gone (j * 16)) < num g → P Less) →
+    (j < length gone / 16 → num g ≡ num (guid_at gone (j * 16)) → P Equal) →
+    ((length gone / 16 ≤ j) ⊎ ((j < length gone / 16) × (num g < num (guid_at gone (j * 16)))) → P Greater) → P (beside_at gone j g)
 beside_cases P gone j g x y z =
     let a : Guid = guid_at gone (j * 16) in
     split (ltb j (length gone / 16))
@@ -208,7 +197,7 @@ module _ (set₀ : List ℕ) (n : ℕ) (gone : List ℕ) where
       onward : drop ((w.i + 1) * 16) set ≡ drop ((w.i + 1) * 16) set₀
       onward = drop-same (w.i * 16) ((w.i + 1) * 16) set set₀ (omega arith) d.ahead
 
-      passed : w.j < length gone / 16 → num (guid_at gone (w.j * 16)) < num g → Walking (stayed Before w set) (walked Before w)
+      passed : w.j < length gone / 16 → num (guid_at gone (w.j * 16)) < num g → Walking (stayed Less w set) (walked Less w)
       passed h b =
           record {
             below = d.below;
@@ -224,7 +213,7 @@ module _ (set₀ : List ℕ) (n : ℕ) (gone : List ℕ) where
                 (rw (gone-next h, set_next) (other_before (guid_at gone (w.j * 16)) (drop (w.j + 1) G) g (drop (w.i + 1) S) set-rises b));
           }
 
-      taken : w.j < length gone / 16 → num g ≡ num (guid_at gone (w.j * 16)) → Walking (stayed Same w set) (walked Same w)
+      taken : w.j < length gone / 16 → num g ≡ num (guid_at gone (w.j * 16)) → Walking (stayed Equal w set) (walked Equal w)
       taken h b =
           record {
             below = omega arith;
@@ -250,7 +239,7 @@ module _ (set₀ : List ℕ) (n : ℕ) (gone : List ℕ) where
           (λ b. rw (gone-next b.0) (other_behind (guid_at gone (w.j * 16)) (drop (w.j + 1) G) g (drop (w.i + 1) S) (gone-rises b.0) b.1))
           h
 
-      stayed_on : (length gone / 16 ≤ w.j) ⊎ ((w.j < length gone / 16) × (num g < num (guid_at gone (w.j * 16)))) → Walking (stayed Behind w set) (walked Behind w)
+      stayed_on : (length gone / 16 ≤ w.j) ⊎ ((w.j < length gone / 16) × (num g < num (guid_at gone (w.j * 16)))) → Walking (stayed Greater w set) (walked Greater w)
       unfolding rows
       stayed_on h =
           let room : w.k * 16 + 16 ≤ 256 = omega (arith, d.kept, f.few) in
@@ -272,7 +261,7 @@ module _ (set₀ : List ℕ) (n : ℕ) (gone : List ℕ) where
           }
 
       pub walking_turn : Walking (stayed (beside_at gone w.j g) w set) (walked (beside_at gone w.j g) w)
-      walking_turn = beside_cases (λ (b : Beside). Walking (stayed b w set) (walked b w)) gone w.j g passed taken stayed_on
+      walking_turn = beside_cases (λ (b : Ordering). Walking (stayed b w set) (walked b w)) gone w.j g passed taken stayed_on
 
     -- what is left of both
     abbrev pub left : Walk → ℕ
@@ -280,7 +269,7 @@ module _ (set₀ : List ℕ) (n : ℕ) (gone : List ℕ) where
 
     pub walking_less : (set : List ℕ) (w : Walk) → Walking set w → w.i < n → left (walked (beside_at gone w.j (guid_at set (w.i * 16))) w) < left w
     walking_less set w d more =
-        beside_cases (λ (b : Beside). left (walked b w) < left w) gone w.j (guid_at set (w.i * 16)) (λ h b. omega arith) (λ h b. omega arith) (λ b. omega (arith, d.listed))
+        beside_cases (λ (b : Ordering). left (walked b w) < left w) gone w.j (guid_at set (w.i * 16)) (λ h b. omega arith) (λ h b. omega arith) (λ b. omega (arith, d.listed))
 
     module _ (set : List ℕ) (w : Walk) (d : Walking set w) (done : n ≤ w.i) where
       all-out : others G S ≡ d.stays

@@ -9,8 +9,8 @@ use Rattle.model.specs.Guids.{num, less, same, guid_at, guids_in, guid_bytes, gu
 use Rattle.model.specs.Sets.{set_places}
 use Rattle.model.specs.Tables.{rising}
 use Rattle.writer_set.specs.Places.{padded}
-use Rattle.writer_set_bytes.specs.declared.Beside.{Beside}
-use Rattle.writer_set_bytes.specs.declared.Beside.TheVariants.{Before, Same, Behind}
+use Rattle.std.specs.declared.cmp.Ordering.{Ordering}
+use Rattle.std.specs.declared.cmp.Ordering.TheVariants.{Less, Equal, Greater}
 use Rattle.writer_set_bytes.specs.declared.Walk.{Walk}
 
 -- the 256 bytes of a set whose n GUIDs rise, nil behind them
@@ -20,21 +20,21 @@ pub record Filled (n : ℕ) (set : List ℕ) : Type 0 where
   pub rises : rising num (guids_in n set) ≡ true
 
 -- a of the list beside b of the set
-abbrev pub standing : Guid → Guid → Beside
-standing a b = cond (same a b) Same (cond (less a b) Before Behind)
+abbrev pub standing : Guid → Guid → Ordering
+standing a b = cond (same a b) Equal (cond (less a b) Less Greater)
 
 -- the GUID of place j; behind b where the list has ended
-abbrev pub beside_at : List ℕ → ℕ → Guid → Beside
-beside_at gone j b = cond (ltb j (length gone / guid_size)) (standing (guid_at gone (j * guid_size)) b) Behind
+abbrev pub beside_at : List ℕ → ℕ → Guid → Ordering
+beside_at gone j b = cond (ltb j (length gone / guid_size)) (standing (guid_at gone (j * guid_size)) b) Greater
 
 -- a GUID before that of the set is passed; one that is the same takes it out; else it stays
-abbrev pub walked : Beside → Walk → Walk
-walked Before w = record { i = w.i; j = w.j + 1; k = w.k }
-walked Same w = record { i = w.i + 1; j = w.j + 1; k = w.k }
-walked Behind w = record { i = w.i + 1; j = w.j; k = w.k + 1 }
+abbrev pub walked : Ordering → Walk → Walk
+walked Less w = record { i = w.i; j = w.j + 1; k = w.k }
+walked Equal w = record { i = w.i + 1; j = w.j + 1; k = w.k }
+walked Greater w = record { i = w.i + 1; j = w.j; k = w.k + 1 }
 
 -- it stays behind those that stay before it
-abbrev pub stayed : Beside → Walk → List ℕ → List ℕ
-stayed Before w set = set
-stayed Same w set = set
-stayed Behind w set = patch set (w.k * guid_size) guid_size (guid_bytes (guid_at set (w.i * guid_size)))
+abbrev pub stayed : Ordering → Walk → List ℕ → List ℕ
+stayed Less w set = set
+stayed Equal w set = set
+stayed Greater w set = patch set (w.k * guid_size) guid_size (guid_bytes (guid_at set (w.i * guid_size)))

@@ -17,14 +17,14 @@ ghost use Rattle.writer_set_bytes.specs.Lists.{gones_in, Listed};
 ghost use Rattle.writer_set_bytes.specs.Walks.{Filled, beside_at, walked, stayed};
 
 use model::Guid;
-use tables::Found;
+use std::cmp::Ordering;
 
-// Where a GUID of a list stands beside one of a set.
+// The writers that are gone: their GUIDs in bytes, which rise, and a guess of where each of them stands.
 #[derive(Clone, Copy)]
-pub enum Beside {
-    Before,
-    Same,
-    Behind,
+pub struct Gone<'a> {
+    pub list: &'a [u8],
+    pub guesses: &'a [u8; 1024],
+    pub ghost listed: { Listed list.now },
 }
 
 // A walk over a set and a list: the places in both, and how many of the set stay.
@@ -37,22 +37,15 @@ pub struct Walk {
 
 // ---- the writers of a list taken out of a set
 
-// Where the GUID of place j of the list stands beside g; behind it where the list has ended.
-fn stands(gone: &[u8], j: usize, g: Guid) -> Beside
+// How the GUID of place j of the list compares with g; greater where the list has ended.
+fn stands(gone: &[u8], j: usize, g: Guid) -> Ordering
     requires { j ≤ 128 }
     ensures { result ≡ beside_at gone.now j g }
 {
     if gone.len() / 16 <= j {
-        return Beside::Behind;
+        return Ordering::Greater;
     }
-    let a = guid::guid_at(gone, j * 16);
-    if guid::is_same(a, g) {
-        return Beside::Same;
-    }
-    if guid::is_less(a, g) {
-        return Beside::Before;
-    }
-    Beside::Behind
+    guid::guid_at(gone, j * 16).cmp(&g)
 }
 
 // The GUID g of place i goes to place k, where it may stand already.
@@ -71,27 +64,20 @@ fn walk_on(set: &mut [u8], gone: &[u8], w: Walk) -> Walk
     ensures { (result ≡ walked (beside_at gone.now w.j (guid_at set.old (w.i * 16))) w)
         × (set.new ≡ stayed (beside_at gone.now w.j (guid_at set.old (w.i * 16))) w set.old) }
 {
-    let i = w.i;
-    let j = w.j;
-    let k = w.k;
-    let g = guid::guid_at(set, i * 16);
-    match stands(gone, j, g) {
-        Beside::Before => Walk {
-            i: i,
-            j: j + 1,
-            k: k,
+    let g = guid::guid_at(set, w.i * 16);
+    match stands(gone, w.j, g) {
+        Ordering::Less => Walk { j: w.j + 1, ..w },
+        Ordering::Equal => Walk {
+            i: w.i + 1,
+            j: w.j + 1,
+            ..w
         },
-        Beside::Same => Walk {
-            i: i + 1,
-            j: j + 1,
-            k: k,
-        },
-        Beside::Behind => {
-            stay(set, i, k, g);
+        Ordering::Greater => {
+            stay(set, w.i, w.k, g);
             Walk {
-                i: i + 1,
-                j: j,
-                k: k + 1,
+                i: w.i + 1,
+                k: w.k + 1,
+                ..w
             }
         }
     }
@@ -99,19 +85,20 @@ fn walk_on(set: &mut [u8], gone: &[u8], w: Walk) -> Walk
 
 // Of the first n GUIDs of the set those of the list from place `from` on are taken out, and nil is put behind the others.
 // Both rise, so one walk over them tells.
-fn walk_through(set: &mut [u8], n: usize, gone: &[u8], from: usize) -> usize
-    requires { Filled n set.old × Listed gone.now × (from ≤ length gone.now / 16)
-        × (others (drop from (gones_in gone.now)) (guids_in n set.old) ≡ others (gones_in gone.now) (guids_in n set.old)) }
-    ensures { (result ≡ length (others (gones_in gone.now) (guids_in n set.old)))
-        × (set.new ≡ guids_bytes (padded (others (gones_in gone.now) (guids_in n set.old)))) }
+fn walk_through(set: &mut [u8], n: usize, gone: &Gone, from: usize) -> usize
+    requires { Filled n set.old × (from ≤ length gone.now.list.now / 16)
+        × (others (drop from (gones_in gone.now.list.now)) (guids_in n set.old) ≡ others (gones_in gone.now.list.now) (guids_in n set.old)) }
+    ensures { (result ≡ length (others (gones_in gone.now.list.now) (guids_in n set.old)))
+        × (set.new ≡ guids_bytes (padded (others (gones_in gone.now.list.now) (guids_in n set.old)))) }
 {
     let mut w = Walk {
         i: 0,
         j: from,
         k: 0,
     };
+    // a turn goes on in the set, in the list or in both
     while w.i < n {
-        w = walk_on(set, gone, w);
+        w = walk_on(set, gone.list, w);
     }
     let k = w.k;
     octets::clear(set, k * 16, (n - k) * 16);
@@ -125,10 +112,7 @@ fn is_at(set: &[u8], i: usize, g: Guid) -> bool
     requires { (i < 128) × (i * 16 + 16 ≤ length set.now) }
     ensures { result ≡ same (guid_at set.now (i * 16)) g }
 {
-    if octets::get_u64(set, i * 16 + 8) != g.lo {
-        return false;
-    }
-    octets::get_u64(set, i * 16) == g.hi
+    octets::get_u64(set, i * 16 + 8) == g.lo && octets::get_u64(set, i * 16) == g.hi
 }
 
 // The place of g among the first n GUIDs of the set, n where it is none of them.
@@ -136,14 +120,12 @@ fn place_of(set: &[u8], n: usize, g: Guid) -> usize
     requires { (n ≤ 128) × (n * 16 ≤ length set.now) }
     ensures { result ≡ place_of (λ (x : Guid). same x g) (guids_in n set.now) }
 {
-    let mut i = 0;
-    while i < n {
+    for i in 0..n {
         if is_at(set, i, g) {
             return i;
         }
-        i += 1;
     }
-    i
+    n
 }
 
 // Of the first n GUIDs of the set g is taken out, if it is there.
@@ -162,11 +144,6 @@ fn keep_all_but(set: &mut [u8], n: usize, g: Guid) -> usize
 
 // ---- a GUID looked for in a list
 
-// A guess as a place. Nothing of it is asked.
-fn wide(x: u8) -> usize {
-    x as usize
-}
-
 // Which of the guesses is that of g. By both halves and by a prime, so that GUIDs that differ in few bytes, or by equal
 // steps, seldom share one.
 fn guess_at(g: Guid) -> usize
@@ -180,58 +157,50 @@ fn guess_at(g: Guid) -> usize
 pub fn note_guesses(gone: &[u8], guesses: &mut [u8; 1024])
     requires { Listed gone.now }
 {
-    let m = gone.len() / 16;
-    let mut j = 0;
-    while j < m {
-        let p = guess_at(guid::guid_at(gone, j * 16));
-        guesses[p] = j as u8;
-        j += 1;
+    for j in 0..gone.len() / 16 {
+        guesses[guess_at(guid::guid_at(gone, j * 16))] = j as u8;
     }
 }
 
 // The place of g in the list, or where it would stand: its guess where g stands there, else by a search. So any guesses will
 // do.
-pub fn find_listed(gone: &[u8], guesses: &[u8; 1024], g: Guid) -> Found
+pub fn find_listed(gone: &[u8], guesses: &[u8; 1024], g: Guid) -> Result<usize, usize>
     requires { Listed gone.now }
     ensures { result ≡ found_in (keys 16 (length gone.now / 16) gone.now) (num g) }
 {
     let m = gone.len() / 16;
     let p = guess_at(g);
-    let j = wide(guesses[p]);
+    let j = usize::from(guesses[p]);
     if j < m {
         let there = guid::guid_at(gone, j * 16);
         if guid::is_same(there, g) {
-            return Found::At(j);
+            return Ok(j);
         }
     }
     tables::find(gone, 16, m, g)
 }
 
 // How many of the list stand before g.
-fn lower_listed(gone: &[u8], guesses: &[u8; 1024], g: Guid) -> usize
-    requires { Listed gone.now }
-    ensures { result ≡ lower_bound (keys 16 (length gone.now / 16) gone.now) (num g) }
+fn lower_listed(gone: &Gone, g: Guid) -> usize
+    ensures { result ≡ lower_bound (keys 16 (length gone.now.list.now / 16) gone.now.list.now) (num g) }
 {
-    match find_listed(gone, guesses, g) {
-        Found::At(j) => j,
-        Found::Missing(j) => j,
-    }
+    find_listed(gone.list, gone.guesses, g).unwrap_or_else(|j| j)
 }
 
 // ---- either
 
 // Of the first n GUIDs of the set those of the list are taken out, and nil is put behind the others. Most lists have one.
-pub fn keep_others(set: &mut [u8], n: usize, gone: &[u8], guesses: &[u8; 1024]) -> usize
-    requires { Filled n set.old × Listed gone.now }
-    ensures { (result ≡ length (others (gones_in gone.now) (guids_in n set.old)))
-        × (set.new ≡ guids_bytes (padded (others (gones_in gone.now) (guids_in n set.old)))) }
+pub fn keep_others(set: &mut [u8], n: usize, gone: &Gone) -> usize
+    requires { Filled n set.old }
+    ensures { (result ≡ length (others (gones_in gone.now.list.now) (guids_in n set.old)))
+        × (set.new ≡ guids_bytes (padded (others (gones_in gone.now.list.now) (guids_in n set.old)))) }
 {
-    let m = gone.len() / 16;
+    let m = gone.list.len() / 16;
     if m == 1 {
-        let g = guid::guid_at(gone, 0);
+        let g = guid::guid_at(gone.list, 0);
         return keep_all_but(set, n, g);
     }
     let first = guid::guid_at(set, 0);
-    let from = lower_listed(gone, guesses, first);
+    let from = lower_listed(gone, first);
     walk_through(set, n, gone, from)
 }

@@ -47,30 +47,19 @@ pub fn acknowledge_ok(sheet: Sheet, head: Head) -> bool
     requires { head_ok head ≡ true }
     ensures { (pens writers lost : List ℕ) → result ≡ acknowledgeable Acknowledge sheet (held_by head pens writers lost) }
 {
-    if part_within(head.alive, head.alive_change, sheet.first) {
-        return part_within(head.not_alive, head.not_alive_change, sheet.second);
-    }
-    false
+    part_within(head.alive, head.alive_change, sheet.first)
+        && part_within(head.not_alive, head.not_alive_change, sheet.second)
 }
 
 // The head with both changes and the number of GUIDs in Lost anew.
 pub fn with_changes(head: Head, lost_count: u32, alive_change: i32, not_alive_change: i32) -> Head
     ensures { result ≡ changed_head head lost_count alive_change not_alive_change }
 {
-    let next_handle = head.next_handle;
-    let last = head.last_writer;
     Head {
-        instance_count: head.instance_count,
-        next_handle: next_handle,
-        writer_count: head.writer_count,
-        lost_count: lost_count,
-        alive: head.alive,
-        not_alive: head.not_alive,
-        alive_change: alive_change,
-        not_alive_change: not_alive_change,
-        last_writer: last,
-        changes: head.changes,
-        places: head.places,
+        lost_count,
+        alive_change,
+        not_alive_change,
+        ..head
     }
 }
 
@@ -78,9 +67,10 @@ pub fn with_changes(head: Head, lost_count: u32, alive_change: i32, not_alive_ch
 pub fn take_status(sheet: Sheet, head: Head) -> Called
     ensures { KeepsWriters TakeStatus sheet head result }
 {
-    let a = answers::reporting(head_reads::head_status(head));
-    let h = with_changes(head, head.lost_count, 0, 0);
-    Called { answer: a, head: h }
+    Called {
+        answer: answers::reporting(head_reads::head_status(head)),
+        head: with_changes(head, head.lost_count, 0, 0),
+    }
 }
 
 // Code 40: the reported changes were handed to a listener; what changed after stays pending.
@@ -91,7 +81,8 @@ pub fn acknowledge(sheet: Sheet, head: Head) -> Called
 {
     let first = change_less(head.alive, head.alive_change, sheet.first);
     let second = change_less(head.not_alive, head.not_alive_change, sheet.second);
-    let a = answers::silent();
-    let h = with_changes(head, head.lost_count, first, second);
-    Called { answer: a, head: h }
+    Called {
+        answer: answers::silent(),
+        head: with_changes(head, head.lost_count, first, second),
+    }
 }

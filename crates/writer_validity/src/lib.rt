@@ -66,10 +66,7 @@ fn record_ok(t: &[u8], at: usize) -> bool
 fn follows(i: usize, before: Guid, g: Guid) -> bool
     ensures { result ≡ (eqb i 0 || less before g) }
 {
-    if i == 0 {
-        return true;
-    }
-    guid::is_less(before, g)
+    i == 0 || guid::is_less(before, g)
 }
 
 // One more, where it is so.
@@ -77,7 +74,7 @@ fn one_more(yes: bool, n: u32) -> u32
     requires { n < 128 }
     ensures { result ≡ cond yes (n + 1) n }
 {
-    if yes { n + 1 } else { n }
+    n + u32::from(yes)
 }
 
 // Whether each of the first count records is well formed by itself, their keys rise, and so many are alive and not alive:
@@ -89,8 +86,7 @@ fn records_ok(t: &[u8], count: usize, alive: u32, not_alive: u32) -> bool
     let mut last = guid::nil();
     let mut a: u32 = 0;
     let mut d: u32 = 0;
-    let mut i = 0;
-    while i < count {
+    for i in 0..count {
         let g = guid::guid_at(t, i * 40);
         if !follows(i, last, g) {
             return false;
@@ -102,7 +98,6 @@ fn records_ok(t: &[u8], count: usize, alive: u32, not_alive: u32) -> bool
         a = one_more(state == 1, a);
         d = one_more(2 <= state, d);
         last = g;
-        i += 1;
     }
     (alive == a) & (not_alive == d)
 }
@@ -112,13 +107,9 @@ pub fn writers_ok(h: Head, writers: &[u8], count: usize) -> bool
     requires { length writers.now ≡ 5120 }
     ensures { result ≡ (writer_table_ok count writers.now && counts_ok h (writers_in count writers.now)) }
 {
-    if 128 < count {
-        return false;
-    }
-    if !zeros::zero_from(writers, count * 40) {
-        return false;
-    }
-    records_ok(writers, count, h.alive, h.not_alive)
+    count <= 128
+        && zeros::zero_from(writers, count * 40)
+        && records_ok(writers, count, h.alive, h.not_alive)
 }
 
 // Whether Lost is well formed with so many GUIDs.
@@ -126,10 +117,7 @@ pub fn lost_ok(lost: &[u8], count: usize) -> bool
     requires { length lost.now ≡ 4096 }
     ensures { result ≡ lost_ok count lost.now }
 {
-    if 256 < count {
-        return false;
-    }
-    zeros::zero_from(lost, count * 16)
+    count <= 256 && zeros::zero_from(lost, count * 16)
 }
 
 // ---- the head
@@ -152,8 +140,5 @@ pub fn head_ok(h: Head) -> bool
     if 0x8000_0000_0000_0000 < next {
         return false;
     }
-    if !acknowledged_ok(h.alive, h.alive_change) {
-        return false;
-    }
-    acknowledged_ok(h.not_alive, h.not_alive_change)
+    acknowledged_ok(h.alive, h.alive_change) && acknowledged_ok(h.not_alive, h.not_alive_change)
 }

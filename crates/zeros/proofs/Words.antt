@@ -2,7 +2,7 @@
 --     zero-sum                              a number of two digits is 0 where both are
 --     be-zero                               a number is 0 where its bytes are
 --     zeros-add                             a part in two
---     zeros-words                           32 bytes are zero where four words are
+--     words_turn                            a word more
 --     tail_turn, tail_stop                  k bytes more
 --     tail_end, tail_short                  the last k bytes, which are seen first
 use Prim.Native.Nat.{ℕ, zero, suc, ◌+◌, ◌-◌, ◌*◌, ◌≤◌, ◌<◌}
@@ -17,6 +17,8 @@ use lib.Seq.{take-suc, take-add, get_or-drop, drop-drop}
 use borrow.Author.Tests.{ne_eqb}
 use Rattle.octets.specs.Octets.{be}
 use Rattle.octets.specs.Zeros.{all_zero}
+use lib.Bits.{bit_or}
+use Rattle.octets.proofs.Scan.{or-is-zero}
 use Rattle.octets.proofs.ZeroLaws.{all_zero-append}
 
 pub zero-sum : (m a b : ℕ) → 0 < m → eqb (a * m + b) 0 ≡ (eqb a 0 && eqb b 0)
@@ -49,13 +51,11 @@ module _ (s : List ℕ) where
   pub zeros-add : (j k at : ℕ) → zeros (j + k) at ≡ (zeros j at && zeros k (at + j))
   zeros-add j k at = rw (take-add j k (drop at s), drop-drop j at s) (all_zero-append (take j (drop at s)) (take k (drop (at + j) s)))
 
-  pub zeros-words : (at a b c d : ℕ) → at + 32 ≤ length s → a ≡ be 8 s at → b ≡ be 8 s (at + 8) → c ≡ be 8 s (at + 16) → d ≡ be 8 s (at + 24) →
-      (eqb a 0 && (eqb b 0 && (eqb c 0 && eqb d 0))) ≡ zeros 32 at
-  zeros-words at a b c d h p q r u =
-      let x : at + 8 + 8 ≡ at + 16 = omega arith in
-      let y : at + 16 + 8 ≡ at + 24 = omega arith in
-      rw (p, q, r, u, be-zero 8 s at (omega arith), be-zero 8 s (at + 8) (omega arith), be-zero 8 s (at + 16) (omega arith), be-zero 8 s (at + 24) (omega arith))
-      (sym (zeros-add 8 24 at ∙ rw (zeros-add 8 16 (at + 8), x, zeros-add 8 8 (at + 16), y)))
+  pub words_turn : (i at any w : ℕ) → at + i * 8 + 8 ≤ length s → eqb any 0 ≡ zeros (i * 8) at → w ≡ be 8 s (at + i * 8)
+      → eqb (bit_or any w) 0 ≡ zeros ((i + 1) * 8) at
+  words_turn i at any w h e f =
+      let n : (i + 1) * 8 ≡ i * 8 + 8 = omega arith in
+      or-is-zero any w ∙ rw (e, f, be-zero 8 s (at + i * 8) h, n) (sym (zeros-add (i * 8) 8 at))
 
   module _ (k end at : ℕ) where
     -- k bytes more

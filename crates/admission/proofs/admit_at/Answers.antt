@@ -16,6 +16,7 @@ replace-requires c =
 
 pub returns : goal.returns
 returns c =
-    admitted-left c.requires.0 c.args.s (λ n. search rules) c.args.i c.args.x c.requires.1
-    c.admitted_answer.result c.args.next refl c.requires.2 c.requires.3 c.sampled-y.result c.replace.new.t c.requires.4
-    c.sampled-y.ensures c.admitted_answer.ensures c.replace.ensures
+    rw c.left.ensures
+    (admitted-left c.requires.0 c.args.s (λ n. search rules) c.args.i c.args.x c.requires.1
+    c.admitted_answer.result c.args.t.next refl c.requires.2 c.requires.3 c.sampled-y.result c.replace.new.t c.requires.4
+    c.sampled-y.ensures c.admitted_answer.ensures c.replace.ensures)

@@ -16,7 +16,7 @@ sampled-y-requires c =
 pub insert-requires : goal.insert-requires
 insert-requires c = (
   new_within c.requires.0 c.args.s c.args.i c.requires.1,
-  ready_place c.requires.0 c.args.count c.requires.3,
+  ready_place c.requires.0 c.args.t.count c.requires.3,
   c.sampled-y.ensures.few,
 )
 

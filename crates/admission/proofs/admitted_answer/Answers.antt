@@ -2,4 +2,4 @@
 use Rattle.admission.proofs.admitted_answer.Goals as goal
 
 pub returns : goal.returns
-returns c = rw (c.handed_samples-r.ensures, c.info_of-info.ensures)
+returns c = rw (c.handed_samples.ensures, c.info_of.ensures)

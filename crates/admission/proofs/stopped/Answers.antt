@@ -2,4 +2,4 @@
 use Rattle.admission.proofs.stopped.Goals as goal
 
 pub returns : goal.returns
-returns c = record { refusal = (λ e. rw (c.silent-r.ensures, e)); stop = (λ e. rw (c.silent-r.ensures, e)) }
+returns c = record { refusal = (λ e. rw (c.silent.ensures, e)); stop = (λ e. rw (c.silent.ensures, e)) }

@@ -1,12 +1,13 @@
 -- `boundary_reads::tell` meets its contract.
-use Rattle.boundary_reads.proofs.Telling.{told_short, told_whole}
+use Rattle.std.proofs.Common.{List, ℕ, refl, ap, ◌∙◌}
+use Rattle.boundary_reads.specs.ReadAnswers.{told_bytes, told}
+use Rattle.boundary_reads.proofs.Telling.{read_put}
 use Rattle.boundary_reads.proofs.tell.Goals as goal
 
-pub returns-then-answer-ne24 : goal.returns-then-answer-ne24
-returns-then-answer-ne24 c = told_short c.args.a c.args.answer.now c.if-answer-ne24.true
-
 pub returns : goal.returns
+unfolding told
 returns c =
     let a = c.args in
-    told_whole a.a a.answer.now c.write_bits.new.b c.write_values.new.b
-    c.if-answer-ne24.false c.write_bits.ensures c.write_values.ensures
+    c.tell_bytes.ensures
+    ∙ ap (λ (b : List ℕ). told_bytes a.a.number b a.answer.now)
+    (read_put a.a _ _ _ refl c.write_bits.ensures c.write_values.ensures)

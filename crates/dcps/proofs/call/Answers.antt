@@ -51,7 +51,7 @@ coded-requires c =
     let a = c.args in
     let n = rooms a.head.places (length a.pens.now) (length a.writers.now) (length a.lost.now)
     (sym c.room_ok.ensures ∙ c.if-not-room_ok.false) in
-    (n.pens, n.writers, n.lost, c.if-out-ne4096.false, refl, figure-few _ (sym c.figure_ok.ensures ∙ c.if-not-figure_ok.false))
+    record { few = figure-few _ (sym c.figure_ok.ensures ∙ c.if-not-figure_ok.false); pens = n.pens; writers = n.writers; lost = n.lost; out = c.if-out-ne4096.false }
 
 pub returns : goal.returns
 returns c =

@@ -7,19 +7,19 @@ use Rattle.model.specs.Calls.{call_of_code}
 use Rattle.call_codes.proofs.Codes.{unknown}
 use Rattle.call_laws.proofs.Chain.{refused-left, coded_2}
 use Rattle.dcps.proofs.coded.Goals as goal
-use Rattle.dcps.proofs.coded.Goals.{in_default-via-then-code-lt1, in_default-via-else-code-lt1+else-code-lt22+then-code-lt32, in_default-via-else-code-lt1+else-code-lt22+else-code-lt32+else-code-lt41+then-code-lt48, in_default-via-else-code-lt1+else-code-lt22+else-code-lt32+else-code-lt41+else-code-lt48+else-code-lt52}
+use Rattle.dcps.proofs.coded.Goals.{in_default-via-then-s-lt1, in_default-via-else-s-lt1+else-s-lt22+then-s-lt32, in_default-via-else-s-lt1+else-s-lt22+else-s-lt32+else-s-lt41+then-s-lt48, in_default-via-else-s-lt1+else-s-lt22+else-s-lt32+else-s-lt41+else-s-lt48+else-s-lt52}
 
 pub instances-requires : goal.instances-requires
 instances-requires c =
-    (c.requires.0, c.requires.1, c.requires.2, c.requires.3, omega arith, omega arith, c.requires.4, c.requires.5)
+    (c.requires, omega arith, omega arith)
 
 pub tracker-requires : goal.tracker-requires
 tracker-requires c =
-    (c.requires.0, c.requires.1, c.requires.2, c.requires.3, omega arith, omega arith, c.requires.4, c.requires.5)
+    (c.requires, omega arith, omega arith)
 
 pub joined-requires : goal.joined-requires
 joined-requires c =
-    (c.requires.0, c.requires.1, c.requires.2, c.requires.3, omega arith, omega arith, c.requires.4, c.requires.5)
+    (c.requires, omega arith, omega arith)
 
 pub returns-in-1-to-21 : goal.returns-in-1-to-21
 returns-in-1-to-21 c = c.instances.ensures
@@ -37,9 +37,9 @@ returns-in_default c =
     let l = lent_of a.head a.pens.now a.writers.now a.lost.now a.out.now in
     let none-such : call_of_code n ≡ none =
     elim c.in_default.branch [
-      | in_default-via-then-code-lt1 w ↦ unknown n (λ i j. absurd (omega arith)) (λ i j. absurd (omega arith)) (λ i j. absurd (omega arith))
-      | in_default-via-else-code-lt1+else-code-lt22+then-code-lt32 w ↦ unknown n (λ i j. absurd (omega arith)) (λ i j. absurd (omega arith)) (λ i j. absurd (omega arith))
-      | in_default-via-else-code-lt1+else-code-lt22+else-code-lt32+else-code-lt41+then-code-lt48 w ↦ unknown n (λ i j. absurd (omega arith)) (λ i j. absurd (omega arith)) (λ i j. absurd (omega arith))
-      | in_default-via-else-code-lt1+else-code-lt22+else-code-lt32+else-code-lt41+else-code-lt48+else-code-lt52 w ↦ unknown n (λ i j. absurd (omega arith)) (λ i j. absurd (omega arith)) (λ i j. absurd (omega arith))
+      | in_default-via-then-s-lt1 w ↦ unknown n (λ i j. absurd (omega arith)) (λ i j. absurd (omega arith)) (λ i j. absurd (omega arith))
+      | in_default-via-else-s-lt1+else-s-lt22+then-s-lt32 w ↦ unknown n (λ i j. absurd (omega arith)) (λ i j. absurd (omega arith)) (λ i j. absurd (omega arith))
+      | in_default-via-else-s-lt1+else-s-lt22+else-s-lt32+else-s-lt41+then-s-lt48 w ↦ unknown n (λ i j. absurd (omega arith)) (λ i j. absurd (omega arith)) (λ i j. absurd (omega arith))
+      | in_default-via-else-s-lt1+else-s-lt22+else-s-lt32+else-s-lt41+else-s-lt48+else-s-lt52 w ↦ unknown n (λ i j. absurd (omega arith)) (λ i j. absurd (omega arith)) (λ i j. absurd (omega arith))
     ] in
-    refused-left 2 _ a.head a.pens.now a.writers.now a.lost.now a.out.now c.refused.ensures ∙ coded_2 a.places a.s l none-such
+    refused-left 2 _ a.head a.pens.now a.writers.now a.lost.now a.out.now c.refused.ensures ∙ coded_2 a.head.places a.s l none-such

@@ -1,11 +1,7 @@
--- `instance_at` meets its contract: the part that is lent is the record.
+-- `instance_at` meets its contract.
 use mathlib.Core.Path.{ap, ◌∙◌}
-use Prim.Native.Nat.{◌*◌}
 use Rattle.model.specs.InstanceRecord.{instance_of}
-use Rattle.instance_decoding.proofs.Rows.{lent-part}
 use Rattle.instance_decoding.proofs.instance_at.Goals as goal
 
 pub returns : goal.returns
-returns c =
-    let a = c.args in
-    c.read_instance.ensures ∙ ap instance_of (lent-part (a.i * 512) 512 a.t.now)
+returns c = c.read_instance.ensures ∙ ap instance_of c.record_at.ensures

@@ -1,24 +1,21 @@
-use mathlib.Core.Path.{◌≡◌, refl, sym, ◌∙◌}
-use native.Mathlib.Omega.{arith}
-use lib.ListN.{take, drop, length-set}
-use Rattle.model.specs.Guids.{guids_in}
-use Rattle.instance_decoding.proofs.Rows.{guids_turn}
-use lib.Seq.{take_all}
-use Rattle.model.specs.Layout.{read_rows}
+use Rattle.std.proofs.Common.{refl, ◌∙◌, arith, length-set, get_or-set_other, get_or-set_same, below_more}
+use Rattle.model.specs.Guids.{nil}
+use Rattle.instance_decoding.proofs.Rows.{guids_are}
 use Rattle.instance_decoding.proofs.read_guids.Goals as goal
 
 pub loop-i-init : goal.loop-i-init
-unfolding read_rows
-loop-i-init c = (omega arith, refl, refl)
+loop-i-init c = (refl, (λ k l. absurd (omega arith)))
 
 pub loop-i-preserved : goal.loop-i-preserved
 loop-i-preserved c =
     let l = c.loop-i in
-    (omega arith, simp length-set l.invariant.1, guids_turn l.r c.args.s.now l.i c.guid_at-g.result (omega arith) l.invariant.2 c.guid_at-g.ensures)
+    let g = c.guid_at.result in (
+      simp length-set l.invariant.0,
+      below_more _ _ (λ k h. get_or-set_other l.guids l.i k g nil (λ e. omega arith) ∙ l.invariant.1 k h)
+          (get_or-set_same l.guids l.i g nil (omega arith) ∙ c.guid_at.ensures),
+    )
 
 pub returns : goal.returns
 returns c =
     let l = c.loop-i in
-    let q : l.i ≡ 16 = omega arith in
-    let e : take 16 l.r ≡ guids_in 16 (drop 256 c.args.s.now) = rw q at l.invariant.2 in
-    sym (take_all 16 l.r (omega arith)) ∙ e
+    guids_are l.guids c.args.s.now l.invariant.0 (λ i m. l.invariant.1 i (omega arith))

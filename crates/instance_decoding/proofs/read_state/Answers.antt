@@ -2,4 +2,4 @@
 use Rattle.instance_decoding.proofs.read_state.Goals as goal
 
 pub returns : goal.returns
-returns c = rw (c.read_writers-writers.ensures, c.read_holder-holder.ensures, c.read_owner-owner.ensures, c.read_times-times.ensures, c.read_life-life.ensures)
+returns c = rw (c.read_writers.ensures, c.read_holder.ensures, c.read_owner.ensures, c.read_times.ensures, c.read_life.ensures)

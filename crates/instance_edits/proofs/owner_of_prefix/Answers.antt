@@ -1,23 +1,14 @@
 -- `owner_of_prefix` meets its contract.
-use Prim.Native.Nat.{ℕ, ◌/◌, ◌%◌, ◌^◌}
+use Prim.Native.Nat.{ℕ, ◌/◌, ◌%◌}
 use mathlib.Core.Path.{sym, ap, ◌∙◌}
-use native.Mathlib.Omega.{arith}
 use lib.Dec.{eqb}
-use Rattle.instance_edits.proofs.RecordReads.{participant_high, participant_low, participant_same}
-use borrow.Author.Rules.{rules}
+use Rattle.instance_edits.proofs.RecordReads.{prefix-other, prefix-there}
 use Rattle.instance_edits.proofs.owner_of_prefix.Goals as goal
 
-pub returns-then-get_u64-g : goal.returns-then-get_u64-g
-returns-then-get_u64-g c =
-    participant_high c.args.s.now c.args.g (λ j. (c.type_inv.s j).fits) (search rules) (λ e. c.if-get_u64-g.true (c.get_u64.ensures ∙ e))
-
-pub returns-then-get_u64-g-2 : goal.returns-then-get_u64-g-2
-returns-then-get_u64-g-2 c =
-    participant_low c.args.s.now c.args.g (sym c.get_u64.ensures ∙ omega arith)
-    (λ e. c.if-get_u64-g-2.true (ap (λ (n : ℕ). n / 2 ^ 32) c.get_u64-2.ensures ∙ e))
-
-pub returns : goal.returns
-returns c =
+pub returns-then-same_prefix : goal.returns-then-same_prefix
+returns-then-same_prefix c =
     ap (λ (f : ℕ). eqb (f / 128 % 2) 1) c.get_u16.ensures
-    ∙ participant_same c.args.s.now c.args.g (sym c.get_u64.ensures ∙ omega arith)
-    (ap (λ (n : ℕ). n / 2 ^ 32) (sym c.get_u64-2.ensures) ∙ omega arith)
+    ∙ prefix-there c.args.s.now c.args.g c.guid_at.result c.guid_at.ensures (sym c.same_prefix.ensures ∙ c.if-same_prefix.true)
+
+pub returns-else-same_prefix : goal.returns-else-same_prefix
+returns-else-same_prefix c = c.if-same_prefix.false ∙ prefix-other c.args.s.now c.args.g c.guid_at.result c.guid_at.ensures (sym c.same_prefix.ensures ∙ c.if-same_prefix.false)

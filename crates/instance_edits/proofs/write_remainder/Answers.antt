@@ -1,8 +1,8 @@
 -- `write_remainder` meets its contract.
+use mathlib.Core.Logic.{⊎_elim}
 use native.Mathlib.Omega.{arith}
 use Rattle.instance_edits.proofs.RecordEdits.{settled-left, settled-less, settled_same}
 use Rattle.instance_edits.proofs.write_remainder.Goals as goal
-use Rattle.instance_edits.proofs.write_remainder.Goals.{then-k-eq0+else-f-lt16384, else-k-eq0}
 
 pub returns-then-k-n : goal.returns-then-k-n
 returns-then-k-n c = let a = c.args in settled_same a.n a.k a.at a.s.now a.s.now 0 c.if-k-n.true
@@ -18,5 +18,5 @@ returns c =
     let a = c.args in
     settled-less a.n a.k a.at a.s.now c.put_u16.new.s c.get_u16-f.result
     (omega arith) c.get_u16-f.ensures
-    (λ z. elim c.if-k-eq0.branch [ then-k-eq0+else-f-lt16384 w ↦ omega (arith, w.if-f-lt16384.false) | else-k-eq0 w ↦ absurd (w.if-k-eq0.false z) ])
+    (λ z. ⊎_elim (λ b. b.1) (λ n. absurd (n z)) c.else-k-eq0.either)
     c.put_u16.ensures

@@ -15,9 +15,9 @@ returns-then-is_writerless c =
     c.is_writerless.ensures ∙ c.if-is_writerless.true in
     rw (t, c.sampled_at.ensures, c.writerless.ensures, c.without-rest.ensures)
 
-pub returns : goal.returns
+pub returns-else-is_writerless : goal.returns-else-is_writerless
 unfolding writer_unregistered
-returns c =
+returns-else-is_writerless c =
     let t = sym (without-left c.args.g c.args.x c.without-rest.result c.without-rest.ensures) ∙ sym c.is_writerless.ensures
     ∙ c.if-is_writerless.false in
-    rw t (c.sampled_at-2.ensures ∙ ap (λ (z : InstanceState). sampled_at c.args.at z) c.without-rest.ensures)
+    rw t (c.sampled_at-else-is_writerless.ensures ∙ ap (λ (z : InstanceState). sampled_at c.args.at z) c.without-rest.ensures)

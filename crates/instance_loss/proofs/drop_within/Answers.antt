@@ -7,4 +7,5 @@ use Rattle.instance_loss.proofs.drop_within.Goals as goal
 
 pub returns-then-set_apart : goal.returns-then-set_apart
 returns-then-set_apart c =
-    apart_stays c.args.w (gones_in c.args.gone.now) c.args.at c.args.s.now _ _ (search rules) c.requires.0 c.requires.2 c.set_apart.ensures c.if-set_apart.true refl
+    let l = c.args.loss.now in
+    apart_stays l.span (gones_in l.gone.list.now) l.at c.args.s.now _ _ (search rules) c.requires l.within c.set_apart.ensures c.if-set_apart.true refl

@@ -1,5 +1,5 @@
--- The pass. The measure is how many are left.
-use Prim.Native.Nat.{◌-◌, ◌≤◌}
+-- The pass.
+use Prim.Native.Nat.{◌≤◌}
 use mathlib.Core.Path.{◌≡◌, refl}
 use lib.ListN.{length}
 use Rattle.instance_pass.specs.Steps.{cleared_as, owner_act}
@@ -7,7 +7,4 @@ use Rattle.instance_pass.proofs.OwnerLaws.{Changing}
 use Rattle.instance_pass.proofs.clear_owners.Given as goal
 
 abbrev pub invariant-loop-i : goal.invariant-loop-i
-invariant-loop-i l = (l.n ≤ l.i) × (l.i ≤ l.count) × (length l.pens ≡ length l.initial.pens) × Changing (owner_act l.prefix l.g) (cleared_as l.prefix l.g) (λ x. refl) (λ x. refl) l.count l.initial.pens l.i l.n l.pens
-
-abbrev pub decreases-loop-i : goal.decreases-loop-i
-decreases-loop-i l = l.count - l.i
+invariant-loop-i l = (l.n ≤ l.i) × (length l.pens ≡ length l.initial.pens) × Changing (owner_act l.prefix l.g) (cleared_as l.prefix l.g) (λ x. refl) (λ x. refl) l.count l.initial.pens l.i l.n l.pens

@@ -20,5 +20,5 @@ returns c =
     let fits : FitsGuid g = record { high = omega (arith, c.well_formed.1.1.1); low = omega (arith, c.well_formed.1.1.1) } in
     let b = c.put_guid in
     let r = c.lose_every in
-    drop-passed a.count a.pens.now a.out.now r.new.pens r.new.out r.result c.requires.0 a.s (gones_in b.new.s) c.if_present.result
-    (one-gone g b.new.s fits b.ensures) c.if_present.ensures r.ensures
+    drop-passed a.count a.pens.now a.out.now r.new.pens r.new.out r.result c.requires.0 a.s (gones_in b.new.s) c.if_present-at.result
+    (one-gone g b.new.s fits b.ensures) c.if_present-at.ensures r.ensures

@@ -2,7 +2,7 @@
 use mathlib.Core.Path.{ap, ◌∙◌}
 use native.Mathlib.Omega.{arith}
 use borrow.Author.Rules.{rules}
-use Rattle.model.specs.declared.Report.{Report}
+use Rattle.model.specs.declared.Rule.{Rule}
 use Rattle.instance_pass.specs.EveryCalls.{answer_as}
 use Rattle.instance_pass.proofs.CallLaws.{every-few, every-left}
 use Rattle.instance_pass.proofs.EditLaws.{table_editable}
@@ -13,8 +13,8 @@ call_pass-tally-requires c =
     let a = c.args in
     (c.requires.2, table_editable a.places a.count a.next.0 a.pens.now c.requires.0, c.requires.1)
 
-pub answered-a-requires : goal.answered-a-requires
-answered-a-requires c =
+pub answered-requires : goal.answered-requires
+answered-requires c =
     let a = c.args in
     let r = c.call_pass-tally in
     let w = every-few a.places a.count a.next.0 a.c a.s a.pens.now a.out.now r.new.pens r.new.out r.result c.requires.0 r.ensures in
@@ -31,5 +31,5 @@ pub returns : goal.returns
 returns c =
     let a = c.args in
     let r = c.call_pass-tally in
-    every-left a.places a.count a.c a.s a.next a.pens.now a.out.now r.new.pens r.new.out r.result c.answered-a.result c.requires.2
-    (λ j. search rules) c.requires.0 r.ensures (c.answered-a.ensures ∙ ap (λ (k : Report). answer_as k r.result.listed r.result.counted) c.report_of-k.ensures)
+    every-left a.places a.count a.c a.s a.next a.pens.now a.out.now r.new.pens r.new.out r.result c.answered.result c.requires.2
+    (λ j. search rules) c.requires.0 r.ensures (c.answered.ensures ∙ ap (λ (k : Rule). answer_as k.reports r.result.listed r.result.counted) c.rule_of.ensures)

@@ -8,11 +8,11 @@ use Rattle.instance_pass.proofs.EditLaws.{formed-part}
 use Rattle.instance_pass.proofs.lose_at.Goals as goal
 
 pub lose-told-requires : goal.lose-told-requires
-lose-told-requires c =
-    (formed-part c.args.pens.now c.args.i c.requires.1, c.requires.2, c.requires.3)
+lose-told-requires c = formed-part c.args.pens.now c.args.i c.requires.1
 
 pub returns : goal.returns
 returns c =
     let a = c.args in
-    lost-one a.clears (gones_in a.gone.now) a.at a.i a.pens.now a.out.now _ c.note.new.out _ c.lose-told.new.s a.tally c.with_told.result
+    let w = a.loss.now in
+    lost-one w.clears (gones_in w.gone.list.now) w.at a.i a.pens.now a.out.now _ c.note.new.out _ c.lose-told.new.s a.tally c.with_told.result
     c.lose-told.result c.handle_at-h.result c.requires.0.kept (lent-part (a.i * 512) 512 a.pens.now) c.handle_at-h.ensures refl c.lose-told.ensures c.note.ensures c.with_told.ensures

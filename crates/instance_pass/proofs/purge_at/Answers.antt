@@ -5,14 +5,12 @@ use Rattle.instance_pass.proofs.purge_at.Goals as goal
 
 pub returns-then-purged_in : goal.returns-then-purged_in
 returns-then-purged_in c =
-    λ s d.
     let a = c.args in
-    purge_one a.i a.k a.pens.now _ (sym (purged-part a.i a.pens.now s c.purged_in.result (c.purged_in.ensures s d)) ∙ c.if-purged_in.true)
+    purge_one a.i a.k a.pens.now _ (sym (purged-part a.i a.pens.now a.s.now c.purged_in.result c.purged_in.ensures) ∙ c.if-purged_in.true)
 
 pub returns : goal.returns
 returns c =
-    λ s d.
     let a = c.args in
     let p = c.purged_in in
-    keep_one a.i a.k a.pens.now _ c.close_up.new.pens (sym (purged-part a.i a.pens.now s p.result (p.ensures s d)) ∙ c.if-purged_in.false)
+    keep_one a.i a.k a.pens.now _ c.close_up.new.pens (sym (purged-part a.i a.pens.now a.s.now p.result p.ensures) ∙ c.if-purged_in.false)
     c.close_up.ensures

@@ -3,21 +3,14 @@ use Rattle.instance_pass.proofs.PurgeLaws.{alive-stays, disposed_goes, writerles
 use Rattle.instance_pass.proofs.purged_in.Goals as goal
 
 pub returns-then-f-lt16384 : goal.returns-then-f-lt16384
-returns-then-f-lt16384 c =
-    λ s d.
-    let a = c.args in
-    alive-stays a.r.now c.get_u16-f.result c.get_u16-f.ensures s a.at a.a a.b d c.if-f-lt16384.true
+returns-then-f-lt16384 c = alive-stays c.args.r.now c.get_u16-f.result c.get_u16-f.ensures c.args.s.now c.if-f-lt16384.true
 
 pub returns-then-f-lt32768 : goal.returns-then-f-lt32768
 returns-then-f-lt32768 c =
-    λ s d.
-    let a = c.args in
     let f = c.get_u16-f in
-    disposed_goes a.r.now f.result f.ensures s a.at a.a a.b d c.purge_due.result c.read_time.result c.read_time.ensures c.purge_due.ensures c.if-f-lt16384.false c.if-f-lt32768.true
+    disposed_goes c.args.r.now f.result f.ensures c.args.s.now c.purge_due.result c.read_time-since.result c.read_time-since.ensures c.purge_due.ensures c.if-f-lt16384.false c.if-f-lt32768.true
 
 pub returns : goal.returns
 returns c =
-    λ s d.
-    let a = c.args in
     let f = c.get_u16-f in
-    writerless_goes a.r.now f.result f.ensures s a.at a.a a.b d c.purge_due-2.result c.read_time-2.result c.read_time-2.ensures c.purge_due-2.ensures c.if-f-lt32768.false
+    writerless_goes c.args.r.now f.result f.ensures c.args.s.now c.purge_due-2.result c.read_time-since-2.result c.read_time-since-2.ensures c.purge_due-2.ensures c.if-f-lt32768.false

@@ -10,7 +10,7 @@ loop-i-init c =
     let a = c.args in
     let g = a.s.guid in
     let strength = a.s.second in
-    (omega arith, refl, changing_start (strength_act g strength) (strength_updated g strength) (λ x. refl) (λ x. refl) a.count a.pens.now)
+    (refl, changing_start (strength_act g strength) (strength_updated g strength) (λ x. refl) (λ x. refl) a.count a.pens.now)
 
 pub loop-i-preserved : goal.loop-i-preserved
 loop-i-preserved c =
@@ -20,8 +20,7 @@ loop-i-preserved c =
     let l = c.loop-i in
     let r = c.strength_at in (
       omega arith,
-      omega arith,
-      changing_turn (strength_act g strength) (strength_updated g strength) (λ x. refl) (λ x. refl) a.count a.pens.now l.i 0 0 l.pens r.new.pens (λ x. omega arith) c.requires.0 c.requires.1 (omega arith) l.invariant.2 (omega arith) r.ensures (omega arith),
+      changing_turn (strength_act g strength) (strength_updated g strength) (λ x. refl) (λ x. refl) a.count a.pens.now l.i 0 0 l.pens r.new.pens (λ x. omega arith) c.requires.0 c.requires.1 (omega arith) l.invariant.1 (omega arith) r.ensures (omega arith),
     )
 
 pub returns : goal.returns
@@ -30,4 +29,4 @@ returns c =
     let g = a.s.guid in
     let strength = a.s.second in
     let l = c.loop-i in
-    changing_end (strength_act g strength) (strength_updated g strength) (λ x. refl) (λ x. refl) a.count a.pens.now l.i 0 l.pens (omega arith) l.invariant.0 l.invariant.2
+    changing_end (strength_act g strength) (strength_updated g strength) (λ x. refl) (λ x. refl) a.count a.pens.now l.i 0 l.pens (omega arith) (omega arith) l.invariant.1

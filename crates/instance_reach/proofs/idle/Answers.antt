@@ -2,4 +2,4 @@
 use Rattle.instance_reach.proofs.idle.Goals as goal
 
 pub returns : goal.returns
-returns c = λ s. rw (c.unanswered-a.ensures s)
+returns c = λ s. rw (c.left.ensures, c.unanswered.ensures s)

@@ -2,4 +2,4 @@
 use Rattle.instance_reach.proofs.stopped.Goals as goal
 
 pub returns : goal.returns
-returns c = rw c.refused_with-a.ensures
+returns c = rw (c.left.ensures, c.refused_with.ensures)

@@ -17,28 +17,28 @@ returns-then-refusal_of-ne0-clause-force c =
 pub holder_at-requires : goal.holder_at-requires
 holder_at-requires c =
     let r = sym c.refusal_of.ensures ∙ c.if-refusal_of-ne0.false in
-    found_room _ _ r _ _ _ c.locate.ensures c.in-At.is
+    found_room _ _ r _ _ _ c.locate.ensures c.in-Ok.is
 
-pub returns-in-At-clause-place : goal.returns-in-At-clause-place
-returns-in-At-clause-place c =
+pub returns-in-Ok-clause-place : goal.returns-in-Ok-clause-place
+returns-in-Ok-clause-place c =
     let r = sym c.refusal_of.ensures ∙ c.if-refusal_of-ne0.false in
     rw (← c.places_in-places.ensures.places)
-    (force_at _ _ _ _ (place_here _ _ _ r _ _ c.locate.ensures c.in-At.is _ c.holder_at.ensures)).0
+    (force_at _ _ _ _ (place_here _ _ _ r _ _ c.locate.ensures c.in-Ok.is _ c.holder_at.ensures)).0
 
-pub returns-in-At-clause-force : goal.returns-in-At-clause-force
-returns-in-At-clause-force c =
+pub returns-in-Ok-clause-force : goal.returns-in-Ok-clause-force
+returns-in-Ok-clause-force c =
     let r = sym c.refusal_of.ensures ∙ c.if-refusal_of-ne0.false in
     rw (← c.places_in-places.ensures.places)
-    (force_at _ _ _ _ (place_here _ _ _ r _ _ c.locate.ensures c.in-At.is _ c.holder_at.ensures)).1
+    (force_at _ _ _ _ (place_here _ _ _ r _ _ c.locate.ensures c.in-Ok.is _ c.holder_at.ensures)).1
 
-pub returns-in-Missing-clause-place : goal.returns-in-Missing-clause-place
-returns-in-Missing-clause-place c =
+pub returns-in-Err-clause-place : goal.returns-in-Err-clause-place
+returns-in-Err-clause-place c =
     let r = sym c.refusal_of.ensures ∙ c.if-refusal_of-ne0.false in
     rw (← c.places_in-places.ensures.places)
-    (force_at _ _ _ _ (c.nowhere-in-Missing.ensures ∙ place_none _ _ _ r (found_none _ _ r _ _ _ c.locate.ensures c.in-Missing.is))).0
+    (force_at _ _ _ _ (c.nowhere-in-Err.ensures ∙ place_none _ _ _ r (found_none _ _ r _ _ _ c.locate.ensures c.in-Err.is))).0
 
-pub returns-in-Missing-clause-force : goal.returns-in-Missing-clause-force
-returns-in-Missing-clause-force c =
+pub returns-in-Err-clause-force : goal.returns-in-Err-clause-force
+returns-in-Err-clause-force c =
     let r = sym c.refusal_of.ensures ∙ c.if-refusal_of-ne0.false in
     rw (← c.places_in-places.ensures.places)
-    (force_at _ _ _ _ (c.nowhere-in-Missing.ensures ∙ place_none _ _ _ r (found_none _ _ r _ _ _ c.locate.ensures c.in-Missing.is))).1
+    (force_at _ _ _ _ (c.nowhere-in-Err.ensures ∙ place_none _ _ _ r (found_none _ _ r _ _ _ c.locate.ensures c.in-Err.is))).1

@@ -7,13 +7,13 @@ use Rattle.instance_reads.proofs.times_of.Goals as goal
 
 pub instance_at-x-requires : goal.instance_at-x-requires
 instance_at-x-requires c =
-    found_room _ _ c.requires.1 _ _ _ c.locate.ensures c.in-At.is
+    found_room _ _ c.requires.1 _ _ _ c.locate.ensures c.in-Ok.is
 
-pub returns-in-At : goal.returns-in-At
-returns-in-At c =
+pub returns-in-Ok : goal.returns-in-Ok
+returns-in-Ok c =
     times-here _ c.instance_at-x.result
-    (found_here _ _ c.requires.1 _ _ _ c.locate.ensures c.in-At.is ∙ ap some (sym c.instance_at-x.ensures))
+    (found_here _ _ c.requires.1 _ _ _ c.locate.ensures c.in-Ok.is ∙ ap some (sym c.instance_at-x.ensures))
 
-pub returns-in-Missing : goal.returns-in-Missing
-returns-in-Missing c =
-    times_none _ _ c.no_time-n.ensures (found_none _ _ c.requires.1 _ _ _ c.locate.ensures c.in-Missing.is)
+pub returns-in-Err : goal.returns-in-Err
+returns-in-Err c =
+    times_none _ _ c.no_time-n.ensures (found_none _ _ c.requires.1 _ _ _ c.locate.ensures c.in-Err.is)

@@ -2,10 +2,10 @@ use Rattle.std.proofs.Common.{◌≡◌, ltb, leb, sym, ◌∙◌, arith, leb-tr
 use Rattle.model.proofs.Tests.{both}
 use Rattle.instance_table.proofs.Handles.{met_start, met_tells, met_turn, met_end, low_end, high_end, used-end}
 use Rattle.instance_table.proofs.handles_ok.Goals as goal
-use Rattle.instance_table.proofs.handles_ok.Goals.{then-met-r-ne0+else-scanned-count+else-not-is_unused, else-met-r-ne0}
+use Rattle.instance_table.proofs.handles_ok.Goals.{then-met-r+else-scanned-count+else-not-is_unused, else-met-r}
 
 pub loop-i-init : goal.loop-i-init
-loop-i-init c = (omega arith, met_start c.args.t.now c.args.next)
+loop-i-init c = met_start c.args.t.now c.args.next
 
 pub returns-then-h-eq0 : goal.returns-then-h-eq0
 returns-then-h-eq0 c =
@@ -38,18 +38,16 @@ returns-then-not-is_unused c =
 pub loop-i-preserved : goal.loop-i-preserved
 loop-i-preserved c =
     let l = c.loop-i in
-    let n = c.number_at-h in (
-      omega arith,
-      met_turn l.invariant.1 n.result n.ensures c.if-h-eq0.false c.if-next-h.false
-          (elim c.if-met-r-ne0.branch [
-            | then-met-r-ne0+else-scanned-count+else-not-is_unused w ↦ sym w.is_unused.ensures ∙ w.if-not-is_unused.false
-            | else-met-r-ne0 w ↦ met_tells l.invariant.1 n.result w.if-met-r-ne0.false
-          ]),
-    )
+    let n = c.number_at-h in
+    met_turn l.invariant n.result n.ensures c.if-h-eq0.false c.if-next-h.false
+    (elim c.if-met-r.branch [
+      | then-met-r+else-scanned-count+else-not-is_unused w ↦ sym w.is_unused.ensures ∙ w.if-not-is_unused.false
+      | else-met-r w ↦ met_tells l.invariant n.result w.if-met-r.false
+    ])
 
 pub returns : goal.returns
 returns c =
     let a = c.args in
     let l = c.loop-i in
     let e : l.i ≡ a.count = omega arith in
-    met_end a.t.now a.next a.count l.met (rw e at l.invariant.1)
+    met_end a.t.now a.next a.count l.met (rw e at l.invariant)

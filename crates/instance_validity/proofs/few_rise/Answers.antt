@@ -1,27 +1,20 @@
-use mathlib.Core.Path.{refl, sym, ◌∙◌}
+use mathlib.Core.Path.{sym, ◌∙◌}
 use native.Mathlib.Omega.{arith}
-use borrow.Author.Tests.{not-true, not-false}
 use Rattle.instance_validity.proofs.Rise.{rise_few, rise_next, rise_stop, rise_turn}
 use Rattle.instance_validity.proofs.few_rise.Goals as goal
 
-pub loop-left-init : goal.loop-left-init
-loop-left-init c = (omega arith, refl)
-
-pub next_beside-b-requires : goal.next_beside-b-requires
-next_beside-b-requires c = (omega arith, c.get_u64.ensures)
-
-pub returns-then-not-b : goal.returns-then-not-b
-returns-then-not-b c =
+pub returns-in_default : goal.returns-in_default
+returns-in_default c =
     let a = c.args in
     let n = c.loop-left in
-    sym (n.invariant.1 ∙ rise_stop a.s.now 1 n.left n.at (omega arith) (rise_next a.s.now n.at ∙ sym c.next_beside-b.ensures.0 ∙ not-true _ c.if-not-b.true))
+    sym (n.invariant.1 ∙ rise_stop a.s.now 1 n.left n.at (omega arith) (rise_next a.s.now n.at ∙ c.in_default.ensures))
 
 pub loop-left-preserved : goal.loop-left-preserved
 loop-left-preserved c =
     let a = c.args in
     let n = c.loop-left in (
       omega arith,
-      n.invariant.1 ∙ rise_turn a.s.now 1 n.left n.at (omega arith) (rise_next a.s.now n.at ∙ sym c.next_beside-b.ensures.0 ∙ not-false _ c.if-not-b.false),
+      n.invariant.1 ∙ rise_turn a.s.now 1 n.left n.at (omega arith) (rise_next a.s.now n.at ∙ c.in-Some.ensures.0),
     )
 
 pub returns : goal.returns

@@ -1,6 +1,7 @@
 -- `set_ok` meets its contract: the test of the length decides what is asked.
 use Prim.Native.Nat.{◌%◌}
 use mathlib.Core.Path.{sym, ◌∙◌}
+use borrow.Author.Rules.{rules}
 use lib.ListN.{drop}
 use borrow.Author.Tests.{lt-leb, le-leb}
 use Rattle.model.specs.Guids.{guid_of}
@@ -28,7 +29,7 @@ returns c =
     rw (
       le-leb _ _ few,
       take_read guid_of 16 (a.f % 32) 16 (drop 256 a.s.now) few,
-      set_tail a.s.now (a.f % 32) c.requires few,
+      set_tail a.s.now (a.f % 32) (search rules) few,
       sym c.set_rises.ensures ∙ c.if-not-set_rises.false,
       c.zero_from.ensures,
     )

@@ -6,30 +6,30 @@ use Rattle.joined_calls.proofs.joined_turn.Goals as goal
 pub admit-requires : goal.admit-requires
 admit-requires c =
     let a = c.args in
-    let p = entered_parts a.places (lent_of a.head a.pens.now a.writers.now a.lost.now a.out.now) c.requires.1 in
+    let p = entered_parts a.head.places (lent_of a.head a.pens.now a.writers.now a.lost.now a.out.now) c.requires.1 in
     record { few = c.requires.0; size = c.requires.1.pens; formed = p.pens }
 
 pub lapse-requires : goal.lapse-requires
 lapse-requires c =
     let a = c.args in
     let l = lent_of a.head a.pens.now a.writers.now a.lost.now a.out.now in (
-      entered_held a.places l c.requires.1,
-      entered_losable a.places l c.requires.1 c.requires.0,
+      entered_held a.head.places l c.requires.1,
+      entered_losable a.head.places l c.requires.1 c.requires.0,
       c.requires.1.lost,
-      (entered_parts a.places l c.requires.1).lost,
+      (entered_parts a.head.places l c.requires.1).lost,
     )
 
 pub leave-requires : goal.leave-requires
 leave-requires c =
     let a = c.args in
     let l = lent_of a.head a.pens.now a.writers.now a.lost.now a.out.now in
-    (entered_held a.places l c.requires.1, entered_losable a.places l c.requires.1 c.requires.0)
+    (entered_held a.head.places l c.requires.1, entered_losable a.head.places l c.requires.1 c.requires.0)
 
 pub leave-requires-in-Depart : goal.leave-requires-in-Depart
 leave-requires-in-Depart c =
     let a = c.args in
     let l = lent_of a.head a.pens.now a.writers.now a.lost.now a.out.now in
-    (entered_held a.places l c.requires.1, entered_losable a.places l c.requires.1 c.requires.0)
+    (entered_held a.head.places l c.requires.1, entered_losable a.head.places l c.requires.1 c.requires.0)
 
 pub returns-in-Admit : goal.returns-in-Admit
 returns-in-Admit c =
@@ -39,14 +39,14 @@ returns-in-Admit c =
 pub returns-in-Lapse : goal.returns-in-Lapse
 returns-in-Lapse c =
     let a = c.args in
-    rw c.in-Lapse.is (c.lapse.ensures a.places c.requires.1)
+    rw c.in-Lapse.is (c.lapse.ensures a.head.places c.requires.1)
 
 pub returns-in-Part : goal.returns-in-Part
 returns-in-Part c =
     let a = c.args in
-    rw c.in-Part.is (c.leave.ensures a.places a.lost.now c.requires.1)
+    rw c.in-Part.is (c.leave.ensures a.head.places a.lost.now c.requires.1)
 
 pub returns-in-Depart : goal.returns-in-Depart
 returns-in-Depart c =
     let a = c.args in
-    rw c.in-Depart.is (c.leave-in-Depart.ensures a.places a.lost.now c.requires.1)
+    rw c.in-Depart.is (c.leave-in-Depart.ensures a.head.places a.lost.now c.requires.1)

@@ -2,4 +2,4 @@
 use Rattle.joined_calls.proofs.with_list.Goals as goal
 
 pub returns : goal.returns
-returns c = rw c.saying_due-r.ensures
+returns c = rw c.saying_due.ensures

@@ -1,10 +1,7 @@
 -- `md5::words` meets its contract: after j turns, j words.
-use Rattle.std.proofs.Common.{◌≡◌, ◌-◌, ◌≤◌, length, take}
+use Rattle.std.proofs.Common.{◌≡◌, length, take}
 use Rattle.md5_digest.specs.Md5.{words}
 use Rattle.md5_digest.proofs.words.Given as goal
 
 abbrev pub invariant-loop-j : goal.invariant-loop-j
-invariant-loop-j l = (l.j ≤ 16) × (length l.x ≡ 16) × (take l.j l.x ≡ words l.j l.bytes l.at)
-
-abbrev pub decreases-loop-j : goal.decreases-loop-j
-decreases-loop-j l = 16 - l.j
+invariant-loop-j l = (length l.x ≡ 16) × (take l.j l.x ≡ words l.j l.bytes l.at)

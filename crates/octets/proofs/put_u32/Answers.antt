@@ -1,9 +1,11 @@
--- `put_u32` meets its contract: what is swapped here is swapped back as it is written.
+-- `put_u32` meets its contract: what std gives is written.
+use mathlib.Core.Path.{◌∙◌}
+use Prim.Native.Nat.{◌+◌, ◌-◌}
 use native.Mathlib.Omega.{arith}
-use Rattle.octets.proofs.SwapLaws.{back_4}
+use Rattle.octets.proofs.Bytes.{write}
 use Rattle.octets.proofs.put_u32.Goals as goal
 
 pub returns : goal.returns
 returns c =
     let a = c.args in
-    rw (c.put_low_4.ensures, c.swapped_4.ensures, back_4 a.v (omega arith))
+    write 4 a.s.now c.copy_from_slice.new.self a.at (a.at + 4 - a.at) a.v (omega arith) (omega arith) (c.copy_from_slice.ensures.after ∙ c.to_be_bytes.ensures)

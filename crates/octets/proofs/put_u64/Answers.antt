@@ -1,9 +1,11 @@
--- `put_u64` meets its contract: what is swapped here is swapped back as it is written.
+-- `put_u64` meets its contract: what std gives is written.
+use mathlib.Core.Path.{◌∙◌}
+use Prim.Native.Nat.{◌+◌, ◌-◌}
 use native.Mathlib.Omega.{arith}
-use Rattle.octets.proofs.SwapLaws.{back_8}
+use Rattle.octets.proofs.Bytes.{write}
 use Rattle.octets.proofs.put_u64.Goals as goal
 
 pub returns : goal.returns
 returns c =
     let a = c.args in
-    rw (c.put_low_8.ensures, c.swapped_8.ensures, back_8 a.v (omega arith))
+    write 8 a.s.now c.copy_from_slice.new.self a.at (a.at + 8 - a.at) a.v (omega arith) (omega arith) (c.copy_from_slice.ensures.after ∙ c.to_be_bytes.ensures)

@@ -1,14 +1,10 @@
 -- `zero_between` meets its contract: the bytes passed and the bytes left are all 0 where the whole part is.
-use Prim.Native.Nat.{◌-◌, ◌≤◌}
 use mathlib.Core.Path.{◌≡◌}
 use mathlib.Core.Bool.{◌&&◌}
 use lib.Dec.{eqb}
-use lib.ListN.{take, drop}
+use lib.ListN.{drop}
 use Rattle.octets.specs.Zeros.{all_zero}
 use Rattle.octets.proofs.zero_between.Given as goal
 
-abbrev pub invariant-loop-i : goal.invariant-loop-i
-invariant-loop-i l = (l.i ≤ l.end) × ((eqb l.acc 0 && all_zero (take (l.end - l.i) (drop l.i l.b))) ≡ all_zero (take (l.end - l.from) (drop l.from l.b)))
-
-abbrev pub decreases-loop-i : goal.decreases-loop-i
-decreases-loop-i l = l.end - l.i
+abbrev pub invariant-loop-x : goal.invariant-loop-x
+invariant-loop-x l = (eqb l.acc 0 && all_zero (drop l.x-index l.part)) ≡ all_zero l.part

@@ -4,23 +4,13 @@ use native.Mathlib.Omega.{arith}
 use lib.ListN.{length}
 use Rattle.model.specs.Guids.{less}
 use Rattle.tables.specs.Keys.{keys, leads, rising}
-use Rattle.tables.proofs.Search.{record_le, Rises, rise_turn, rise_stop}
+use Rattle.tables.proofs.Search.{record_le, rise_turn, rise_stop}
 use Rattle.tables.proofs.keys_rise.Goals as goal
 
 -- record i is within the table
 room : (c : goal.In-loop-i)
     → (let a = c.args in c.loop-i.i * a.size + a.size ≤ length a.t.now)
 room c = omega (arith, record_le c.args.size c.loop-i-test.true)
-
--- the comparison's answer is the test of key i
-test : (c : goal.Then-not-is_less)
-    → (let a = c.args in Rises a.size a.t.now c.loop-i.i ≡ c.is_less.result)
-test c = sym (c.is_less.ensures ∙ ap₂ less c.loop-i.invariant.2 c.guid_at-next.ensures)
-
--- the comparison's answer is the test of key i
-test_2 : (c : goal.Else-not-is_less)
-    → (let a = c.args in Rises a.size a.t.now c.loop-i.i ≡ c.is_less.result)
-test_2 c = sym (c.is_less.ensures ∙ ap₂ less c.loop-i.invariant.2 c.guid_at-next.ensures)
 
 pub returns-then-count-eq0 : goal.returns-then-count-eq0
 unfolding keys rising
@@ -31,9 +21,7 @@ guid_at-last-requires c = omega (arith, record_le c.args.size {i = 0} {n = c.arg
 
 pub loop-i-init : goal.loop-i-init
 unfolding keys rising leads
-loop-i-init c =
-    let e : (1 - 1) * c.args.size ≡ 0 = omega arith in
-    (omega arith, omega arith, rw e c.guid_at-last.ensures, refl)
+loop-i-init c = let e : (1 - 1) * c.args.size ≡ 0 = omega arith in (rw e c.guid_at-last.ensures, refl)
 
 pub overflow_mul-i : goal.overflow_mul-i
 overflow_mul-i c = omega (arith, room c)
@@ -45,20 +33,20 @@ pub returns-then-not-is_less : goal.returns-then-not-is_less
 returns-then-not-is_less c =
     let a = c.args in
     let l = c.loop-i in
-    rise_stop a.size a.count a.t.now l.i (omega arith) (omega arith) (test c ∙ c.if-not-is_less.true)
+    rise_stop a.size a.count a.t.now l.i (omega arith) (omega arith)
+    (sym (c.is_less.ensures ∙ ap₂ less l.invariant.0 c.guid_at-next.ensures) ∙ c.if-not-is_less.true)
 
 pub loop-i-preserved : goal.loop-i-preserved
 loop-i-preserved c =
     let a = c.args in
     let l = c.loop-i in
     let e : l.i + 1 - 1 ≡ l.i = omega arith in (
-      omega arith,
-      omega arith,
       rw e c.guid_at-next.ensures,
-      rise_turn a.size a.t.now l.i (omega arith) l.invariant.3 (test_2 c ∙ c.if-not-is_less.false),
+      rise_turn a.size a.t.now l.i (omega arith) l.invariant.1
+          (sym (c.is_less.ensures ∙ ap₂ less l.invariant.0 c.guid_at-next.ensures) ∙ c.if-not-is_less.false),
     )
 
 pub returns : goal.returns
 returns c =
     let e : c.loop-i.i ≡ c.args.count = omega arith in
-    rw e at (sym c.loop-i.invariant.3)
+    rw e at (sym c.loop-i.invariant.1)

@@ -1,5 +1,5 @@
 -- `keys_rise` meets its contract: the first i keys rise, and the last of them is at hand.
-use Prim.Native.Nat.{◌-◌, ◌*◌, ◌≤◌}
+use Prim.Native.Nat.{◌-◌, ◌*◌}
 use mathlib.Core.Path.{◌≡◌}
 use mathlib.Core.Bool.{true}
 use Rattle.model.specs.Guids.{guid_at}
@@ -7,7 +7,4 @@ use Rattle.tables.specs.Keys.{keys, rising}
 use Rattle.tables.proofs.keys_rise.Given as goal
 
 abbrev pub invariant-loop-i : goal.invariant-loop-i
-invariant-loop-i l = (1 ≤ l.i) × (l.i ≤ l.count) × (l.last ≡ guid_at l.t ((l.i - 1) * l.size)) × (rising (keys l.size l.i l.t) ≡ true)
-
-abbrev pub decreases-loop-i : goal.decreases-loop-i
-decreases-loop-i l = l.count - l.i
+invariant-loop-i l = (l.last ≡ guid_at l.t ((l.i - 1) * l.size)) × (rising (keys l.size l.i l.t) ≡ true)

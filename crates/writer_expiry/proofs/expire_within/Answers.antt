@@ -27,8 +27,8 @@ tally_of-tally-requires c = (
       c.args.dues c.requires.3,
 )
 
-pub settle_head-h-requires : goal.settle_head-h-requires
-settle_head-h-requires c =
+pub settle_head-requires : goal.settle_head-requires
+settle_head-requires c =
     gone_fits c.args.sheet c.args.head c.args.writers.now c.args.lost.now (search rules) c.requires.0
     (search rules) c.requires.1 c.requires.2
     c.args.dues c.requires.3 c.declare-last.result c.tally_of-tally.result c.tally_of-tally.ensures
@@ -38,5 +38,5 @@ returns c =
     expire-leaves c.args.sheet c.args.head c.args.writers.now c.args.lost.now (search rules) c.requires.0
     (search rules) c.requires.1 c.requires.2
     c.args.dues c.requires.3 c.requires.4 c.declare-last.new.t c.declare-last.new.lost c.declare-last.result _ c.declare-last.ensures.0
-    c.declare-last.ensures.1 c.declare-last.ensures.2 c.saying_due-a.ensures (c.settle_head-h.ensures ∙
+    c.declare-last.ensures.1 c.declare-last.ensures.2 c.saying_due.ensures (c.settle_head.ensures ∙
     ap (settled_head c.args.head c.args.head.writer_count (c.args.head.lost_count + c.args.dues.gone)) c.tally_of-tally.ensures)

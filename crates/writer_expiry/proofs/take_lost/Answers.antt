@@ -10,10 +10,10 @@ use Rattle.writer_expiry.proofs.Expiring.{lost-few}
 use Rattle.writer_expiry.proofs.Taking.{take-leaves}
 use Rattle.writer_expiry.proofs.take_lost.Goals as goal
 
-lent : (c : goal.After-with_changes-h) → SFits w32 c.args.head.alive_change
+lent : (c : goal.After-with_changes) → SFits w32 c.args.head.alive_change
 lent c = search rules
 
-lent-2 : (c : goal.After-with_changes-h) → SFits w32 c.args.head.not_alive_change
+lent-2 : (c : goal.After-with_changes) → SFits w32 c.args.head.not_alive_change
 lent-2 c = search rules
 
 pub copy-requires : goal.copy-requires
@@ -31,6 +31,6 @@ returns c =
     let f : SFits w32 h.alive_change = lent c in
     let g : SFits w32 h.not_alive_change = lent-2 c in
     take-leaves c.args.sheet h c.args.lost.now c.args.out.now (search rules) c.requires.0
-    c.requires.1 (omega (arith, c.well_formed.1)) record { answer = c.listing-a.result; head = c.with_changes-h.result } c.clear.new.b
-    c.copy.new.dst c.listing-a.ensures (c.with_changes-h.ensures ∙ both-changed h 0 _ _ _ _ (to_z-of_z f) (to_z-of_z g))
+    c.requires.1 (omega (arith, c.well_formed.1)) record { answer = c.listing.result; head = c.with_changes.result } c.clear.new.b
+    c.copy.new.dst c.listing.ensures (c.with_changes.ensures ∙ both-changed h 0 _ _ _ _ (to_z-of_z f) (to_z-of_z g))
     c.clear.ensures c.copy.ensures

@@ -22,8 +22,8 @@ put_writer-requires c =
     let g = good c.args.head c.args.writers.now (search rules) c.requires.0 in
     omega (arith, g.ready.sound.room, c.requires.1)
 
-pub departs-tally-requires : goal.departs-tally-requires
-departs-tally-requires c = (
+pub departs-requires : goal.departs-requires
+departs-requires c = (
   alive-there c.args.head c.args.writers.now
       (good c.args.head c.args.writers.now (search rules) c.requires.0) c.args.i c.writer_at-w.result
       c.requires.1 c.writer_at-w.ensures,
@@ -34,9 +34,9 @@ departs-tally-requires c = (
 pub called-requires : goal.called-requires
 called-requires c =
     let g = good c.args.head c.args.writers.now (search rules) c.requires.0 in
-    room-departs c.args.head c.args.head.writer_count c.args.writers.now g.ready c.departs-tally.result c.writer_at-w.result
+    room-departs c.args.head c.args.head.writer_count c.args.writers.now g.ready c.departs.result c.writer_at-w.result
     (alive-there c.args.head c.args.writers.now (good c.args.head c.args.writers.now (search rules) c.requires.0) c.args.i c.writer_at-w.result c.requires.1 c.writer_at-w.ensures)
-    (both-few c.args.head c.args.writers.now g) c.departs-tally.ensures
+    (both-few c.args.head c.args.writers.now g) c.departs.ensures
 
 pub returns : goal.returns
 returns c = (
@@ -44,5 +44,5 @@ returns c = (
       (λ (z : Writer). patch c.args.writers.now (c.args.i * 40) 40 (writer_bytes z))
       (c.departed.ensures ∙ ap (λ (z : Writer). departed z.guid) c.writer_at-w.ensures),
   c.called.ensures ∙ ap (called_by c.args.head c.args.head.writer_count)
-      (c.departs-tally.ensures ∙ ap (departs_tally c.args.head) c.writer_at-w.ensures),
+      (c.departs.ensures ∙ ap (departs_tally c.args.head) c.writer_at-w.ensures),
 )

@@ -15,14 +15,14 @@ find-requires c =
 
 pub leave_at-requires : goal.leave_at-requires
 leave_at-requires c =
-    (c.requires, sym c.find.ensures ∙ c.in-At.is)
+    (c.requires, sym c.find.ensures ∙ c.in-Ok.is)
 
 pub kept-requires : goal.kept-requires
 kept-requires c =
     room_still c.args.head c.args.head.writer_count c.args.writers.now
     (good c.args.head c.args.writers.now (search rules) c.requires).ready (still_tally c.args.head) refl
 
-pub returns-in-Missing : goal.returns-in-Missing
-returns-in-Missing c =
+pub returns-in-Err : goal.returns-in-Err
+returns-in-Err c =
     leave_missing c.args.sheet c.args.head c.args.writers.now (search rules) c.requires c.args.lost _
-    (sym c.find.ensures ∙ c.in-Missing.is) c.kept.result c.kept.ensures
+    (sym c.find.ensures ∙ c.in-Err.is) c.kept.result c.kept.ensures

@@ -13,8 +13,8 @@ find-requires c =
 
 pub match_again-requires : goal.match_again-requires
 match_again-requires c =
-    (c.requires.0, c.requires.1, sym c.find.ensures ∙ c.in-At.is)
+    (c.requires.0, c.requires.1, sym c.find.ensures ∙ c.in-Ok.is)
 
 pub match_first-requires : goal.match_first-requires
 match_first-requires c =
-    (c.requires.0, c.requires.1, sym c.find.ensures ∙ c.in-Missing.is)
+    (c.requires.0, c.requires.1, sym c.find.ensures ∙ c.in-Err.is)

@@ -18,8 +18,8 @@ close_gap-requires c =
     let g = good c.args.head c.args.writers.now (search rules) c.requires.0 in
     (c.requires.1, g.ready.sound.room)
 
-pub gone-tally-requires : goal.gone-tally-requires
-gone-tally-requires c = (
+pub gone-requires : goal.gone-requires
+gone-requires c = (
   alive-there c.args.head c.args.writers.now
       (good c.args.head c.args.writers.now (search rules) c.requires.0) c.args.i c.writer_at-w.result
       c.requires.1 c.writer_at-w.ensures,
@@ -31,12 +31,12 @@ gone-tally-requires c = (
 pub called-requires : goal.called-requires
 called-requires c =
     room_gone c.args.head c.args.head.writer_count c.args.writers.now
-    (good c.args.head c.args.writers.now (search rules) c.requires.0).ready c.gone-tally.result
-    c.writer_at-w.result c.gone-tally.ensures
+    (good c.args.head c.args.writers.now (search rules) c.requires.0).ready c.gone.result
+    c.writer_at-w.result c.gone.ensures
 
 pub returns : goal.returns
 returns c = (
   c.close_gap.ensures,
   c.called.ensures ∙ ap (called_by c.args.head (c.args.head.writer_count - 1))
-      (c.gone-tally.ensures ∙ ap (gone_tally c.args.head) c.writer_at-w.ensures),
+      (c.gone.ensures ∙ ap (gone_tally c.args.head) c.writer_at-w.ensures),
 )

@@ -9,8 +9,8 @@ use Rattle.writer_pass.proofs.Asserting.{starts, asserting_start, asserting_ther
 use Rattle.writer_pass.proofs.assert_writers.Goals as goal
 use Rattle.writer_pass.proofs.assert_writers.Goals.{then-assert_at, else-assert_at}
 
-pub lower_bound-i-requires : goal.lower_bound-i-requires
-lower_bound-i-requires c = (
+pub lower_bound-from-requires : goal.lower_bound-from-requires
+lower_bound-from-requires c = (
   omega arith,
   c.requires.0.few,
   c.requires.0.room,
@@ -19,8 +19,8 @@ lower_bound-i-requires c = (
 
 pub loop-i-init : goal.loop-i-init
 loop-i-init c =
-    asserting_start c.args.a c.args.last c.args.t.now c.args.count c.lower_bound-i.result (search rules) c.requires.0 c.requires.1
-    (starts c.args.t.now c.args.count c.lower_bound-i.result c.args.a.guid c.first_of.result c.lower_bound-i.ensures c.first_of.ensures)
+    asserting_start c.args.a c.args.last c.args.t.now c.args.count c.lower_bound-from.result (search rules) c.requires.0 c.requires.1
+    (starts c.args.t.now c.args.count c.lower_bound-from.result c.args.a.guid c.first_of.result c.lower_bound-from.ensures c.first_of.ensures)
     c.args.counts c.requires.2
 
 pub writer_at-w-requires : goal.writer_at-w-requires
@@ -33,7 +33,7 @@ shape_of-t-then-not-same_prefix c = omega (arith, c.loop-i.invariant.amid)
 pub returns-then-not-same_prefix : goal.returns-then-not-same_prefix
 returns-then-not-same_prefix c =
     let n = c.loop-i in
-    asserting_left c.args.a c.args.last c.args.t.now c.args.count c.lower_bound-i.result (search rules) c.requires.0 c.requires.1 n.t
+    asserting_left c.args.a c.args.last c.args.t.now c.args.count c.lower_bound-from.result (search rules) c.requires.0 c.requires.1 n.t
     n.tally n.i n.invariant (omega arith) c.writer_at-w.result c.writer_at-w.ensures (sym c.same_prefix.ensures ∙ c.if-not-same_prefix.true)
 
 pub assert_at-requires : goal.assert_at-requires
@@ -45,21 +45,17 @@ raise-tally-requires c =
     let n = c.loop-i in (
       n.invariant.few,
       n.invariant.moved,
-      asserting_there c.args.a c.args.last c.args.t.now c.args.count c.lower_bound-i.result (search rules) c.requires.0 c.requires.1 n.t
+      asserting_there c.args.a c.args.last c.args.t.now c.args.count c.lower_bound-from.result (search rules) c.requires.0 c.requires.1 n.t
           n.tally n.i n.invariant (omega arith) c.writer_at-w.result c.writer_at-w.ensures,
       moves-not-alive c.args.a c.writer_at-w.result (sym c.assert_at.ensures.1 ∙ c.if-assert_at.true),
     )
-
-pub overflow_add-i : goal.overflow_add-i
-overflow_add-i c =
-    omega (arith, c.requires.0)
 
 pub loop-i-preserved : goal.loop-i-preserved
 loop-i-preserved c =
     let n = c.loop-i in
     let w = c.writer_at-w.result in
     let e = c.assert_at.ensures.1 in
-    asserting_turn c.args.a c.args.last c.args.t.now c.args.count c.lower_bound-i.result (search rules) c.requires.0 c.requires.1 n.t
+    asserting_turn c.args.a c.args.last c.args.t.now c.args.count c.lower_bound-from.result (search rules) c.requires.0 c.requires.1 n.t
     n.tally n.i n.invariant (omega arith) w c.writer_at-w.ensures c.assert_at.new.t c.if-assert_at.tally c.assert_at.ensures.0
     (elim c.if-assert_at.branch [
       | then-assert_at b ↦ b.tally-is ∙ b.raise-tally.ensures ∙ tally-moved c.args.a w n.tally (sym e ∙ b.if-assert_at.true)
@@ -72,5 +68,5 @@ shape_of-t c = omega (arith, c.loop-i.invariant.amid)
 pub returns : goal.returns
 returns c =
     let n = c.loop-i in
-    asserting_end c.args.a c.args.last c.args.t.now c.args.count c.lower_bound-i.result (search rules) c.requires.0 c.requires.1 n.t
+    asserting_end c.args.a c.args.last c.args.t.now c.args.count c.lower_bound-from.result (search rules) c.requires.0 c.requires.1 n.t
     n.tally n.i n.invariant (omega arith)

@@ -1,10 +1,6 @@
 -- `writer_pass::assert_writers` meets its contract.
-use Prim.Native.Nat.{◌-◌}
 use Rattle.writer_pass.proofs.Asserting.{Asserting}
 use Rattle.writer_pass.proofs.assert_writers.Given as goal
 
 abbrev pub invariant-loop-i : goal.invariant-loop-i
 invariant-loop-i l = Asserting l.a l.initial.tally.last l.initial.t l.count l.initial.i l.t l.tally l.i
-
-abbrev pub decreases-loop-i : goal.decreases-loop-i
-decreases-loop-i l = l.count - l.i

@@ -5,6 +5,7 @@ use Rattle.writer_pass.proofs.Passing.{amid_bounded, amid_forth}
 use Rattle.writer_pass.proofs.Declaring.{declaring_start, declaring_room, declaring_alive, declared, passed, declared_end, undeclared}
 use borrow.Author.Rules.{rules}
 use Rattle.writer_pass.proofs.declare.Goals as goal
+use Rattle.writer_pass.proofs.declare.Goals.{then-expires_at, else-expires_at}
 
 pub returns-then-gone-eq0 : goal.returns-then-gone-eq0
 returns-then-gone-eq0 c =
@@ -39,20 +40,22 @@ declare_at-newest-requires c =
           l.t l.lost l.newest l.at l.i l.invariant (omega arith) e,
     )
 
-pub loop-i-preserved-then-expires_at : goal.loop-i-preserved-then-expires_at
-loop-i-preserved-then-expires_at c =
-    let e = sym c.expires_at.ensures ∙ c.if-expires_at.true in
-    declared c.args.t.now c.args.count c.args.clock c.args.lost.now c.args.n c.args.last (search rules) c.requires.0
-    c.requires.1 c.requires.2 (omega (arith, c.requires.3, c.requires.4))
-    c.loop-i.t c.loop-i.lost c.loop-i.newest c.loop-i.at c.loop-i.i c.loop-i.invariant (omega arith) e c.declare_at-newest.new.t
-    c.declare_at-newest.new.lost c.declare_at-newest.result c.declare_at-newest.ensures.0 c.declare_at-newest.ensures.1 c.declare_at-newest.ensures.2
-
 pub loop-i-preserved : goal.loop-i-preserved
 loop-i-preserved c =
-    let e = sym c.expires_at.ensures ∙ c.if-expires_at.false in
-    passed c.args.t.now c.args.count c.args.clock c.args.lost.now c.args.n c.args.last (search rules) c.requires.0
-    c.requires.1 c.requires.2 (omega (arith, c.requires.3, c.requires.4))
-    c.loop-i.t c.loop-i.lost c.loop-i.newest c.loop-i.at c.loop-i.i c.loop-i.invariant (omega arith) e
+    let l = c.loop-i in
+    elim c.if-expires_at.branch [
+      | then-expires_at b ↦
+          rw (b.t-is, b.lost-is, b.newest-is, b.at-is)
+          (declared c.args.t.now c.args.count c.args.clock c.args.lost.now c.args.n c.args.last (search rules) c.requires.0
+          c.requires.1 c.requires.2 (omega (arith, c.requires.3, c.requires.4))
+          l.t l.lost l.newest l.at l.i l.invariant (omega arith) (sym c.expires_at.ensures ∙ b.if-expires_at.true) b.declare_at-newest.new.t
+          b.declare_at-newest.new.lost b.declare_at-newest.result b.declare_at-newest.ensures.0 b.declare_at-newest.ensures.1 b.declare_at-newest.ensures.2)
+      | else-expires_at b ↦
+          rw (b.t-is, b.lost-is, b.newest-is, b.at-is)
+          (passed c.args.t.now c.args.count c.args.clock c.args.lost.now c.args.n c.args.last (search rules) c.requires.0
+          c.requires.1 c.requires.2 (omega (arith, c.requires.3, c.requires.4))
+          l.t l.lost l.newest l.at l.i l.invariant (omega arith) (sym c.expires_at.ensures ∙ b.if-expires_at.false))
+    ]
 
 pub shape_of-t : goal.shape_of-t
 shape_of-t c = omega (arith, c.loop-i.invariant.amid)

@@ -4,7 +4,7 @@ use mathlib.Core.Path.{ap, ◌∙◌}
 use native.Mathlib.Omega.{arith}
 use Rattle.octets.specs.Patch.{patch}
 use Rattle.model.specs.declared.Guid.{Guid}
-use Rattle.model.specs.declared.LastWriter.TheVariants.{Is}
+use Rattle.std.specs.Prelude.{Some}
 use Rattle.model.specs.Guids.{guid_bytes}
 use Rattle.guid.proofs.Laws.{guid-patch}
 use Rattle.writer_pass.proofs.Declaring.{guid-in}
@@ -15,5 +15,5 @@ returns c =
     let g = c.guid_at-g.ensures ∙ guid-in c.args.t.now c.args.i in (
       c.expire_at.ensures,
       c.put_guid.ensures ∙ guid-patch c.args.lost.now (c.args.at * 16) c.guid_at-g.result (omega arith) ∙ ap (λ (z : Guid). patch c.args.lost.now (c.args.at * 16) 16 (guid_bytes z)) g,
-      ap Is g,
+      ap Some g,
     )

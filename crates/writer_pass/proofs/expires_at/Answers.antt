@@ -6,6 +6,6 @@ pub returns-then-leased_at : goal.returns-then-leased_at
 unfolding expires
 returns-then-leased_at c = rw (← c.leased_at.ensures, c.if-leased_at.true, c.due_at.ensures)
 
-pub returns : goal.returns
+pub returns-else-leased_at : goal.returns-else-leased_at
 unfolding expires
-returns c = rw (← c.leased_at.ensures, c.if-leased_at.false)
+returns-else-leased_at c = rw (← c.leased_at.ensures, c.if-leased_at.false)

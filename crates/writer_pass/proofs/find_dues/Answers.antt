@@ -13,8 +13,8 @@ loop-i-init c =
 pub leased_at-requires : goal.leased_at-requires
 leased_at-requires c = omega (arith, c.requires)
 
-pub due_at-due-requires : goal.due_at-due-requires
-due_at-due-requires c =
+pub due_at-requires : goal.due_at-requires
+due_at-requires c =
     let j = c.loop-i.i - 1 in
     let b = bounded_in c.args.t.now c.args.count j (writer_in c.args.t.now j) c.requires (omega arith) refl in
     (omega (arith, c.requires), b.0, b.1)
@@ -29,7 +29,7 @@ loop-i-preserved-then-leased_at c =
     let w = writer_in c.args.t.now j in (
       omega arith,
       rw
-          (dues_turn c.args.t.now c.args.count c.args.clock c.loop-i.i j w c.loop-i.d (omega arith) c.loop-i.invariant.0 refl c.loop-i.invariant.1, ← c.leased_at.ensures, c.if-leased_at.true, ← c.due_at-due.ensures)
+          (dues_turn c.args.t.now c.args.count c.args.clock c.loop-i.i j w c.loop-i.d (omega arith) c.loop-i.invariant.0 refl c.loop-i.invariant.1, ← c.leased_at.ensures, c.if-leased_at.true, ← c.due_at.ensures)
           c.dues_with-d.ensures,
     )
 

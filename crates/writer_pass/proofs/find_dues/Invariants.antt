@@ -8,6 +8,3 @@ use Rattle.writer_pass.proofs.find_dues.Given as goal
 
 abbrev pub invariant-loop-i : goal.invariant-loop-i
 invariant-loop-i l = (l.i ≤ l.count) × (l.d ≡ dues_of l.clock (drop l.i (writers_in l.count l.t)))
-
-abbrev pub decreases-loop-i : goal.decreases-loop-i
-decreases-loop-i l = l.i

@@ -1,17 +1,7 @@
 -- `writer_pass::sooner_of` meets its contract.
-use Prim.Native.Nat.{◌≤◌}
-use native.Mathlib.Nat.{min-eq_left, min-eq_right}
-use native.Mathlib.Omega.{arith}
+use Rattle.std.proofs.Common.{rules}
+use Rattle.writer_pass.proofs.Reading.{soonest_by}
 use Rattle.writer_pass.proofs.sooner_of.Goals as goal
 
-pub returns-then-d-due : goal.returns-then-d-due
-returns-then-d-due c = rw (c.if-d.true, min-eq_right c.if-d-due.true)
-
-pub returns-else-d-due : goal.returns-else-d-due
-returns-else-d-due c =
-    let a = c.args in
-    let h : a.due ≤ a.d.at = omega (arith, c.if-d-due.false) in
-    rw (c.if-d.true, min-eq_left h)
-
-pub returns-else-d : goal.returns-else-d
-returns-else-d c = rw c.if-d.false
+pub returns : goal.returns
+returns c = soonest_by c.args.due c.args.d c.map_or.result _ (λ at h. search (rules, h)) c.map_or.ensures

@@ -1,6 +1,7 @@
 -- `writer_record::expire_at` meets its contract.
 use Prim.Native.Nat.{◌*◌}
 use native.Mathlib.Omega.{arith}
+use borrow.Author.Rules.{rules}
 use Rattle.writer_record.proofs.Leases.{alive_flags, expired-part}
 use Rattle.writer_record.proofs.expire_at.Goals as goal
 
@@ -10,5 +11,5 @@ overflow_add-flags c =
 
 pub returns : goal.returns
 returns c =
-    expired-part c.args.t.now (c.args.i * 40) c.get_u8-flags.result c.put_u8.new.s (λ j. (c.slice_known-1.given j).fits) c.requires.0
+    expired-part c.args.t.now (c.args.i * 40) c.get_u8-flags.result c.put_u8.new.s (search rules) c.requires.0
     c.requires.1 c.requires.2 c.get_u8-flags.ensures c.put_u8.ensures

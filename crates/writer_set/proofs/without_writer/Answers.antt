@@ -1,16 +1,27 @@
 -- A GUID taken out, where there is one.
+use mathlib.Core.Path.{refl}
 use native.Mathlib.Omega.{arith}
-use Rattle.writer_set.proofs.PlaceLaws.{without_none, without_found}
+use lib.ListN.{take}
+use Rattle.std.proofs.Common.{rules, tests}
+use Rattle.std.proofs.lemmas.Iterator.{YieldsList-from_slice}
+use Rattle.std.proofs.lemmas.Iterator.Search.{position_from_yields_List}
+use Rattle.model.specs.Sets.{members}
+use Rattle.writer_set.proofs.PlaceLaws.{is, found_at, found_nowhere, length-members, without_none, without_found}
 use Rattle.writer_set.proofs.SetLaws.{sound-size}
 use Rattle.writer_set.proofs.without_writer.Goals as goal
 
-pub returns-then-p-n : goal.returns-then-p-n
-returns-then-p-n c =
-    let p = c.place-p in
-    without_found c.args.w c.args.g p.result (sound-size c.args.w c.requires) c.requires p.ensures
-    c.removed_at-t.result (omega arith) c.removed_at-t.ensures
+pub returns-in-Some : goal.returns-in-Some
+returns-in-Some c =
+    let a = c.args in
+    let size = sound-size a.w c.requires in
+    let scan = position_from_yields_List (is a.g) _ _ c.position.result c.position.ensures.ran (YieldsList-from_slice (take a.w.len a.w.items) cc) (λ x b q k. search (rules, tests)) in
+    let found = found_at (is a.g) (members a.w) c.position.result scan c.in-Some.p c.in-Some.is in
+    without_found a.w a.g c.in-Some.p size c.requires found.0 c.removed_at.result (omega (arith, found.1, length-members a.w size c.requires.few)) c.removed_at.ensures
 
-pub returns : goal.returns
-returns c =
-    let p = c.place-p in
-    without_none c.args.w c.args.g p.result (sound-size c.args.w c.requires) c.requires p.ensures (omega arith)
+pub returns-in-None : goal.returns-in-None
+returns-in-None c =
+    let a = c.args in
+    let size = sound-size a.w c.requires in
+    let scan = position_from_yields_List (is a.g) _ _ c.position.result c.position.ensures.ran (YieldsList-from_slice (take a.w.len a.w.items) cc) (λ x b q k. search (rules, tests)) in
+    without_none a.w a.g _ size c.requires refl
+    (omega (arith, length-members a.w size c.requires.few, found_nowhere (is a.g) (members a.w) c.position.result scan c.in-None.is))

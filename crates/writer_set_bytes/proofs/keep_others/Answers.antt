@@ -8,19 +8,18 @@ pub returns-then-m-eq1 : goal.returns-then-m-eq1
 returns-then-m-eq1 c =
     let g = c.guid_at-g in
     let r = c.keep_all_but in
-    rw (one-listed c.args.gone.now (omega arith), ← g.ensures) r.ensures
+    rw (one-listed c.args.gone.now.list.now (omega arith), ← g.ensures) r.ensures
 
 pub guid_at-first-requires : goal.guid_at-first-requires
 guid_at-first-requires c =
-    omega (arith, filled_long c.args.n c.args.set.now c.requires.0)
+    omega (arith, filled_long c.args.n c.args.set.now c.requires)
 
 pub walk_through-requires : goal.walk_through-requires
 walk_through-requires c =
     let a = c.args in
     let g = c.guid_at-first in
     let r = c.lower_listed-from in (
-      c.requires.0,
-      c.requires.1,
-      omega (arith, start_few a.gone.now a.set.now a.n g.result r.result g.ensures r.ensures),
-      start_after a.gone.now a.set.now a.n g.result r.result g.ensures r.ensures c.requires.0,
+      c.requires,
+      omega (arith, start_few a.gone.now.list.now a.set.now a.n g.result r.result g.ensures r.ensures),
+      start_after a.gone.now.list.now a.set.now a.n g.result r.result g.ensures r.ensures c.requires,
     )

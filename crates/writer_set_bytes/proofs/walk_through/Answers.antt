@@ -5,25 +5,25 @@ use Rattle.writer_set_bytes.proofs.walk_through.Goals as goal
 pub loop-w-init : goal.loop-w-init
 loop-w-init c =
     let a = c.args in
-    walking_start a.set.now a.n a.gone.now c.requires.0 c.requires.1 a.from c.requires.2 c.requires.3
+    walking_start a.set.now a.n a.gone.now.list.now c.requires.0 a.gone.now.listed a.from c.requires.1 c.requires.2
 
 pub walk_on-w-requires : goal.walk_on-w-requires
 walk_on-w-requires c =
     let l = c.loop-w in
-    (l.invariant.kept, omega (arith, c.requires.0.few, l.invariant.long), omega (arith, l.invariant.long), omega (arith, l.invariant.listed, c.requires.1.few))
+    (l.invariant.kept, omega (arith, c.requires.0.few, l.invariant.long), omega (arith, l.invariant.long), omega (arith, l.invariant.listed, c.args.gone.now.listed.few))
 
 pub loop-w-smaller : goal.loop-w-smaller
 loop-w-smaller c =
     let a = c.args in
     let l = c.loop-w in
-    rw c.walk_on-w.ensures.0 (walking_less a.set.now a.n a.gone.now c.requires.0 c.requires.1 l.set l.w l.invariant (omega arith))
+    rw c.walk_on-w.ensures.0 (walking_less a.set.now a.n a.gone.now.list.now c.requires.0 a.gone.now.listed l.set l.w l.invariant (omega arith))
 
 pub loop-w-preserved : goal.loop-w-preserved
 loop-w-preserved c =
     let a = c.args in
     let l = c.loop-w in
     let r = c.walk_on-w in
-    rw (r.ensures.0, r.ensures.1) (walking_turn a.set.now a.n a.gone.now c.requires.0 c.requires.1 l.set l.w l.invariant (omega arith))
+    rw (r.ensures.0, r.ensures.1) (walking_turn a.set.now a.n a.gone.now.list.now c.requires.0 a.gone.now.listed l.set l.w l.invariant (omega arith))
 
 pub overflow_mul-k : goal.overflow_mul-k
 overflow_mul-k c = let l = c.loop-w in omega (arith, l.invariant.kept, l.invariant.below, c.requires.0.few)
@@ -45,4 +45,4 @@ returns c =
     let a = c.args in
     let l = c.loop-w in
     let r = c.clear in
-    walking_end a.set.now a.n a.gone.now c.requires.0 c.requires.1 l.set l.w l.invariant (omega arith) r.new.b r.ensures
+    walking_end a.set.now a.n a.gone.now.list.now c.requires.0 a.gone.now.listed l.set l.w l.invariant (omega arith) r.new.b r.ensures

@@ -5,7 +5,7 @@ use Rattle.writer_set_bytes.proofs.WalkLaws.{Walking}
 use Rattle.writer_set_bytes.proofs.walk_through.Given as goal
 
 abbrev pub invariant-loop-w : goal.invariant-loop-w
-invariant-loop-w l = Walking l.initial.set l.n l.gone l.set l.w
+invariant-loop-w l = Walking l.initial.set l.n l.gone.list.now l.set l.w
 
 abbrev pub decreases-loop-w : goal.decreases-loop-w
-decreases-loop-w l = (l.n - l.w.i) + (length l.gone / 16 - l.w.j)
+decreases-loop-w l = (l.n - l.w.i) + (length l.gone.list.now / 16 - l.w.j)

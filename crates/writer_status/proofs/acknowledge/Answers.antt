@@ -8,10 +8,10 @@ use mir.Val.{Fits, SFits, to_z}
 use Rattle.writer_status.proofs.Idle.{lent-within, lent-part, head-within, acknowledgeable_parts, less_read, acknowledge-kept, both-changed}
 use Rattle.writer_status.proofs.acknowledge.Goals as goal
 
-lent : (c : goal.After-with_changes-h) → SFits w32 c.args.head.alive_change
+lent : (c : goal.After-with_changes) → SFits w32 c.args.head.alive_change
 lent c = search rules
 
-lent-2 : (c : goal.After-with_changes-h) → SFits w32 c.args.head.not_alive_change
+lent-2 : (c : goal.After-with_changes) → SFits w32 c.args.head.not_alive_change
 lent-2 c = search rules
 
 pub change_less-first-requires : goal.change_less-first-requires
@@ -44,5 +44,5 @@ returns c =
     less_read h.alive h.alive_change s.first f k w.0 c.change_less-first.result c.requires.1 v.0 c.change_less-first.ensures in
     let y =
     less_read h.not_alive h.not_alive_change s.second g m w.1 c.change_less-second.result c.requires.2 v.1 c.change_less-second.ensures in
-    acknowledge-kept s h (omega (arith, c.well_formed.1)) record { answer = c.silent-a.result; head = c.with_changes-h.result } c.silent-a.ensures
-    (c.with_changes-h.ensures ∙ both-changed h h.lost_count _ _ _ _ x y)
+    acknowledge-kept s h (omega (arith, c.well_formed.1)) record { answer = c.silent.result; head = c.with_changes.result } c.silent.ensures
+    (c.with_changes.ensures ∙ both-changed h h.lost_count _ _ _ _ x y)

@@ -36,9 +36,9 @@ returns-then-part_within c =
     let b : c.part_within-then-part_within.result ≡ within ((pos h.not_alive -ℤ h.not_alive_change) +ℤ to_z w32 s.second) = c.part_within-then-part_within.ensures ∙ ap within (as_lent h.not_alive h.not_alive_change (to_z w32 s.second) g) in
     λ pens writers lost. rw (← a, c.if-part_within.true) b
 
-pub returns : goal.returns
+pub returns-else-part_within : goal.returns-else-part_within
 unfolding state_of
-returns c =
+returns-else-part_within c =
     let h = c.args.head in
     let s = c.args.sheet in
     let f : SFits w32 h.alive_change = search rules in

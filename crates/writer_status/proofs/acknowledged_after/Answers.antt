@@ -1,43 +1,33 @@
 -- `writer_status::acknowledged_after` meets its contract.
+use Prim.Native.Nat.{ℕ, ◌<◌, ◌^◌}
 use mathlib.Core.Path.{◌≡◌, ap, ◌∙◌}
 use lib.IntN.{ℤ, pos, ◌+ℤ◌, ◌-ℤ◌}
-use mir.Facts.{to_z-of_z, sfits_to_z}
+use mir.Facts.{sfits_to_z}
 use mir.Syntax.{w32, w64}
-use mir.Val.{of_z, to_z}
+use mir.Val.{Fits, SFits, of_z, to_z}
 use Rattle.numbers.proofs.Signed.{back, fits_as}
-use Rattle.numbers.proofs.Signs.{difference_fits}
+use Rattle.writer_counts.proofs.Laws.{acknowledged_read}
 use Rattle.writer_status.proofs.Idle.{after_fits}
 use Rattle.writer_status.proofs.acknowledged_after.Goals as goal
 
-count-read : (c : goal.After-of_bits-more) → to_z w64 (of_z w64 c.acknowledged-before.result) ≡ pos c.args.count -ℤ c.args.change
-count-read c =
-    back (c.acknowledged-before.ensures ∙ ap (λ (z : ℤ). pos c.args.count -ℤ z) (to_z-of_z c.ranges.change))
-    (difference_fits c.args.count c.args.change c.ranges.count.fits c.ranges.change)
-
-count-read_2 : (c : goal.After-add_i64) → to_z w64 (of_z w64 c.acknowledged-before.result) ≡ pos c.args.count -ℤ c.args.change
-count-read_2 c =
-    back (c.acknowledged-before.ensures ∙ ap (λ (z : ℤ). pos c.args.count -ℤ z) (to_z-of_z c.ranges.change))
-    (difference_fits c.args.count c.args.change c.ranges.count.fits c.ranges.change)
-
-sum : (c : goal.After-of_bits-more) →
-    to_z w64 (of_z w64 c.acknowledged-before.result) +ℤ to_z w32 (of_z w32 c.of_bits-more.result)
-    ≡ (pos c.args.count -ℤ c.args.change) +ℤ to_z w32 c.args.part
-sum c =
-    ap (λ (z : ℤ). z +ℤ to_z w32 (of_z w32 c.of_bits-more.result)) (count-read c) ∙ ap
-    (λ (z : ℤ). (pos c.args.count -ℤ c.args.change) +ℤ z) (back c.of_bits-more.ensures (sfits_to_z c.ranges.part))
-
-sum_2 : (c : goal.After-add_i64) →
-    to_z w64 (of_z w64 c.acknowledged-before.result) +ℤ to_z w32 (of_z w32 c.of_bits-more.result)
-    ≡ (pos c.args.count -ℤ c.args.change) +ℤ to_z w32 c.args.part
-sum_2 c =
-    ap (λ (z : ℤ). z +ℤ to_z w32 (of_z w32 c.of_bits-more.result)) (count-read_2 c) ∙ ap
-    (λ (z : ℤ). (pos c.args.count -ℤ c.args.change) +ℤ z) (back c.of_bits-more.ensures (sfits_to_z c.ranges.part))
+-- the sum of what was acknowledged and of the part, each read back from its bits
+sum : (count part : ℕ) (change a b : ℤ) → count < 2 ^ 32 → SFits w32 change → Fits w32 part → a ≡ pos count -ℤ to_z w32 (of_z w32 change) → b ≡ to_z w32 part →
+    to_z w64 (of_z w64 a) +ℤ to_z w32 (of_z w32 b) ≡ (pos count -ℤ change) +ℤ to_z w32 part
+sum count part change a b h f g e k =
+    ap (λ (z : ℤ). z +ℤ to_z w32 (of_z w32 b)) (acknowledged_read count change a h f e)
+    ∙ ap (λ (z : ℤ). (pos count -ℤ change) +ℤ z) (back k (sfits_to_z g))
 
 pub add_i64-requires : goal.add_i64-requires
 add_i64-requires c =
-    fits_as (sum c) (after_fits c.args.count c.args.change c.args.part c.ranges.change c.ranges.part c.requires)
+    let a = c.args in
+    fits_as
+    (sum a.count a.part a.change c.acknowledged-before.result c.of_bits-more.result c.ranges.count.fits c.ranges.change c.ranges.part c.acknowledged-before.ensures c.of_bits-more.ensures)
+    (after_fits a.count a.change a.part c.ranges.change c.ranges.part c.requires)
 
 pub returns : goal.returns
 returns c =
-    back (c.add_i64.ensures ∙ sum_2 c)
-    (after_fits c.args.count c.args.change c.args.part c.ranges.change c.ranges.part c.requires)
+    let a = c.args in
+    back
+    (c.add_i64.ensures
+    ∙ sum a.count a.part a.change c.acknowledged-before.result c.of_bits-more.result c.ranges.count.fits c.ranges.change c.ranges.part c.acknowledged-before.ensures c.of_bits-more.ensures)
+    (after_fits a.count a.change a.part c.ranges.change c.ranges.part c.requires)

@@ -9,6 +9,6 @@ use Rattle.writer_status.proofs.take_status.Goals as goal
 pub returns : goal.returns
 returns c =
     let h = c.args.head in
-    let a : c.reporting-a.result ≡ reporting (head_status h) = c.reporting-a.ensures ∙ rw c.head_status.ensures in
-    status_kept c.args.sheet h (omega (arith, c.well_formed)) record { answer = c.reporting-a.result; head = c.with_changes-h.result } a
-    c.with_changes-h.ensures
+    let a : c.reporting.result ≡ reporting (head_status h) = c.reporting.ensures ∙ rw c.head_status.ensures in
+    status_kept c.args.sheet h (omega (arith, c.well_formed)) record { answer = c.reporting.result; head = c.with_changes.result } a
+    c.with_changes.ensures

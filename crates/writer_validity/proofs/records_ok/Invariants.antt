@@ -1,10 +1,6 @@
--- `records_ok` meets its contract: the pass so far, and the measure is how many records are left.
-use Prim.Native.Nat.{◌-◌}
+-- `records_ok` meets its contract: the pass so far.
 use Rattle.writer_validity.proofs.Pass.{During}
 use Rattle.writer_validity.proofs.records_ok.Given as goal
 
 abbrev pub invariant-loop-i : goal.invariant-loop-i
 invariant-loop-i l = During l.count l.t l.last l.a l.d l.i
-
-abbrev pub decreases-loop-i : goal.decreases-loop-i
-decreases-loop-i l = l.count - l.i

@@ -10,4 +10,4 @@ use Rattle.zeros.proofs.zero_from.Goals as goal
 pub returns : goal.returns
 returns c =
     let a = c.args in
-    c.zero_long.ensures ∙ ap all_zero (take_all (length a.s.now - a.from) (drop a.from a.s.now) (omega (arith, length-drop a.from a.s.now)))
+    c.zero_by.ensures ∙ ap all_zero (take_all (length a.s.now - a.from) (drop a.from a.s.now) (omega (arith, length-drop a.from a.s.now)))

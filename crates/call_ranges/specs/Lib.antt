@@ -1,0 +1,2 @@
+-- What the contracts of call_ranges cite.
+pub mod Lengths

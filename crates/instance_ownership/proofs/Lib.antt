@@ -1,2 +1,0 @@
--- The laws of a bid.
-pub mod StepLaws

@@ -1,1 +1,0 @@
--- No laws beside the proofs of the functions.

@@ -1,5 +1,0 @@
--- A part of the row.
-use Rattle.instance_reach.proofs.says_of.Goals as goal
-
-pub returns : goal.returns
-returns c = rw c.rule_of-r.ensures

@@ -1,2 +1,0 @@
--- Laws that the proofs of instance_rules cite.
-pub mod Codes

@@ -1,0 +1,7 @@
+-- `get_u16` meets its contract: std's number of the bytes that were read.
+use mathlib.Core.Path.{◌∙◌}
+use Rattle.octets.proofs.Bytes.{read_16}
+use Rattle.octets.proofs.get_u16.Goals as goal
+
+pub returns : goal.returns
+returns c = let a = c.args in c.from_be_bytes.ensures ∙ read_16 a.s.now c.bytes_at.result a.at c.bytes_at.ensures

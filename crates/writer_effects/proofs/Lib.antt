@@ -1,2 +1,0 @@
--- Laws that the proofs of writer_effects cite.
-pub mod Laws
