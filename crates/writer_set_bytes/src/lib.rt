@@ -45,7 +45,15 @@ fn stands(gone: &[u8], j: usize, g: Guid) -> Ordering
     if gone.len() / 16 <= j {
         return Ordering::Greater;
     }
-    guid::guid_at(gone, j * 16).cmp(&g)
+    let there = guid::guid_at(gone, j * 16);
+    if guid::is_same(there, g) {
+        return Ordering::Equal;
+    }
+    // by two tests: the derived `cmp` makes a number of both halves' orders, at each turn of a walk
+    if guid::is_less(there, g) {
+        return Ordering::Less;
+    }
+    Ordering::Greater
 }
 
 // The GUID g of place i goes to place k, where it may stand already.
