@@ -1,5 +1,5 @@
-// Numbers beyond the language's own operators: a generation more, a product modulo 2^64, 32 bits read with and without a sign, and the signed
-// differences of the liveliness status.
+// Numbers beyond the language's own operators: a generation more, a product modulo 2^64, 32 bits read with and without a
+// sign, and the signed differences of the liveliness status.
 #![tactic(auto)]
 
 ghost use Rattle.std.specs.Prelude.{◌≡◌, ◌+◌, ◌*◌, ◌%◌, ◌^◌, ◌≤◌, min, pos, ◌+ℤ◌, ◌-ℤ◌, FitsSigned};
