@@ -5,7 +5,7 @@
 ghost use Rattle.std.specs.Prelude.{◌≡◌, length};
 ghost use Rattle.octets.specs.Fields.{puts};
 ghost use Rattle.read_answers.specs.Cases.{read_of, refused_answer, decision_answer, handle_answer, time_answer, listing_answer, holder_answer, changes_answer};
-ghost use Rattle.boundary_reads.specs.ReadAnswers.{bit_widths, bit_values, value_widths, value_values, told_of, told_bytes, told};
+ghost use Rattle.boundary_reads.specs.ReadAnswers.{bit_widths, bit_values, value_widths, value_values, told_of, told};
 ghost use Rattle.boundary_reads.specs.KeyHashes.{key_hash_bytes, told_key_hash};
 ghost use Rattle.boundary_reads.specs.WireAnswers.{fraction_answer, nanos_answer};
 
@@ -146,26 +146,16 @@ fn write_values(b: &mut [u8; 24], a: ReadAnswer)
     octets::put_u32(b, 20, a.nanosec);
 }
 
-// The bytes of an answer, where the caller's has their length; else nothing is written, and the number is 1.
-#[tactic(auto, unfolding(crate::specs::ReadAnswers::told_bytes))]
-fn tell_bytes(answer: &mut [u8], number: u8, bytes: &[u8; 24]) -> u32
-    ensures { told_of result answer.new ≡ told_bytes number bytes.now answer.old }
-{
-    if answer.len() != 24 {
-        return 1;
-    }
-    answer.copy_from_slice(bytes);
-    u32::from(number)
-}
-
 // The answer where it has its length; else nothing is written, and the number is 1.
 pub fn tell(answer: &mut [u8], a: ReadAnswer) -> u32
     ensures { told_of result answer.new ≡ told a answer.old }
 {
-    let mut bytes = [0; 24];
-    write_bits(&mut bytes, a);
-    write_values(&mut bytes, a);
-    tell_bytes(answer, a.number, &bytes)
+    let Some(bytes) = answer.as_mut_array::<24>() else {
+        return 1;
+    };
+    write_bits(bytes, a);
+    write_values(bytes, a);
+    u32::from(a.number)
 }
 
 // The number, zeros, and the KeyHash.
@@ -183,7 +173,9 @@ fn write_key_hash(answer: &mut [u8], k: KeyHashed)
 pub fn tell_key_hash(answer: &mut [u8], k: KeyHashed) -> u32
     ensures { told_of result answer.new ≡ told_key_hash k answer.old }
 {
-    let mut bytes = [0; 24];
-    write_key_hash(&mut bytes, k);
-    tell_bytes(answer, k.number, &bytes)
+    let Some(bytes) = answer.as_mut_array::<24>() else {
+        return 1;
+    };
+    write_key_hash(bytes, k);
+    u32::from(k.number)
 }

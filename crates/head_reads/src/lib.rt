@@ -56,7 +56,8 @@ fn head_alone(h: Head) -> bool
 fn publication_handle(last: Option<Guid>) -> InstanceHandle
     ensures { result ≡ publication last }
 {
-    last.map_or(instance_handle::nil(), instance_handle::from_guid)
+    // named at its call, as .ci/unreached goes by calls
+    last.map_or(instance_handle::nil(), |g| instance_handle::from_guid(g))
 }
 
 // The liveliness status (DDS 1.4, 2.2.4.1) that the head holds, which it leaves as it is.

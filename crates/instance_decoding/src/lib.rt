@@ -127,28 +127,39 @@ fn read_state(s: &[u8; 512], f: u16) -> InstanceState
     }
 }
 
+// 512 bytes as a record's.
+fn as_record(s: &[u8]) -> &[u8; 512]
+    requires { length s.now ≡ 512 }
+    ensures { result.now ≡ s.now }
+{
+    <&[u8; 512]>::try_from(s).unwrap()
+}
+
 // The key alone.
-pub fn read_key(s: &[u8; 512]) -> Guid
+pub fn read_key(s: &[u8]) -> Guid
+    requires { length s.now ≡ 512 }
     ensures { result ≡ (instance_of s.now).key }
 {
     guid::guid_at(s, 0)
 }
 
 // The handle alone.
-pub fn read_handle(s: &[u8; 512]) -> InstanceHandle
+pub fn read_handle(s: &[u8]) -> InstanceHandle
+    requires { length s.now ≡ 512 }
     ensures { result ≡ (instance_of s.now).handle }
 {
     InstanceHandle(octets::get_u64(s, 16))
 }
 
 // The whole instance.
-pub fn read_instance(s: &[u8; 512]) -> Instance
+pub fn read_instance(s: &[u8]) -> Instance
+    requires { length s.now ≡ 512 }
     ensures { result ≡ instance_of s.now }
 {
     Instance {
         key: read_key(s),
         handle: read_handle(s),
-        state: read_state(s, octets::get_u16(s, 24)),
+        state: read_state(as_record(s), octets::get_u16(s, 24)),
     }
 }
 

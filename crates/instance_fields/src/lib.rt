@@ -67,6 +67,17 @@ pub fn with_view(v: bool, l: Life) -> Life
     Life { view_new: v, ..l }
 }
 
+// l with other generations.
+pub fn with_generations(disposed: u32, no_writers: u32, l: Life) -> Life
+    ensures { result ≡ with_generations disposed no_writers l }
+{
+    Life {
+        disposed_generations: disposed,
+        no_writers_generations: no_writers,
+        ..l
+    }
+}
+
 // l with another count of writers.
 pub fn with_writer_count(n: u32, l: Life) -> Life
     ensures { result ≡ with_writer_count n l }
@@ -203,16 +214,20 @@ pub fn revived(l: Life) -> Life
 {
     match l.kind {
         InstanceStateKind::Alive => l,
-        InstanceStateKind::NotAliveDisposed => Life {
-            kind: InstanceStateKind::Alive,
-            disposed_generations: numbers::generation_after(l.disposed_generations),
-            ..l
-        },
-        InstanceStateKind::NotAliveNoWriters => Life {
-            kind: InstanceStateKind::Alive,
-            no_writers_generations: numbers::generation_after(l.no_writers_generations),
-            ..l
-        },
+        InstanceStateKind::NotAliveDisposed => {
+            let n = numbers::generation_after(l.disposed_generations);
+            with_kind(
+                InstanceStateKind::Alive,
+                with_generations(n, l.no_writers_generations, l),
+            )
+        }
+        InstanceStateKind::NotAliveNoWriters => {
+            let n = numbers::generation_after(l.no_writers_generations);
+            with_kind(
+                InstanceStateKind::Alive,
+                with_generations(l.disposed_generations, n, l),
+            )
+        }
     }
 }
 

@@ -41,7 +41,7 @@ pub fn allocate_step(counter: u64) -> Allocated
 fn fnv_step(hash: u64, byte: u8) -> u64
     ensures { result ≡ fnv_step hash byte }
 {
-    (u64::from(byte) ^ hash).wrapping_mul(0x100_0000_01b3)
+    numbers::wrapping_mul_u64(u64::from(byte) ^ hash, 0x100_0000_01b3)
 }
 
 // 64-bit FNV-1a of the bytes.

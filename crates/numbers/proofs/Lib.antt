@@ -1,3 +1,4 @@
--- Laws of signed numbers.
+-- Laws of signed numbers and of products.
 pub mod Signs
 pub mod Signed
+pub mod Products

@@ -1,5 +1,6 @@
 -- Numbers with a sign, and their 32 bits.
 --     raised_is         raised bits are the number plus 2^31
+--     raised-raised     raised twice, bits are as they were
 --     raised-order      the order of raised bits is the order of the signed numbers
 --     sum_fits          a number within the bound plus one of 32 bits fits 64 bits
 --     change_fits       a count to 128 less a number within the bound fits 32 bits
@@ -25,6 +26,9 @@ raised_is b h =
     (λ p. rw (low_is b p) (ap pos (omega arith)))
     (λ p. rw (high_is b p) (simp (le-ltb (2 ^ 31) (suc (2 ^ 32 - suc b)) (omega arith)) (ap pos (omega arith))))
     (lt-or-le b (2 ^ 31))
+
+pub raised-raised : (b : ℕ) → b < 2 ^ 32 → raised (raised b) ≡ b
+raised-raised b h = omega arith
 
 pub raised-order : (a b : ℕ) → a < 2 ^ 32 → b < 2 ^ 32 → ltb (raised a) (raised b) ≡ lt_z (to_z w32 a) (to_z w32 b)
 raised-order a b ha hb =

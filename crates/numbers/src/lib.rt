@@ -1,8 +1,8 @@
-// Numbers beyond the language's own operators: a generation more, 32 bits read with and without a sign, and the signed
-// differences of the liveliness status.
+// Numbers beyond the language's own operators: a generation more, a product modulo 2^64, 32 bits read with and without a
+// sign, and the signed differences of the liveliness status.
 #![tactic(auto)]
 
-ghost use Rattle.std.specs.Prelude.{◌≡◌, ◌+◌, ◌≤◌, min, pos, ◌+ℤ◌, ◌-ℤ◌, FitsSigned};
+ghost use Rattle.std.specs.Prelude.{◌≡◌, ◌+◌, ◌*◌, ◌%◌, ◌^◌, ◌≤◌, min, pos, ◌+ℤ◌, ◌-ℤ◌, FitsSigned};
 ghost use Rattle.std.specs.Int.{w32, w64};
 ghost use Rattle.std.proofs.Common.{of_z, to_z};
 ghost use Rattle.model.specs.Times.{raised};
@@ -14,6 +14,13 @@ pub fn generation_after(g: u32) -> u32
     ensures { result ≡ min (g + 1) 2147483647 }
 {
     (g + 1).min(0x7FFF_FFFF)
+}
+
+// a * b, modulo 2^64.
+pub fn wrapping_mul_u64(a: u64, b: u64) -> u64
+    ensures { result ≡ a * b % 2 ^ 64 }
+{
+    a.wrapping_mul(b)
 }
 
 // The bits of a signed number, as the number plus 2^31: these are ordered as the signed numbers are.

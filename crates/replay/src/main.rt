@@ -314,6 +314,8 @@ impl Replay {
 }
 
 // The length of a call record's sheet, 512 at most.
-fn sheet_length(recorded: &[u8; 184]) -> usize {
+fn sheet_length(recorded: &[u8; 184]) -> usize
+    ensures { result ≤ 512 }
+{
     (octets::get_u16(recorded, 0) as usize).min(512)
 }

@@ -1,17 +1,17 @@
 -- A set and a list walked side by side.
---     stands_at, compared               where a GUID of the list stands, as it was told
+--     stands-end, stands_at             where a GUID of the list stands, as it was told
 --     on_turned                         one turn, from where it stands
 --     Walking                           what holds while the first i of the set and the first j of the list are passed
 --     walking_start, walking_turn       before the first; one turn more
 --     walking_less                      a turn leaves less of the two
 --     walking_end                       all are passed, and nil is put behind those that stay
-use Prim.Native.Nat.{ℕ, zero, suc, ◌+◌, ◌-◌, ◌*◌, ◌/◌, ◌^◌, ◌≤◌, ◌<◌}
-use mathlib.Core.Bool.{true}
+use Prim.Native.Nat.{ℕ, zero, suc, ◌+◌, ◌-◌, ◌*◌, ◌/◌, ◌≤◌, ◌<◌}
+use mathlib.Core.Bool.{Bool, true, false}
 use mathlib.Core.List.{List, [], ◌∷◌, ◌++◌, append-nil, append_assoc}
 use mathlib.Core.Logic.{◌⊎◌, inl, inr, ⊎_elim}
 use mathlib.Core.Path.{◌≡◌, refl, sym, ap, ◌∙◌}
 use native.Mathlib.Omega.{arith}
-use borrow.Author.Tests.{lt-ltb, ltb-true, ltb-false, eqb-true, eqb-false}
+use borrow.Author.Tests.{lt-ltb, le-ltb, ltb-true, ltb-false, eqb-true, eqb-false}
 use lib.Dec.{ltb}
 use lib.ListN.{length, take, drop, replicate, length-append, length-drop, take-append-drop}
 use lib.Seq.{drop_at, drop-drop, drop-length, length-take-le}
@@ -28,8 +28,6 @@ use Rattle.model.proofs.RowLaws.{length_read, read_cons, drop_read}
 use Rattle.model.proofs.Tests.{both, split}
 use Rattle.writer_set.specs.Places.{padded}
 use Rattle.writer_set.proofs.SetLaws.{length-padded}
-use Rattle.std.proofs.lemmas.Bool.Decides.{nat_tests}
-use Rattle.std.specs.Ordering.{nat_cmp, ordering_then}
 use Rattle.std.specs.declared.cmp.Ordering.{Ordering}
 use Rattle.std.specs.declared.cmp.Ordering.TheVariants.{Less, Equal, Greater}
 use Rattle.writer_set_bytes.specs.declared.Walk.{Walk}
@@ -43,13 +41,26 @@ zeros n = replicate n 0
 
 -- ---- one turn
 
+pub stands-end : (gone : List ℕ) (j : ℕ) (g : Guid) → length gone / 16 ≤ j → Greater ≡ beside_at gone j g
+stands-end gone j g h = rw (le-ltb j (length gone / 16) h)
+
 pub stands_at : (gone : List ℕ) (j : ℕ) (g a : Guid) (r : Ordering) → j < length gone / 16 → a ≡ guid_at gone (j * 16) → r ≡ standing a g → r ≡ beside_at gone j g
 stands_at gone j g a r h e q = rw (lt-ltb j (length gone / 16) h, ← e) q
 
--- of two GUIDs the upper halves decide, then the lower ones
-pub compared : (a g : Guid) → a.lo < 2 ^ 64 → g.lo < 2 ^ 64 → ordering_then (nat_cmp a.hi g.hi) (nat_cmp a.lo g.lo) ≡ standing a g
-unfolding num
-compared a g p q = grind (arith, nat_tests)
+pub stand_same : (a g : Guid) (b : Bool) → b ≡ same a g → b ≡ true → Equal ≡ standing a g
+stand_same a g b e h = let q : same a g ≡ true = sym e ∙ h in rw q
+
+pub stand_before : (a g : Guid) (b c : Bool) → b ≡ same a g → b ≡ false → c ≡ less a g → c ≡ true → Less ≡ standing a g
+stand_before a g b c e h f k =
+    let q : same a g ≡ false = sym e ∙ h in
+    let r : less a g ≡ true = sym f ∙ k in
+    rw (q, r)
+
+pub stand_behind : (a g : Guid) (b c : Bool) → b ≡ same a g → b ≡ false → c ≡ less a g → c ≡ false → Greater ≡ standing a g
+stand_behind a g b c e h f k =
+    let q : same a g ≡ false = sym e ∙ h in
+    let r : less a g ≡ false = sym f ∙ k in
+    rw (q, r)
 
 pub stay_stood : (d : List ℕ) (i k : ℕ) (g : Guid) → Bytes d → k ≡ i → i * 16 + 16 ≤ length d → g ≡ guid_at d (i * 16) → d ≡ patch d (k * 16) 16 (guid_bytes g)
 stay_stood d i k g b e h q =

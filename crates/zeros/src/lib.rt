@@ -30,10 +30,13 @@ fn zero_by<const N: usize>(s: &[u8], from: usize, end: usize) -> bool
     if !zero_block::<N>(s, last) {
         return false;
     }
-    for at in (from..last).step_by(N) {
+    let mut at = from;
+    // `step_by` would keep a second counter at each turn
+    while at < last {
         if !zero_block::<N>(s, at) {
             return false;
         }
+        at += N;
     }
     true
 }

@@ -4,4 +4,4 @@ use Rattle.instance_decoding.proofs.read_instance.Goals as goal
 
 pub returns : goal.returns
 unfolding instance_of
-returns c = rw (c.read_state.ensures, c.get_u16.ensures, c.read_handle.ensures, c.read_key.ensures)
+returns c = rw (c.read_state.ensures, c.as_record.ensures, c.get_u16.ensures, c.read_handle.ensures, c.read_key.ensures)

@@ -1,4 +1,3 @@
-use Prim.Native.Nat.{◌+◌}
 use mathlib.Core.Path.{refl, sym, ◌∙◌}
 use native.Mathlib.Omega.{arith}
 use Rattle.zeros.proofs.Words.{tail_turn, tail_stop, tail_end, tail_short}
@@ -27,18 +26,8 @@ loop-at-preserved g c =
       l.invariant.2 ∙ tail_turn a.s.now g.row.N a.end l.at (omega arith) (sym c.zero_block-in-loop-at.ensures ∙ c.if-not-zero_block-2.false),
     )
 
-pub returns-else-not-zero_block : goal.returns-else-not-zero_block
-returns-else-not-zero_block g c =
+pub returns : goal.returns
+returns g c =
     let a = c.args in
     let l = c.loop-at in
     sym (l.invariant.2 ∙ tail_end a.s.now g.row.N a.end l.at (omega arith) (omega arith) (omega arith) l.invariant.1)
-
--- where the next turn would start behind the last
-pub returns-else-not-zero_block-2 : goal.returns-else-not-zero_block-2
-returns-else-not-zero_block-2 g c =
-    let a = c.args in
-    let l = c.loop-at in
-    sym
-    (l.invariant.2
-    ∙ tail_turn a.s.now g.row.N a.end l.at (omega arith) (sym c.zero_block-in-loop-at.ensures ∙ c.if-not-zero_block-2.false)
-    ∙ tail_end a.s.now g.row.N a.end (l.at + g.row.N) (omega arith) (omega arith) (omega arith) l.invariant.1)
