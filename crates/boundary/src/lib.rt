@@ -8,7 +8,7 @@ ghost use Rattle.std.proofs.Common.{to_z};
 ghost use Rattle.octets.specs.Fields.{puts};
 ghost use Rattle.octets.specs.Octets.{be};
 ghost use Rattle.model.specs.Guids.{guid_at};
-ghost use Rattle.model.specs.InstanceRecord.{bit, kind_number};
+ghost use Rattle.model.specs.InstanceRecord.{bit};
 ghost use Rattle.boundary.specs.Layouts.{last_present, last_guid, last_writer, head_bytes, head_in, head_laid, answer_bytes};
 ghost use Rattle.boundary.specs.Parts.{count_widths, count_values, change_widths, change_values, last_widths, last_values, bit_widths, bit_values, kind_widths, kind_values, list_widths, list_values, status_widths, status_values, due_widths, due_values};
 

@@ -7,7 +7,7 @@
 
 ghost use Rattle.std.specs.Prelude.{[], ◌∷◌, ◌≡◌, ◌+◌, ◌*◌, ◌/◌, ◌≤◌, ◌<◌, length, drop};
 ghost use Rattle.octets.specs.Patch.{patch};
-ghost use Rattle.model.specs.Guids.{num, less, same, guid_at, guids_in, guid_bytes, guids_bytes};
+ghost use Rattle.model.specs.Guids.{num, same, guid_at, guids_in, guid_bytes, guids_bytes};
 ghost use Rattle.tables.specs.Found.{lower_bound, found_in};
 ghost use Rattle.tables.specs.Keys.{keys};
 ghost use Rattle.tables.specs.Places.{place_of};

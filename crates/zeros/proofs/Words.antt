@@ -5,7 +5,7 @@
 --     words_turn                            a word more
 --     tail_turn, tail_stop                  k bytes more
 --     tail_end, tail_short                  the last k bytes, which are seen first
---     blocks_end, block_ends, block_is      the blocks of a part: how far they go, and their bytes
+--     whole_blocks, block_turn              the blocks of a part: how far they go; the block of a turn
 use Prim.Native.Nat.{ℕ, zero, suc, ◌+◌, ◌-◌, ◌*◌, ◌/◌, ◌≤◌, ◌<◌}
 use mathlib.Core.Bool.{Bool, true, false, ◌&&◌, and-true, and-false}
 use mathlib.Core.Path.{◌≡◌, refl, sym, ap, ◌∙◌}
@@ -103,26 +103,34 @@ module _ (s : List ℕ) (from len n : ℕ) (p : 0 < n) (h : from + len ≤ lengt
   part_long : length (take len (drop from s)) ≡ len
   part_long = length-take-le len (drop from s) (rw (length-drop from s) (omega arith))
 
-  -- as many whole blocks as there are end less than n bytes before the part's end
-  pub blocks_end : (i : ℕ) → i ≡ length (take len (drop from s)) / n → (i * n ≤ len) × (len < i * n + n)
-  blocks_end i e =
+  -- the whole blocks end less than n bytes before the part does
+  pub whole_blocks : (i : ℕ) → i ≡ length (take len (drop from s)) / n → (i * n ≤ len) × (len < i * n + n)
+  whole_blocks i e =
       let f : i ≡ len / n = e ∙ ap (λ (m : ℕ). m / n) part_long in
       let g : i * n ≡ len / n * n = ap (λ (m : ℕ). m * n) f in
       omega (arith, g, div-add-mod' len n, mod_below len n p)
 
-  pub block_ends : (i : ℕ) → i < length (take len (drop from s)) / n → i * n + n ≤ len
-  block_ends i l =
-      let b = blocks_end (length (take len (drop from s)) / n) refl in
+  block_within : (i : ℕ) → i < length (take len (drop from s)) / n → i * n + n ≤ len
+  block_within i l =
+      let b = whole_blocks (length (take len (drop from s)) / n) refl in
       let up : suc i ≤ length (take len (drop from s)) / n = omega arith in
       omega (arith, b.0, suc-mul i n, mul-le-mul_right n up)
 
-  pub block_is : (i : ℕ) (d block : List ℕ) → i < length (take len (drop from s)) / n →
+  block_bytes : (i : ℕ) (d block : List ℕ) → i < length (take len (drop from s)) / n →
       block ≡ get_or (first_chunks n (length (take len (drop from s)) / n) (take len (drop from s))) i d → all_zero (take n block) ≡ zeros s n (from + i * n)
-  block_is i d block l e =
+  block_bytes i d block l e =
       let m : ℕ = len - i * n in
-      let f : len ≡ i * n + m = omega (arith, block_ends i l) in
-      let g : n ≤ m = omega (arith, block_ends i l) in
+      let f : len ≡ i * n + m = omega (arith, block_within i l) in
+      let g : n ≤ m = omega (arith, block_within i l) in
       let ys : List ℕ = drop (i * n) (drop from s) in
       let c : drop (i * n) (take len (drop from s)) ≡ take m ys = ap (λ (x : ℕ). drop (i * n) (take x (drop from s))) f ∙ drop-take (i * n) m (drop from s) in
       ap (λ (b : List ℕ). all_zero (take n b)) (e ∙ chunk_at n _ i _ d l ∙ ap (take n) c ∙ take-take n m ys g)
       ∙ ap all_zero (take-take n n ys (omega arith) ∙ ap (take n) (drop-drop (i * n) from s))
+
+  -- the block of a turn over bs, the blocks of the part
+  pub block_turn : (bs : List (List ℕ)) (i : ℕ) (d block : List ℕ) → length bs ≡ length (take len (drop from s)) / n →
+      bs ≡ first_chunks n (length (take len (drop from s)) / n) (take len (drop from s)) → i < length bs → block ≡ get_or bs i d →
+      (i * n + n ≤ len) × (all_zero (take n block) ≡ zeros s n (from + i * n))
+  block_turn bs i d block e f l b =
+      let j : i < length (take len (drop from s)) / n = omega (arith, e) in
+      (block_within i j, block_bytes i d block j (b ∙ ap (λ (xs : List (List ℕ)). get_or xs i d) f))
