@@ -30,8 +30,7 @@ fn zero_by<const N: usize>(s: &[u8], from: usize, end: usize) -> bool
     if !zero_block::<N>(s, last) {
         return false;
     }
-    // less the last byte: a block that ends with it was looked at
-    let (blocks, _) = s[from..end - 1].as_chunks::<N>();
+    let (blocks, _) = s[from..end].as_chunks::<N>();
     for block in blocks {
         if !zero_block::<N>(block, 0) {
             return false;

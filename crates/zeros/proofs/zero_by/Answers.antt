@@ -24,7 +24,7 @@ returns-then-not-zero_block-2 g c =
     let n = g.row.N in
     let b = c.block-item in
     let k = c.as_chunks in
-    let t = block_turn a.s.now a.from (a.end - 1 - a.from) n (omega arith) (omega arith) k.result.0.now i b.result b.result k.ensures.front_len k.ensures.front c.loop-block-test.true b.is in
+    let t = block_turn a.s.now a.from (a.end - a.from) n (omega arith) (omega arith) k.result.0.now i b.result b.result k.ensures.front_len k.ensures.front c.loop-block-test.true b.is in
     sym (c.loop-block.invariant ∙ tail_stop a.s.now n a.end (a.from + i * n) (omega (arith, t.0)) (sym t.1 ∙ sym c.zero_block-in-loop-block.ensures ∙ c.if-not-zero_block-2.true))
 
 pub loop-block-preserved : goal.loop-block-preserved
@@ -34,7 +34,7 @@ loop-block-preserved g c =
     let n = g.row.N in
     let b = c.block-item in
     let k = c.as_chunks in
-    let t = block_turn a.s.now a.from (a.end - 1 - a.from) n (omega arith) (omega arith) k.result.0.now i b.result b.result k.ensures.front_len k.ensures.front c.loop-block-test.true b.is in
+    let t = block_turn a.s.now a.from (a.end - a.from) n (omega arith) (omega arith) k.result.0.now i b.result b.result k.ensures.front_len k.ensures.front c.loop-block-test.true b.is in
     let at = a.from + i * n in
     let e : at + n ≡ a.from + (i + 1) * n = omega (arith, add-mul i 1 n, one-mul n) in
     c.loop-block.invariant ∙ tail_turn a.s.now n a.end at (omega (arith, t.0)) (sym t.1 ∙ sym c.zero_block-in-loop-block.ensures ∙ c.if-not-zero_block-2.false)
@@ -45,7 +45,7 @@ returns g c =
     let a = c.args in
     let i = c.loop-block.block-index in
     let n = g.row.N in
-    let l : i ≡ length (take (a.end - 1 - a.from) (drop a.from a.s.now)) / n = omega (arith, c.loop-block-test.false, c.loop-block.auto, c.as_chunks.ensures.front_len) in
-    let q = whole_blocks a.s.now a.from (a.end - 1 - a.from) n (omega arith) (omega arith) i l in
+    let l : i ≡ length (take (a.end - a.from) (drop a.from a.s.now)) / n = omega (arith, c.loop-block-test.false, c.loop-block.auto, c.as_chunks.ensures.front_len) in
+    let q = whole_blocks a.s.now a.from (a.end - a.from) n (omega arith) (omega arith) i l in
     let at = a.from + i * n in
     sym (c.loop-block.invariant ∙ tail_end a.s.now n a.end at (omega arith) (omega (arith, q)) (omega (arith, q)) (sym c.zero_block.ensures ∙ c.if-not-zero_block.false))
