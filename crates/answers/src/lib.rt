@@ -7,7 +7,7 @@ ghost use Rattle.model.specs.Answers.{no_info, no_status, refused_with, silent, 
 
 use model::{
     Answer, Called, Head, InstanceHandle, InstanceState, InstanceStateKind,
-    LivelinessChangedStatus, SampleInfo,
+    LivelinessChangedStatus, MaybeDue, SampleInfo,
 };
 
 fn no_info() -> SampleInfo
@@ -47,7 +47,10 @@ pub fn silent() -> Answer
         info: no_info(),
         count: 0,
         listed: 0,
-        next_due: None,
+        next_due: MaybeDue {
+            present: false,
+            at: 0,
+        },
         status: no_status(),
     }
 }
@@ -142,7 +145,7 @@ pub fn informed(info: SampleInfo) -> Answer
 }
 
 // Yes or no, and when the next lease is due.
-pub fn saying_due(yes: bool, due: Option<u64>) -> Answer
+pub fn saying_due(yes: bool, due: MaybeDue) -> Answer
     ensures { result ≡ saying_due yes due }
 {
     Answer {

@@ -20,7 +20,7 @@ use Rattle.model.specs.State.{LastWriter}
 use Rattle.std.specs.Prelude.{None, Some, is_some, unwrap_or}
 use Rattle.std.specs.Bool.{then_some}
 use Rattle.std.specs.Int.{from_bool}
-use Rattle.model.specs.Guids.{nil, guid_at}
+use Rattle.model.specs.Guids.{nil}
 use Rattle.boundary.specs.Layouts.{last_present, last_guid, last_writer, head_laid}
 
 pub bits_back : {x : ℤ} {n : ℕ} → SFits w32 x → n ≡ of_z w32 (to_z w32 (of_z w32 x)) → n ≡ of_z w32 x

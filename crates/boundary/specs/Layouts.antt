@@ -1,6 +1,6 @@
 -- The head's 64 bytes and the answer's 72 bytes, as a recorded list holds them and as they cross the C boundary: fields one
 -- after the other, each number most significant byte first, one with a sign by its 32 bits in two's complement.
-use Rattle.std.specs.Prelude.{ℕ, zero, suc, Bool, ◌&&◌, ◌||◌, List, [], ◌∷◌, eqb, ltb, None, Some, is_some, unwrap_or}
+use Rattle.std.specs.Prelude.{ℕ, zero, suc, Bool, ◌&&◌, ◌||◌, List, [], ◌∷◌, eqb, ltb, None, Some}
 use Rattle.std.specs.Int.{w32}
 use Rattle.std.proofs.Common.{of_z, to_z}
 use Rattle.octets.specs.Octets.{be}
@@ -89,12 +89,12 @@ answer_widths =
 abbrev pub answer_values : Answer → List ℕ
 answer_values a =
     a.number ∷ a.outcome ∷ bit a.yes ∷ bit a.present
-    ∷ bit a.info.view_new ∷ kind_number a.info.kind ∷ bit (is_some a.next_due) ∷ 0
+    ∷ bit a.info.view_new ∷ kind_number a.info.kind ∷ bit a.next_due.present ∷ 0
     ∷ a.handle.0 ∷ a.samples
     ∷ a.info.disposed_generations ∷ a.info.no_writers_generations ∷ a.count ∷ a.listed
     ∷ a.status.alive_count ∷ a.status.not_alive_count
     ∷ of_z w32 a.status.alive_count_change ∷ of_z w32 a.status.not_alive_count_change ∷ 0
-    ∷ unwrap_or a.next_due 0 ∷ a.status.last_publication_handle.0 ∷ []
+    ∷ a.next_due.at ∷ a.status.last_publication_handle.0 ∷ []
 
 -- the 72 bytes of an answer
 unfoldable pub answer_bytes : Answer → List ℕ

@@ -1,5 +1,5 @@
 -- Runs of fields that are written together: their widths, and their values in the order of `head_values` and `answer_values`.
-use Rattle.std.specs.Prelude.{ℕ, List, [], ◌∷◌, is_some, unwrap_or}
+use Rattle.std.specs.Prelude.{ℕ, List, [], ◌∷◌}
 use Rattle.std.specs.Int.{w32}
 use Rattle.std.proofs.Common.{of_z}
 use Rattle.model.specs.declared.Answer.{Answer}
@@ -48,7 +48,7 @@ kind_widths = 1 ∷ 1 ∷ 1 ∷ 1 ∷ 8 ∷ []
 
 abbrev pub kind_values : Answer → List ℕ
 kind_values a =
-    bit a.info.view_new ∷ kind_number a.info.kind ∷ bit (is_some a.next_due) ∷ 0 ∷ a.handle.0 ∷ []
+    bit a.info.view_new ∷ kind_number a.info.kind ∷ bit a.next_due.present ∷ 0 ∷ a.handle.0 ∷ []
 
 -- from 16
 abbrev pub list_widths : List ℕ
@@ -72,4 +72,4 @@ abbrev pub due_widths : List ℕ
 due_widths = 8 ∷ 8 ∷ []
 
 abbrev pub due_values : Answer → List ℕ
-due_values a = unwrap_or a.next_due 0 ∷ a.status.last_publication_handle.0 ∷ []
+due_values a = a.next_due.at ∷ a.status.last_publication_handle.0 ∷ []

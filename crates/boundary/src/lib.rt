@@ -8,7 +8,7 @@ ghost use Rattle.std.proofs.Common.{to_z};
 ghost use Rattle.octets.specs.Fields.{puts};
 ghost use Rattle.octets.specs.Octets.{be};
 ghost use Rattle.model.specs.Guids.{guid_at};
-ghost use Rattle.model.specs.InstanceRecord.{bit, kind_number};
+ghost use Rattle.model.specs.InstanceRecord.{bit};
 ghost use Rattle.boundary.specs.Layouts.{last_present, last_guid, last_writer, head_bytes, head_in, head_laid, answer_bytes};
 ghost use Rattle.boundary.specs.Parts.{count_widths, count_values, change_widths, change_values, last_widths, last_values, bit_widths, bit_values, kind_widths, kind_values, list_widths, list_values, status_widths, status_values, due_widths, due_values};
 
@@ -153,7 +153,7 @@ fn write_kind(b: &mut [u8; 72], a: Answer)
 {
     octets::put_u8(b, 4, u8::from(a.info.view_new));
     octets::put_u8(b, 5, a.info.kind as u8);
-    octets::put_u8(b, 6, u8::from(a.next_due.is_some()));
+    octets::put_u8(b, 6, u8::from(a.next_due.present));
     octets::put_u8(b, 7, 0);
     octets::put_u64(b, 8, a.handle.0);
 }
@@ -184,7 +184,7 @@ fn write_status(b: &mut [u8; 72], status: LivelinessChangedStatus)
 fn write_due(b: &mut [u8; 72], a: Answer)
     ensures { b.new ≡ puts due_widths (due_values a) b.old 0 56 }
 {
-    octets::put_u64(b, 56, a.next_due.unwrap_or(0));
+    octets::put_u64(b, 56, a.next_due.at);
     octets::put_u64(b, 64, a.status.last_publication_handle.0);
 }
 

@@ -9,7 +9,6 @@ use mathlib.Core.Path.{◌≡◌, refl, sym, ap, ◌∙◌}
 use native.Mathlib.Omega.{arith}
 use lib.Dec.{eqb}
 use lib.ListN.{get_or}
-use Rattle.std.specs.Prelude.{is_some}
 use Rattle.octets.specs.Fields.{reads, Fit}
 use Rattle.octets.specs.Lay.{All}
 use Rattle.octets.specs.Octets.{be}
@@ -242,7 +241,7 @@ front_widths = 1 ∷ 1 ∷ 1 ∷ 1 ∷ 1 ∷ 1 ∷ 1 ∷ 1 ∷ 8 ∷ []
 abbrev front_values : Answer → List ℕ
 front_values a =
     a.number ∷ a.outcome ∷ bit a.yes ∷ bit a.present
-    ∷ bit a.info.view_new ∷ kind_number a.info.kind ∷ bit (is_some a.next_due) ∷ 0
+    ∷ bit a.info.view_new ∷ kind_number a.info.kind ∷ bit a.next_due.present ∷ 0
     ∷ a.handle.0 ∷ []
 
 fields-append : (ks ls vs ws : List ℕ) → Same ks vs → fields (ks ++ ls) (vs ++ ws) ≡ fields ks vs ++ fields ls ws
@@ -268,7 +267,7 @@ module _ (a : Answer) (zero_number : a.number ≡ 0) (f : AnswerFits a) where
       let p = bit_fits a.present in
       let v = bit_fits a.info.view_new in
       let k = kind_fits a.info.kind in
-      let d = bit_fits (is_some a.next_due) in
+      let d = bit_fits a.next_due.present in
       omega (arith, f, zero_number)
 
   front_back : reads front_widths (answer_bytes a) 0 0 ≡ front_values a

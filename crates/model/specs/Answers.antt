@@ -1,23 +1,20 @@
 -- What a call answers. Section 8: on a refusal its number, other fields zero; an accepted call has number 0, and a field
 -- that it does not answer is zero too.
-use Rattle.std.specs.Prelude.{ℕ, Bool, true, false, pos, Option, None}
+use Rattle.std.specs.Prelude.{ℕ, Bool, true, false, pos}
 use Rattle.model.specs.declared.Answer.{Answer}
 use Rattle.model.specs.declared.InstanceHandle.{InstanceHandle}
 use Rattle.model.specs.declared.InstanceState.{InstanceState}
 use Rattle.model.specs.declared.InstanceStateKind.TheVariants.{Alive}
 use Rattle.model.specs.declared.LivelinessChangedStatus.{LivelinessChangedStatus}
+use Rattle.model.specs.declared.MaybeDue.{MaybeDue}
 use Rattle.model.specs.declared.SampleInfo.{SampleInfo}
 use Rattle.model.specs.Handles.{handle}
 
 abbrev pub no_info : SampleInfo
 no_info = record { view_new = false; kind = Alive; disposed_generations = 0; no_writers_generations = 0 }
 
--- when the next lease runs out, where one does
-abbrev pub Due : Type 0
-Due = Option ℕ
-
-abbrev pub no_due : Due
-no_due = None
+abbrev pub no_due : MaybeDue
+no_due = record { present = false; at = 0 }
 
 abbrev pub no_status : LivelinessChangedStatus
 no_status =
@@ -29,7 +26,7 @@ no_status =
       last_publication_handle = handle 0;
     }
 
-abbrev plain : ℕ → ℕ → Bool → ℕ → ℕ → Due → LivelinessChangedStatus → Answer
+abbrev plain : ℕ → ℕ → Bool → ℕ → ℕ → MaybeDue → LivelinessChangedStatus → Answer
 plain number outcome said count listed due status =
     record {
       number = number;
@@ -61,7 +58,7 @@ counting n = plain 0 0 false n 0 no_due no_status
 abbrev pub listing : ℕ → Answer
 listing n = plain 0 0 false 0 n no_due no_status
 
-abbrev pub saying_due : Bool → Due → Answer
+abbrev pub saying_due : Bool → MaybeDue → Answer
 saying_due said due = plain 0 0 said 0 0 due no_status
 
 abbrev pub reporting : LivelinessChangedStatus → Answer

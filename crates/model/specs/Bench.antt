@@ -1,6 +1,6 @@
 -- Section 10: the lettered bench lines and the three traps, and lines on document 02, as rows under one claim: what
 -- the definitions give is what the documents say.
-use Rattle.std.specs.Prelude.{ℕ, ◌+◌, ◌-◌, ◌^◌, Bool, true, false, ◌&&◌, List, [], ◌∷◌, ◌++◌, eqb, length, replicate, unwrap_or}
+use Rattle.std.specs.Prelude.{ℕ, ◌+◌, ◌-◌, ◌^◌, Bool, true, false, ◌&&◌, List, [], ◌∷◌, ◌++◌, eqb, length, replicate}
 use Rattle.std.proofs.Math.Option.{Option, none, some}
 use Rattle.model.specs.declared.Guid.{Guid}
 use Rattle.model.specs.declared.Instance.{Instance}
@@ -181,7 +181,7 @@ expire_at clock = tracker_call expire (sheet 0 5 no_time clock 10 0 0 2) asserte
 abbrev lease_lines : List Row
 lease_lines =
     test (expire_at 109).answer.yes false
-    ∷ row (unwrap_or (expire_at 109).answer.next_due 0) 110
+    ∷ row (expire_at 109).answer.next_due.at 110
     ∷ test (expire_at 110).answer.yes true
     ∷ row (standing (then writer_asserted 101 2 (expire_at 110).state)) 1
     ∷ []

@@ -17,6 +17,7 @@ use Rattle.model.specs.declared.LivelinessKind.{LivelinessKind}
 use Rattle.model.specs.declared.LivelinessKind.TheVariants.{Automatic, ManualByParticipant, ManualByTopic}
 use Rattle.model.specs.declared.LostUse.{LostUse}
 use Rattle.model.specs.declared.LostUse.TheVariants.{Leaves, Appends, Empties}
+use Rattle.model.specs.declared.MaybeDue.{MaybeDue}
 use Rattle.model.specs.declared.MaybeLease.{MaybeLease}
 use Rattle.model.specs.declared.Sheet.{Sheet}
 use Rattle.model.specs.declared.TrackerReport.{TrackerReport}
@@ -25,7 +26,7 @@ use Rattle.model.specs.declared.TrackerRule.{TrackerRule}
 use Rattle.model.specs.declared.Writer.{Writer}
 use Rattle.model.specs.declared.WriterState.{WriterState}
 use Rattle.model.specs.declared.WriterState.TheVariants.{Unasserted, Alive, NotAlive, Departed}
-use Rattle.model.specs.Answers.{silent, saying, saying_due, listing, reporting, no_due, Due}
+use Rattle.model.specs.Answers.{silent, saying, saying_due, listing, reporting, no_due}
 use Rattle.model.specs.Calls.{TrackerCall, matched, unmatched, lost_with_participant, writer_asserted, participant_asserted, expire, take_lost, take_status, acknowledge}
 use Rattle.model.specs.Guids.{same, same_prefix, guids_bytes}
 use Rattle.model.specs.Handles.{handle, from_guid}
@@ -273,11 +274,10 @@ acknowledged_after c count part z = acknowledged_with (tracker_rule c).acknowled
 -- ---- answers
 
 -- when the next lease runs out
-abbrev pub sooner_of : Writer → Due → Due
-sooner_of w None = Some (due_at w)
-sooner_of w (Some at) = Some (min (due_at w) at)
+abbrev pub sooner_of : Writer → MaybeDue → MaybeDue
+sooner_of w d = record { present = true; at = cond d.present (min (due_at w) d.at) (due_at w) }
 
-unfoldable pub next_due : List Writer → Due
+unfoldable pub next_due : List Writer → MaybeDue
 next_due [] = no_due
 next_due (w ∷ ws) = cond (leased w) (sooner_of w (next_due ws)) (next_due ws)
 

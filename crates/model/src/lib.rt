@@ -351,8 +351,14 @@ pub struct LivelinessChangedStatus {
     pub last_publication_handle: InstanceHandle,
 }
 
-// What a call answers: the number of its refusal, or 0 and what the call has to say. All else is 0. `next_due` is when the
-// next lease runs out, where one does.
+// When the next lease runs out, where one does.
+#[derive(Clone, Copy)]
+pub struct MaybeDue {
+    pub present: bool,
+    pub at: u64,
+}
+
+// What a call answers: the number of its refusal, or 0 and what the call has to say. All else is 0.
 #[derive(Clone, Copy)]
 pub struct Answer {
     pub number: u8,
@@ -364,7 +370,7 @@ pub struct Answer {
     pub info: SampleInfo,
     pub count: u32,
     pub listed: u32,
-    pub next_due: Option<u64>,
+    pub next_due: MaybeDue,
     pub status: LivelinessChangedStatus,
 }
 

@@ -1,5 +1,4 @@
 -- Loops that read the writer table, over plain variables.
---     soonest_by                              the earlier due, as it is there or not
 --     reads                                   the record read at place i is writer i
 --     bounded_in                              its clock and lease are bounded
 --     dues_start, dues_turn, dues_room        the dues, one writer further to the front
@@ -12,9 +11,8 @@ use native.Mathlib.Omega.{arith}
 use lib.Dec.{leb}
 use lib.ListN.{length, take, drop, get_or, length-drop, drop_of_length-le}
 use lib.Seq.{take_all, drop-cons, length-take-le}
-use Rattle.std.specs.Prelude.{min, None, Some, MatchOption}
 use Rattle.model.specs.declared.Writer.{Writer}
-use Rattle.model.specs.Answers.{Due, no_due}
+use Rattle.model.specs.Answers.{no_due}
 use Rattle.model.specs.State.{writers_in}
 use Rattle.model.specs.Tables.{pick}
 use Rattle.model.specs.WellFormed.{writer_ok}
@@ -24,11 +22,6 @@ use Rattle.model.proofs.RowLaws.{length_read}
 use Rattle.writer_pass.specs.declared.Dues.{Dues}
 use Rattle.writer_pass.specs.Passes.{writer_in, Bounded, Sound, soonest, dues_with, dues_of}
 use Rattle.writer_pass.proofs.Picks.{pick-le, all-at, read_at, bounded}
-
--- the earlier due, as it is there or not
-pub soonest_by : (due : ℕ) (d : Due) (n : ℕ) (P : ℕ → Type 0) → ((at : ℕ) → P at → n ≡ min due at) → MatchOption d (n ≡ due) P → Some n ≡ soonest due d
-soonest_by due None n P f m = ap Some m
-soonest_by due (Some at) n P f m = ap Some (f at m)
 
 -- ---- the dues of a writer more in front
 

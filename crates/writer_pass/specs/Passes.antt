@@ -1,9 +1,9 @@
 -- Passes over the writers: what is told of one and of all.
-use Rattle.std.specs.Prelude.{ℕ, ◌+◌, ◌-◌, ◌*◌, ◌≤◌, ◌<◌, ◌^◌, min, Bool, true, not, ◌&&◌, cond, ◌≡◌, List, map, leb, length, take, drop, Some, None}
+use Rattle.std.specs.Prelude.{ℕ, ◌+◌, ◌-◌, ◌*◌, ◌≤◌, ◌<◌, ◌^◌, min, Bool, true, not, ◌&&◌, cond, ◌≡◌, List, map, leb, length, take, drop, Some}
 use Rattle.octets.specs.Lay.{lay}
+use Rattle.model.specs.declared.MaybeDue.{MaybeDue}
 use Rattle.model.specs.declared.Writer.{Writer}
 use Rattle.model.specs.declared.WriterState.{WriterState}
-use Rattle.model.specs.Answers.{Due}
 use Rattle.model.specs.State.{class_of, counts_alive, counts_not_alive, alive_count, not_alive_count, writers_in, LastWriter}
 use Rattle.model.specs.Tables.{pick, all}
 use Rattle.model.specs.WellFormed.{writer_ok}
@@ -74,9 +74,8 @@ tally_of f last ws =
 -- ---- leases
 
 -- the earlier of a lease that runs out at `due` and one that is due
-abbrev pub soonest : ℕ → Due → Due
-soonest due None = Some due
-soonest due (Some at) = Some (min due at)
+abbrev pub soonest : ℕ → MaybeDue → MaybeDue
+soonest due d = record { present = true; at = cond d.present (min due d.at) due }
 
 -- the dues with one writer more, whose lease runs out at `due`
 abbrev pub dues_with : Dues → ℕ → ℕ → Dues

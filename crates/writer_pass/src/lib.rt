@@ -19,7 +19,7 @@ ghost use Rattle.writer_record.specs.Records.{lapsed};
 ghost use Rattle.writer_effects.specs.Acts.{assertion_of};
 ghost use Rattle.writer_pass.specs.Passes.{writer_in, Bounded, Sound, acts, counts_of, raised, tally_of, soonest, dues_with, dues_of};
 
-use model::{Guid, Writer, WriterState};
+use model::{Guid, MaybeDue, Writer, WriterState};
 use writer_effects::Assertion;
 
 // How many writers are of each class that is counted.
@@ -41,7 +41,7 @@ pub struct Tally {
 #[derive(Clone, Copy)]
 pub struct Dues {
     pub gone: u32,
-    pub next: Option<u64>,
+    pub next: MaybeDue,
 }
 
 // Whether an assertion covers the writer and acts on it.
@@ -132,10 +132,13 @@ pub fn assert_writers(
 }
 
 // The earlier of a lease that runs out at `due` and one that is due.
-fn sooner_of(due: u64, d: Option<u64>) -> Option<u64>
+fn sooner_of(due: u64, d: MaybeDue) -> MaybeDue
     ensures { result ≡ soonest due d }
 {
-    Some(d.map_or(due, |at| due.min(at)))
+    MaybeDue {
+        present: true,
+        at: if d.present { due.min(d.at) } else { due },
+    }
 }
 
 // The dues with a writer more, whose lease runs out at `due`.
@@ -164,7 +167,10 @@ pub fn find_dues(t: &[u8], count: usize, clock: u64) -> Dues
 {
     let mut d = Dues {
         gone: 0,
-        next: None,
+        next: MaybeDue {
+            present: false,
+            at: 0,
+        },
     };
     for i in (0..count).rev() {
         if writer_record::leased_at(t, i) {

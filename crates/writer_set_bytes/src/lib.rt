@@ -7,7 +7,7 @@
 
 ghost use Rattle.std.specs.Prelude.{[], ◌∷◌, ◌≡◌, ◌+◌, ◌*◌, ◌/◌, ◌≤◌, ◌<◌, length, drop};
 ghost use Rattle.octets.specs.Patch.{patch};
-ghost use Rattle.model.specs.Guids.{num, less, same, guid_at, guids_in, guid_bytes, guids_bytes};
+ghost use Rattle.model.specs.Guids.{num, same, guid_at, guids_in, guid_bytes, guids_bytes};
 ghost use Rattle.tables.specs.Found.{lower_bound, found_in};
 ghost use Rattle.tables.specs.Keys.{keys};
 ghost use Rattle.tables.specs.Places.{place_of};
@@ -37,20 +37,6 @@ pub struct Walk {
 
 // ---- the writers of a list taken out of a set
 
-// Whether a stands before b. The upper halves are compared first and mostly tell, so that a walk compares no others; the
-// derived order compares both at each turn.
-fn is_before(a: Guid, b: Guid) -> bool
-    ensures { result ≡ less a b }
-{
-    if a.hi < b.hi {
-        return true;
-    }
-    if b.hi < a.hi {
-        return false;
-    }
-    a.lo < b.lo
-}
-
 // How the GUID of place j of the list compares with g; greater where the list has ended.
 fn stands(gone: &[u8], j: usize, g: Guid) -> Ordering
     requires { j ≤ 128 }
@@ -60,10 +46,11 @@ fn stands(gone: &[u8], j: usize, g: Guid) -> Ordering
         return Ordering::Greater;
     }
     let there = guid::guid_at(gone, j * 16);
+    // by two tests: `cmp` would make a number that the walk takes apart again
     if guid::is_same(there, g) {
         return Ordering::Equal;
     }
-    if is_before(there, g) {
+    if guid::is_less(there, g) {
         return Ordering::Less;
     }
     Ordering::Greater

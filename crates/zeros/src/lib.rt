@@ -30,13 +30,11 @@ fn zero_by<const N: usize>(s: &[u8], from: usize, end: usize) -> bool
     if !zero_block::<N>(s, last) {
         return false;
     }
-    let mut at = from;
-    // `step_by` would keep a second counter at each turn
-    while at < last {
-        if !zero_block::<N>(s, at) {
+    let (blocks, _) = s[from..end].as_chunks::<N>();
+    for block in blocks {
+        if !zero_block::<N>(block, 0) {
             return false;
         }
-        at += N;
     }
     true
 }

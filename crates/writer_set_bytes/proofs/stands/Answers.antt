@@ -13,16 +13,16 @@ returns-then-is_same c =
     let x = c.guid_at-there in
     stands_at a.gone.now a.j a.g x.result Equal (omega arith) x.ensures (stand_same x.result a.g _ c.is_same.ensures c.if-is_same.true)
 
-pub returns-then-is_before : goal.returns-then-is_before
-returns-then-is_before c =
+pub returns-then-is_less : goal.returns-then-is_less
+returns-then-is_less c =
     let a = c.args in
     let x = c.guid_at-there in
     stands_at a.gone.now a.j a.g x.result Less (omega arith) x.ensures
-    (stand_before x.result a.g _ _ c.is_same.ensures c.if-is_same.false c.is_before.ensures c.if-is_before.true)
+    (stand_before x.result a.g _ _ c.is_same.ensures c.if-is_same.false c.is_less.ensures c.if-is_less.true)
 
 pub returns : goal.returns
 returns c =
     let a = c.args in
     let x = c.guid_at-there in
     stands_at a.gone.now a.j a.g x.result Greater (omega arith) x.ensures
-    (stand_behind x.result a.g _ _ c.is_same.ensures c.if-is_same.false c.is_before.ensures c.if-is_before.false)
+    (stand_behind x.result a.g _ _ c.is_same.ensures c.if-is_same.false c.is_less.ensures c.if-is_less.false)
